@@ -1,0 +1,8 @@
+pub mod Bytes
+pub mod Faults
+pub mod Lines
+pub mod Maps
+pub mod Names
+pub mod Settled
+pub mod Stream
+pub mod Words

@@ -1,0 +1,91 @@
+// Values as they are kept: a newline, where a written value has the pair of a backslash and an n.
+ghost use Rattle.std.specs.Prelude.{◌≡◌, IfOk, true};
+ghost use Rattle.dc_text.specs.Settled.{settled, is_settled, newlines_shown};
+
+use crate::lists::Copied;
+use crate::memory::Mem;
+use crate::texts::Text;
+use std::alloc::Global;
+use std::marker::Model;
+
+/// A text without the pair of bytes backslash and n.
+#[derive(Drop)]
+pub struct Settled {
+    text: Text,
+}
+
+impl Model for Settled {
+    ghost use Rattle.std.specs.Prelude.{List, ℕ, IsTrue};
+    ghost use Rattle.dc_text.specs.Settled.{is_settled};
+
+    ghost Value = { List ℕ };
+
+    ghost view = { λ s. s.text };
+
+    ghost invariant = { λ s. IsTrue (is_settled s.text) };
+}
+
+impl Settled {
+    pub fn bytes(&self) -> &[u8]
+        ensures value { result.now ≡ self.now }
+        ensures settled { is_settled self.now ≡ true }
+    {
+        self.text.bytes()
+    }
+
+    pub fn copy(&self) -> Mem<Self>
+        ensures { IfOk result (λ copy. copy ≡ self.now) }
+    {
+        let text = self.text.copy()?;
+        Ok(Settled { text })
+    }
+}
+
+impl Copied for Settled {
+    fn copied(&self) -> Mem<Self> {
+        self.copy()
+    }
+}
+
+/// The bytes, where from left to right each pair of a backslash and an n is a newline.
+pub fn settle(alloc: Global, bytes: &[u8]) -> Mem<Settled>
+    ensures { IfOk result (λ text. text ≡ settled bytes.now) }
+{
+    let text = with_newlines(alloc, bytes)?;
+    Ok(Settled { text })
+}
+
+fn with_newlines(alloc: Global, bytes: &[u8]) -> Mem<Text>
+    ensures { IfOk result (λ text. text ≡ settled bytes.now) }
+{
+    let mut text = Text::new(alloc);
+    let mut rest = bytes;
+    loop {
+        match rest {
+            [] => return Ok(text),
+            [b'\\', b'n', tail @ ..] => {
+                text.push(b'\n')?;
+                rest = tail;
+            }
+            [first, tail @ ..] => {
+                text.push(*first)?;
+                rest = tail;
+            }
+        }
+    }
+}
+
+/// The bytes, with each newline as the pair of a backslash and an n.
+pub fn show_newlines(alloc: Global, bytes: &[u8]) -> Mem<Text>
+    ensures { IfOk result (λ text. text ≡ newlines_shown bytes.now) }
+{
+    let mut text = Text::new(alloc);
+    for byte in bytes {
+        if *byte == b'\n' {
+            text.append(b"\\n")?;
+        } else {
+            text.push(*byte)?;
+        }
+    }
+    Ok(text)
+}

@@ -1,0 +1,192 @@
+// The examples of the texts, as tables.
+use crate::{
+    FieldKey, FlagName, Line, Lines, List, Mem, Name, NameRefused, Text, TextMap, VarKey,
+    plain_words, settle, show_newlines,
+};
+use std::alloc::Global;
+use std::test::Fail;
+
+fn is_bad<T: Drop>(read: Result<T, NameRefused>) -> bool {
+    match read {
+        Err(NameRefused::Bad) => true,
+        Ok(_) | Err(NameRefused::OutOfMemory) => false,
+    }
+}
+
+#[test]
+fn names_and_keys_are_read(rt: HostRuntime) -> Result<(), Fail> {
+    let alloc = rt.alloc();
+    for (bytes, bad) in [
+        ("a/b", false),
+        ("a", false),
+        ("debconf/frontend", false),
+        ("...", false),
+        ("a//b", true),
+        ("/a", true),
+        ("a/", true),
+        ("a/./b", true),
+        ("a/..", true),
+        ("", true),
+        ("a b", true),
+        ("a,b", true),
+        ("\u{e4}", true),
+    ] {
+        assert_eq!(rt;
+            is_bad(Name::read(alloc, bytes.as_bytes())),
+            bad,
+            "{bytes:?}"
+        );
+    }
+    for (bytes, bad) in [
+        ("template", false),
+        ("Choices-de_AT.UTF-8", false),
+        ("Name", true),
+        ("OWNERS", true),
+        ("1a", true),
+        ("a b", true),
+        ("", true),
+    ] {
+        assert_eq!(rt;
+            is_bad(FieldKey::read(alloc, bytes.as_bytes())),
+            bad,
+            "{bytes:?}"
+        );
+    }
+    for (bytes, bad) in [("seen", false), ("a=b", false), ("a,b", true), ("", true)] {
+        assert_eq!(rt;
+            is_bad(FlagName::read(alloc, bytes.as_bytes())),
+            bad,
+            "{bytes:?}"
+        );
+    }
+    for (bytes, bad) in [
+        ("k", false),
+        ("a,b", false),
+        ("a=b", true),
+        ("a}", true),
+        ("", true),
+    ] {
+        assert_eq!(rt;
+            is_bad(VarKey::read(alloc, bytes.as_bytes())),
+            bad,
+            "{bytes:?}"
+        );
+    }
+    Ok(())
+}
+
+#[test]
+fn what_was_read_is_kept(rt: HostRuntime) -> Result<(), Fail> {
+    let alloc = rt.alloc();
+    assert_eq!(rt;
+        Name::read(alloc, b"a/b")?.copy()?.bytes(),
+        b"a/b".as_slice()
+    );
+    assert_eq!(rt;
+        FieldKey::read(alloc, b"Template")?.copy()?.bytes(),
+        b"template".as_slice()
+    );
+    assert_eq!(rt;
+        FlagName::read(alloc, b"seen")?.copy()?.bytes(),
+        b"seen".as_slice()
+    );
+    assert_eq!(rt;
+        VarKey::read(alloc, b"Who")?.copy()?.bytes(),
+        b"Who".as_slice()
+    );
+    Ok(())
+}
+
+#[test]
+fn values_are_settled_and_shown(rt: HostRuntime) -> Result<(), Fail> {
+    let alloc = rt.alloc();
+    for (bytes, settled) in [
+        ("a\\\\n", "a\\\n"),
+        ("x\\ny", "x\ny"),
+        ("\\\\\\n", "\\\\\n"),
+        ("n\\", "n\\"),
+        ("", ""),
+    ] {
+        assert_eq!(rt;
+            settle(alloc, bytes.as_bytes())?.bytes(),
+            settled.as_bytes(),
+            "{bytes:?}"
+        );
+    }
+    assert_eq!(rt; show_newlines(alloc, b"x\ny")?.bytes(), b"x\\ny".as_slice());
+    Ok(())
+}
+
+// The words, with a bar after each.
+fn barred(alloc: Global, words: &List<Text>) -> Mem<Text> {
+    let mut text = Text::new(alloc);
+    for word in words.as_slice() {
+        text.append(word.bytes())?;
+        text.push(b'|')?;
+    }
+    Ok(text)
+}
+
+#[test]
+fn lines_have_words(rt: HostRuntime) -> Result<(), Fail> {
+    let alloc = rt.alloc();
+    for (line, words) in [
+        ("a\\ b c\\\\d", "a\\|b|c\\\\d|"),
+        ("  GET \t a/b\r", "GET|a/b|"),
+        ("\u{b}x\u{c}y", "x|y|"),
+        (" \t", ""),
+        ("", ""),
+    ] {
+        let read = plain_words(alloc, line.as_bytes())?;
+        assert_eq!(rt; barred(alloc, &read)?.bytes(), words.as_bytes(), "{line:?}");
+    }
+    Ok(())
+}
+
+#[test]
+fn lists_and_maps_hold_what_is_put(rt: HostRuntime) -> Result<(), Fail> {
+    let alloc = rt.alloc();
+    let mut list = List::new(alloc);
+    list.push(Text::from_bytes(alloc, b"a")?)?;
+    list.push(Text::from_bytes(alloc, b"b")?)?;
+    let mut copy = list.copy(alloc)?;
+    assert_eq!(rt; copy.len(), 2);
+    assert_eq!(rt; copy.get(1).map(|text| text.bytes()), Some(b"b".as_slice()));
+    assert_eq!(rt; copy.pop().is_some(), true);
+    assert_eq!(rt; barred(alloc, &copy)?.bytes(), b"a|".as_slice());
+    let mut map = TextMap::new(alloc);
+    assert_eq!(rt; map.is_empty(), true);
+    map.insert(Text::from_bytes(alloc, b"b")?, 1u8)?;
+    map.insert(Text::from_bytes(alloc, b"a")?, 2u8)?;
+    map.insert(Text::from_bytes(alloc, b"b")?, 3u8)?;
+    assert_eq!(rt; map.get(b"b"), Some(&3u8));
+    assert_eq!(rt; map.contains(b"c"), false);
+    map.remove(b"b");
+    assert_eq!(rt; map.contains(b"b"), false);
+    assert_eq!(rt; map.iter().count(), 1);
+    Ok(())
+}
+
+// The line of a stream, with a bar after it.
+fn show(text: &mut Text, line: &Line) -> Mem<()> {
+    match line {
+        Line::Whole(bytes) => text.append(bytes.bytes())?,
+        Line::TooLong => text.append(b"too long")?,
+    }
+    text.push(b'|')
+}
+
+#[test]
+fn a_stream_has_lines(rt: HostRuntime) -> Result<(), Fail> {
+    let alloc = rt.alloc();
+    let mut text = Text::new(alloc);
+    let mut lines = Lines::new(alloc);
+    lines.feed(b"a\n\nb")?;
+    for _ in 0..2u8 {
+        if let Some(line) = lines.next()? {
+            show(&mut text, &line)?;
+        }
+    }
+    assert_eq!(rt; text.bytes(), b"a||".as_slice());
+    Ok(())
+}
