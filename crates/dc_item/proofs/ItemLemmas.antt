@@ -1,0 +1,185 @@
+-- What an item keeps, when something is put into it, and owners in order.
+use Rattle.std.proofs.Common.{◌≡◌, ℕ, ◌+◌, ◌<◌, length, take, get_or, Bool, true, false, cond, List, [], ◌∷◌, ◌++◌, Some, None, Option, map as each, refl, sym, ap, ◌∙◌, subst}
+use Rattle.std.specs.Prelude.{is_some, ◌&&◌, ◌||◌}
+use Rattle.std.specs.List.{list_all, list_any}
+use Rattle.std.proofs.lemmas.List.{take_more}
+use Rattle.std.specs.declared.cmp.Ordering.{Ordering}
+use Rattle.std.specs.declared.cmp.Ordering.TheVariants.{Less, Equal, Greater}
+use Rattle.std.specs.Ordering.{eq_by_cmp, is_eq}
+use Rattle.std.specs.Cmp.Lexicographic.{nat_list_cmp_total}
+use Rattle.std.specs.FinMap.{get, insert, contains_key, empty, entries, keys, put, from_entries, get-empty, get-insert, entries-insert}
+use Rattle.std.specs.FinMap.Entries.{by_order}
+use Rattle.dc_text.specs.Maps.{Texts, TextSet, set_of, text_cmp}
+use Rattle.dc_text.specs.Names.{is_name, is_field_key, is_flag_name, is_variable_key}
+use Rattle.dc_text.specs.Settled.{is_settled}
+use Rattle.dc_text.proofs.MapLemmas.{exact_texts, get-set_of, set_of-push, entries-in_order, from_entries-entries}
+use Rattle.dc_item.specs.Item.{Parts, IsItem, no_parts, selves}
+
+is_equal : (o : Ordering) → is_eq o ≡ true → o ≡ Equal
+is_equal Less e = absurd (cc)
+is_equal Equal e = refl
+is_equal Greater e = absurd (cc)
+
+-- a key that ties with a text is the text
+pub same_key : (q k : List ℕ) → eq_by_cmp text_cmp q k ≡ true → q ≡ k
+same_key q k e = exact_texts q k (is_equal _ e)
+
+-- ---- maps
+
+-- each key passes, and each value
+abbrev pub Keeps : (List ℕ → Bool) → (List ℕ → Bool) → Texts (List ℕ) → Type 0
+Keeps p q m = (key value : List ℕ) → get m key ≡ Some value → (p key ≡ true) × (q value ≡ true)
+
+no_value : (key value : List ℕ) → get (empty {K = List ℕ} {X = List ℕ} {R = text_cmp}) key ≡ Some value → ⊥
+no_value key value e = let n : get (empty {K = List ℕ} {X = List ℕ} {R = text_cmp}) key ≡ None = get-empty text_cmp key in cc
+
+pub Keeps-empty : (p q : List ℕ → Bool) → Keeps p q empty
+Keeps-empty p q key value e = absurd (no_value key value e)
+
+pub Keeps-insert : (p q : List ℕ → Bool) (m : Texts (List ℕ)) (k v : List ℕ) → Keeps p q m → p k ≡ true → q v ≡ true → Keeps p q (insert m k v)
+Keeps-insert p q m k v keeps pk qv key value e =
+    elim (eq_by_cmp text_cmp key k) as (λ b. eq_by_cmp text_cmp key k ≡ b → cond b (Some v) (get m key) ≡ Some value → (p key ≡ true) × (q value ≡ true)) [
+      | true ↦ λ t is. (ap p (same_key key k t) ∙ pk, (let same : v ≡ value = cc in ap q (sym same) ∙ qv))
+      | false ↦ λ t is. keeps key value is
+    ] refl (sym (get-insert nat_list_cmp_total m k v key) ∙ e)
+
+-- ---- sets
+
+-- each member passes
+abbrev pub KeepsAll : (List ℕ → Bool) → TextSet → Type 0
+KeepsAll p s = (text : List ℕ) → contains_key s text ≡ true → p text ≡ true
+
+abbrev here : Option (Unit {0})
+here = Some tt
+
+is_some_here : (b : Bool) → is_some (cond b here None) ≡ b
+is_some_here true = refl
+is_some_here false = refl
+
+-- what a set of listed texts has
+pub contains_key-set_of : (ts : List (List ℕ)) (q : List ℕ) → contains_key (set_of ts) q ≡ list_any (eq_by_cmp text_cmp q) ts
+contains_key-set_of ts q = ap is_some (get-set_of ts q) ∙ is_some_here _
+
+both : (a b : Bool) → (a && b) ≡ true → (a ≡ true) × (b ≡ true)
+both true b e = (refl, e)
+both false b e = absurd (cc)
+
+listed : (p : List ℕ → Bool) (ts : List (List ℕ)) (q : List ℕ) → list_all p ts ≡ true → list_any (eq_by_cmp text_cmp q) ts ≡ true → p q ≡ true
+listed p [] q all e = absurd (cc)
+listed p (t ∷ ts) q all e =
+    let parts : (p t ≡ true) × (list_all p ts ≡ true) = both _ _ all in
+    elim (eq_by_cmp text_cmp q t) as (λ b. eq_by_cmp text_cmp q t ≡ b → (b || list_any (eq_by_cmp text_cmp q) ts) ≡ true → p q ≡ true) [
+      | true ↦ λ s _. ap p (same_key q t s) ∙ parts.0
+      | false ↦ λ s is. listed p ts q parts.1 is
+    ] refl e
+
+pub KeepsAll-set_of : (p : List ℕ → Bool) (ts : List (List ℕ)) → list_all p ts ≡ true → KeepsAll p (set_of ts)
+KeepsAll-set_of p ts all q e = listed p ts q all (sym (contains_key-set_of ts q) ∙ e)
+
+pub list_all-push : (p : List ℕ → Bool) (ts : List (List ℕ)) (t : List ℕ) → list_all p ts ≡ true → p t ≡ true → list_all p (ts ++ t ∷ []) ≡ true
+list_all-push p [] t all e = rw e refl
+list_all-push p (s ∷ ts) t all e = let parts : (p s ≡ true) × (list_all p ts ≡ true) = both _ _ all in rw parts.0 (list_all-push p ts t parts.1 e)
+
+-- ---- items
+
+pub IsItem-no_parts : IsItem no_parts
+IsItem-no_parts = record {
+  fields = Keeps-empty is_field_key is_settled;
+  flags = KeepsAll-set_of is_flag_name [] refl;
+  variables = Keeps-empty is_variable_key is_settled;
+  owners = KeepsAll-set_of is_name [] refl;
+}
+
+-- an item without anything, and its owners in order
+pub begins : (f v : Texts (List ℕ)) (s : TextSet) (owners : List (List ℕ)) → f ≡ empty → s ≡ empty → v ≡ empty → owners ≡ []
+    → IsItem (record { fields = f; flags = s; variables = v; owners = set_of owners }) × (owners ≡ keys (set_of owners))
+begins f v s owners fe se ve oe = (
+  subst IsItem (λ i. record { fields = sym fe i; flags = sym se i; variables = sym ve i; owners = set_of (sym oe i) }) IsItem-no_parts,
+  oe ∙ sym (ap (λ os. keys (set_of os)) oe ∙ ap (λ es. each (λ (e : List ℕ × Unit {0}). e.0) es) (entries-in_order [] tt)),
+)
+
+-- the owners' list says which they are
+abbrev pub Kept : Texts (List ℕ) → TextSet → Texts (List ℕ) → List (List ℕ) → Type 0
+Kept f s v owners = IsItem (record { fields = f; flags = s; variables = v; owners = set_of owners }) × (owners ≡ keys (set_of owners))
+
+pub with_field : (f g v : Texts (List ℕ)) (s : TextSet) (os : List (List ℕ)) (k x : List ℕ) → Kept f s v os → g ≡ insert f k x → is_field_key k ≡ true → is_settled x ≡ true → Kept g s v os
+with_field f g v s os k x kept is key value = (
+  record { fields = subst (Keeps is_field_key is_settled) (sym is) (Keeps-insert is_field_key is_settled f k x kept.0.fields key value); flags = kept.0.flags; variables = kept.0.variables; owners = kept.0.owners },
+  kept.1,
+)
+
+pub with_variable : (f v w : Texts (List ℕ)) (s : TextSet) (os : List (List ℕ)) (k x : List ℕ) → Kept f s v os → w ≡ insert v k x → is_variable_key k ≡ true → is_settled x ≡ true → Kept f s w os
+with_variable f v w s os k x kept is key value = (
+  record { fields = kept.0.fields; flags = kept.0.flags; variables = subst (Keeps is_variable_key is_settled) (sym is) (Keeps-insert is_variable_key is_settled v k x kept.0.variables key value); owners = kept.0.owners },
+  kept.1,
+)
+
+pub with_flags : (f v : Texts (List ℕ)) (s t : TextSet) (os flags : List (List ℕ)) → Kept f s v os → t ≡ set_of flags → list_all is_flag_name flags ≡ true → Kept f t v os
+with_flags f v s t os flags kept is all = (
+  record { fields = kept.0.fields; flags = subst (KeepsAll is_flag_name) (sym is) (KeepsAll-set_of is_flag_name flags all); variables = kept.0.variables; owners = kept.0.owners },
+  kept.1,
+)
+
+set_of-firsts : (es : List (List ℕ × Unit {0})) → set_of (each (λ e. e.0) es) ≡ from_entries es
+set_of-firsts [] = refl
+set_of-firsts (e ∷ es) = ap (λ s. insert s e.0 tt) (set_of-firsts es)
+
+-- the members of a set make the set
+pub set_of-keys : (s : TextSet) → set_of (keys s) ≡ s
+set_of-keys s = set_of-firsts (entries s) ∙ from_entries-entries s
+
+-- the members of a set that a list has
+pub set_of-is_keys : (os ns : List (List ℕ)) → os ≡ keys (set_of ns) → set_of os ≡ set_of ns
+set_of-is_keys os ns is = ap set_of is ∙ set_of-keys (set_of ns)
+
+pub with_owners : (f v : Texts (List ℕ)) (s : TextSet) (os ps ns : List (List ℕ)) → Kept f s v os → ps ≡ keys (set_of ns) → list_all is_name ps ≡ true → Kept f s v ps
+with_owners f v s os ps ns kept is all = (
+  record { fields = kept.0.fields; flags = kept.0.flags; variables = kept.0.variables; owners = KeepsAll-set_of is_name ps all },
+  is ∙ ap keys (sym (set_of-is_keys ps ns is)),
+)
+
+-- ---- a turn of the loop over texts
+
+pub set_turn : (p : List ℕ → Bool) (ts items : List (List ℕ)) (i : ℕ) (x key : List ℕ) (set new : TextSet) → items ≡ ts → i < length items → x ≡ get_or items i x → key ≡ x → p key ≡ true
+    → set ≡ set_of (take i ts) → list_all p (take i ts) ≡ true → new ≡ insert set key tt → (new ≡ set_of (take (i + 1) ts)) × (list_all p (take (i + 1) ts) ≡ true)
+set_turn p ts items i x key set new same h is copy good so_far all put =
+    let more : take (i + 1) ts ≡ take i ts ++ x ∷ [] = ap (take (i + 1)) (sym same) ∙ take_more items i x h ∙ (λ j. take i (same j) ++ sym is j ∷ []) in (
+      put ∙ (λ j. insert (so_far j) (copy j) tt) ∙ sym (set_of-push (take i ts) x) ∙ ap set_of (sym more),
+      ap (list_all p) more ∙ list_all-push p (take i ts) x all (ap p (sym copy) ∙ good),
+    )
+
+-- ---- owners by their names
+
+put-selves : (es : List (List ℕ × Unit {0})) (k : List ℕ) → put text_cmp k k (selves (each (λ e. e.0) es)) ≡ selves (each (λ e. e.0) (put text_cmp k tt es))
+put-selves [] k = refl
+put-selves (e ∷ es) k =
+    let rest : List (List ℕ × List ℕ) = selves (each (λ e. e.0) es) in
+    elim (text_cmp k e.0) as (λ o. text_cmp k e.0 ≡ o → by_order o ((k, k) ∷ (e.0, e.0) ∷ rest) ((e.0, k) ∷ rest) ((e.0, e.0) ∷ put text_cmp k k rest)
+    ≡ selves (each (λ (f : List ℕ × Unit {0}). f.0) (by_order o ((k, tt) ∷ e ∷ es) ((e.0, tt) ∷ es) (e ∷ put text_cmp k tt es)))) [
+      | Less ↦ λ t. refl
+      | Equal ↦ λ t. ap (λ n. (e.0, n) ∷ rest) (exact_texts k e.0 t)
+      | Greater ↦ λ t. ap (λ l. (e.0, e.0) ∷ l) (put-selves es k)
+    ] refl
+
+-- one more name
+pub selves-push : (held : Texts (List ℕ)) (ts : List (List ℕ)) (t : List ℕ) → entries held ≡ selves (keys (set_of ts)) → entries (insert held t t) ≡ selves (keys (set_of (ts ++ t ∷ [])))
+selves-push held ts t is =
+    entries-insert nat_list_cmp_total held t t ∙ ap (put text_cmp t t) is ∙ put-selves (entries (set_of ts)) t
+    ∙ ap (λ es. selves (each (λ e. e.0) es)) (sym (ap entries (set_of-push ts t) ∙ entries-insert nat_list_cmp_total (set_of ts) t tt))
+
+pub selves-none : (held : Texts (List ℕ)) → held ≡ empty → entries held ≡ selves (keys (set_of []))
+selves-none held e = ap entries e ∙ entries-in_order [] tt ∙ ap (λ es. selves (each (λ (f : List ℕ × Unit {0}). f.0) es)) (sym (entries-in_order [] tt))
+
+pub second-selves : (ks : List (List ℕ)) → each (λ e. e.1) (selves ks) ≡ ks
+second-selves [] = refl
+second-selves (k ∷ ks) = ap (λ l. k ∷ l) (second-selves ks)
+
+pub selves_turn : (ts items : List (List ℕ)) (i : ℕ) (x key value : List ℕ) (held new : Texts (List ℕ)) → items ≡ ts → i < length items → x ≡ get_or items i x → key ≡ x → value ≡ x
+    → entries held ≡ selves (keys (set_of (take i ts))) → new ≡ insert held key value → entries new ≡ selves (keys (set_of (take (i + 1) ts)))
+selves_turn ts items i x key value held new same h is copy again so_far put =
+    let more : take (i + 1) ts ≡ take i ts ++ x ∷ [] = ap (take (i + 1)) (sym same) ∙ take_more items i x h ∙ (λ j. take i (same j) ++ sym is j ∷ []) in
+    ap entries (put ∙ (λ j. insert held (copy j) (again j))) ∙ selves-push held (take i ts) x so_far ∙ ap (λ l. selves (keys (set_of l))) (sym more)
+
+pub second-seen : {Y X : Type 0} (f : Y → List ℕ) (es : List (Y × X)) → each (λ e. e.1) es ≡ each (λ (e : List ℕ × X). e.1) (each (λ e. (f e.0, e.1)) es)
+second-seen f [] = refl
+second-seen f (e ∷ es) = ap (λ l. e.1 ∷ l) (second-seen f es)

@@ -1,0 +1,12 @@
+use Rattle.std.proofs.Common.{sym, ◌∙◌}
+use Rattle.dc_item.proofs.FirstBad.{one_fault, not_both}
+use Rattle.dc_item.proofs.ReaderLemmas.{some_answer}
+use Rattle.dc_item.proofs.laws.one_answer.Goals as goal
+
+pub returns : goal.returns
+returns c = record {
+  one_reading = λ text a b r s. r.are ∙ sym s.are;
+  one_fault = one_fault;
+  not_both = not_both;
+  some = some_answer;
+}

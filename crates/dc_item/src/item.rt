@@ -1,0 +1,149 @@
+// Items: the fields, flags, variables and owners of questions and templates.
+ghost use Rattle.std.specs.Prelude.{◌≡◌, IfOk, OnOk, OnErr, true};
+ghost use Rattle.std.specs.List.{list_all};
+ghost use Rattle.std.specs.FinMap as map;
+ghost use Rattle.std.specs.Option.{option_copied};
+ghost use Rattle.dc_text.specs.Maps.{set_of};
+ghost use Rattle.dc_text.specs.Names.{is_flag_name};
+ghost use Rattle.dc_item.specs.Item.{no_parts, IsItem};
+
+use crate::owners::in_order;
+use dc_text::{FieldKey, FlagName, List, Mem, Name, Settled, TextMap, VarKey};
+use std::alloc::Global;
+use std::marker::Model;
+
+/// The value of a question or a template (debconf-devel(7)): fields, the flags that are true, variables and owners.
+#[derive(Drop)]
+pub struct Item {
+    alloc: Global,
+    fields: TextMap<Settled>,
+    flags: TextMap<()>,
+    variables: TextMap<Settled>,
+    owners: List<Name>,
+}
+
+impl Model for Item {
+    ghost use Rattle.std.specs.Prelude.{◌≡◌};
+    ghost use Rattle.std.specs.FinMap as map;
+    ghost use Rattle.dc_text.specs.Maps.{set_of};
+    ghost use Rattle.dc_item.specs.Item.{Parts, IsItem, parts_code};
+
+    ghost Value = { Parts };
+
+    ghost coded = { parts_code };
+
+    ghost view = { λ i. record { fields = i.fields; flags = i.flags; variables = i.variables; owners = set_of i.owners } };
+
+    ghost invariant = { λ i. IsItem (record { fields = i.fields; flags = i.flags; variables = i.variables; owners = set_of i.owners })
+        × (i.owners ≡ map.keys (set_of i.owners)) };
+}
+
+impl Item {
+    /// An item in which nothing stands.
+    pub fn new(alloc: Global) -> Self
+        ensures { result ≡ no_parts }
+    {
+        Item {
+            alloc,
+            fields: TextMap::new(alloc),
+            flags: TextMap::new(alloc),
+            variables: TextMap::new(alloc),
+            owners: List::new(alloc),
+        }
+    }
+
+    /// The value of the field, if the item has it. Keys are in lower case.
+    pub fn field(&self, key: &[u8]) -> Option<&Settled>
+        ensures { option_copied result ≡ map.get self.now.fields key.now }
+    {
+        self.fields.get(key)
+    }
+
+    /// Whether the flag is true.
+    pub fn flag(&self, flag: &[u8]) -> bool
+        ensures { result ≡ map.contains_key self.now.flags flag.now }
+    {
+        self.flags.contains(flag)
+    }
+
+    /// The value of the variable, if the item has it.
+    pub fn var(&self, key: &[u8]) -> Option<&Settled>
+        ensures { option_copied result ≡ map.get self.now.variables key.now }
+    {
+        self.variables.get(key)
+    }
+
+    /// The owners, in byte order.
+    pub fn owners(&self) -> &List<Name>
+        ensures owners { result.now ≡ map.keys self.now.owners }
+        ensures item { IsItem self.now }
+    {
+        &self.owners
+    }
+
+    /// An item that is equal to this one.
+    pub fn copy(&self) -> Mem<Self>
+        ensures { IfOk result (λ copy. copy ≡ self.now) }
+    {
+        let fields = self.fields.copy(self.alloc)?;
+        let flags = self.flags.copy(self.alloc)?;
+        let variables = self.variables.copy(self.alloc)?;
+        let owners = self.owners.copy(self.alloc)?;
+        Ok(Item {
+            alloc: self.alloc,
+            fields,
+            flags,
+            variables,
+            owners,
+        })
+    }
+
+    // Puts the field, in the place of one with its key.
+    pub(crate) fn put_field(&mut self, key: FieldKey, value: Settled) -> Mem<()>
+        ensures ok { OnOk result (self.new ≡ record self.old { fields = map.insert self.old.fields key value }) }
+        ensures err { OnErr result (self.new ≡ self.old) }
+    {
+        let _settled = value.bytes();
+        self.fields.insert(key.into_text(), value)?;
+        Ok(())
+    }
+
+    // Puts the variable, in the place of one with its key.
+    pub(crate) fn put_variable(&mut self, key: VarKey, value: Settled) -> Mem<()>
+        ensures ok { OnOk result (self.new ≡ record self.old { variables = map.insert self.old.variables key value }) }
+        ensures err { OnErr result (self.new ≡ self.old) }
+    {
+        let _settled = value.bytes();
+        self.variables.insert(key.into_text(), value)?;
+        Ok(())
+    }
+
+    // Makes these the flags that are true.
+    pub(crate) fn put_flags(&mut self, flags: &List<FlagName>) -> Mem<()>
+        ensures ok { OnOk result (self.new ≡ record self.old { flags = set_of flags.now }) }
+        ensures err { OnErr result (self.new ≡ self.old) }
+    {
+        self.flags = set_of_flags(self.alloc, flags)?;
+        Ok(())
+    }
+
+    // Makes these the owners.
+    pub(crate) fn put_owners(&mut self, owners: &List<Name>) -> Mem<()>
+        ensures ok { OnOk result (self.new ≡ record self.old { owners = set_of owners.now }) }
+        ensures err { OnErr result (self.new ≡ self.old) }
+    {
+        self.owners = in_order(self.alloc, owners)?;
+        Ok(())
+    }
+}
+
+fn set_of_flags(alloc: Global, flags: &List<FlagName>) -> Mem<TextMap<()>>
+    ensures value { IfOk result (λ set. set ≡ set_of flags.now) }
+    ensures flags { IfOk result (λ set. list_all is_flag_name flags.now ≡ true) }
+{
+    let mut set = TextMap::new(alloc);
+    for flag in flags.as_slice() {
+        set.insert(flag.copy()?.into_text(), ())?;
+    }
+    Ok(set)
+}

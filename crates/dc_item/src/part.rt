@@ -1,0 +1,17 @@
+// What one line of a database text says.
+use dc_text::{FieldKey, FlagName, List, Name, Settled, VarKey};
+
+/// What a line of a database text says, wherever it stands.
+#[derive(Drop)]
+pub enum Part {
+    Blank,
+    Name(Name),
+    Owners(List<Name>),
+    Flags(List<FlagName>),
+    /// The line that heads the variables.
+    Variables,
+    Variable(VarKey, Settled),
+    Field(FieldKey, Settled),
+    /// A line without a reading.
+    Nothing,
+}

@@ -1,0 +1,66 @@
+// The records of a database text.
+ghost use Rattle.std.specs.Prelude.{◌≡◌, MatchResult};
+ghost use Rattle.dc_text.specs.Lines.{lines_of};
+ghost use Rattle.dc_item.specs.Records.{IsAnswer};
+ghost use Rattle.dc_item.specs.Reader.{read_all, Fails};
+
+use crate::entry::Entry;
+use crate::reader::Reader;
+use crate::reading::read_part;
+use dc_text::bytes::split_line;
+use dc_text::{List, OutOfMemory};
+use std::alloc::Global;
+use thiserror::Error;
+
+/// Why a text has no records.
+#[derive(Debug, Drop, Error)]
+pub enum RecordError {
+    /// The first line, from 1, that has no reading where it stands.
+    #[error("a bad line")]
+    Bad { line: u64 },
+    #[error("out of memory")]
+    OutOfMemory,
+}
+
+impl From<OutOfMemory> for RecordError {
+    ghost use Rattle.std.specs.Prelude.{◌≡◌};
+    ghost use Rattle.dc_item.specs.declared.records.RecordError.TheVariants.{OutOfMemory};
+
+    ghost from_gives = { λ _ e. e ≡ OutOfMemory };
+
+    fn from(_: OutOfMemory) -> Self {
+        RecordError::OutOfMemory
+    }
+}
+
+/// The records of a database text. `Bad` names the first line that has no reading where it stands.
+pub fn read_records(alloc: Global, bytes: &[u8]) -> Result<List<Entry>, RecordError>
+    ensures { IsAnswer bytes.now result }
+{
+    let mut reader = read_lines(alloc, bytes)?;
+    reader.close()?;
+    let Reader {
+        done,
+        names: _,
+        current: _,
+    } = reader;
+    Ok(done)
+}
+
+fn read_lines(alloc: Global, bytes: &[u8]) -> Result<Reader, RecordError>
+    ensures { MatchResult result (λ reader. read_all (lines_of bytes.now) ≡ Ok reader) (λ error. Fails error (read_all (lines_of bytes.now))) }
+{
+    let mut reader = Reader::new(alloc);
+    let mut rest = bytes;
+    let mut line = 0u64;
+    while !rest.is_empty() {
+        let (text, after) = split_line(rest);
+        line += 1;
+        let part = read_part(alloc, text)?;
+        if !reader.take(alloc, line, part)? {
+            return Err(RecordError::Bad { line });
+        }
+        rest = after;
+    }
+    Ok(reader)
+}
