@@ -26,6 +26,14 @@ writes (Sent bytes ∷ pieces) = bytes ∷ writes pieces
 writes (Cut bytes ∷ pieces) = bytes ∷ writes pieces
 writes (Lost ∷ pieces) = writes pieces
 
+-- the bytes that were sent
+abbrev pub sent : List Piece → List ℕ
+sent [] = []
+sent (Got bytes ∷ pieces) = sent pieces
+sent (Sent bytes ∷ pieces) = bytes ++ sent pieces
+sent (Cut bytes ∷ pieces) = bytes ++ sent pieces
+sent (Lost ∷ pieces) = sent pieces
+
 -- what a read adds to the talk
 abbrev pub read_pieces : Result ℕ LinkError → List ℕ → List Piece
 read_pieces (Ok count) buf = if count == 0 then [] else Got (take count buf) ∷ []

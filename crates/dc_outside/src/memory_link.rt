@@ -1,8 +1,10 @@
 // A link in memory: its input is known, its cuts and faults are chosen, and it keeps its talk.
-ghost use Rattle.std.specs.Prelude.{◌≡◌, ◌≤◌, ◌<◌, [], ◌∷◌, ◌++◌, length, take, drop, IfOk, OnOk, OnErr, IfErr, IsErr, IsErrOf, Some, is_ok, if◌then◌else◌};
-ghost use Rattle.dc_outside.specs.declared.link.Piece.TheVariants.{Sent};
-ghost use Rattle.dc_outside.specs.Talk.{read_pieces, got};
-ghost use Rattle.dc_outside.specs.Counts.{Rose, CountsFaults, CountsRefusals};
+ghost use Rattle.std.specs.Prelude.{◌≡◌, ◌≤◌, ◌+◌, ◌<◌, [], ◌∷◌, ◌++◌, length, take, drop, min, IfOk, OnOk, OnErr, Some, Ok, is_ok, if◌then◌else◌};
+ghost use Rattle.dc_outside.specs.declared.link.Piece.TheVariants.{Got};
+ghost use Rattle.dc_outside.specs.Talk.{told, read_pieces, got, sent, AddsWrite, EndsAtNone};
+ghost use Rattle.dc_outside.specs.Counts.{CountsFaults, CountsRefusals};
+ghost use Rattle.dc_outside.specs.Memory.{is_among, next_cut, write_pieces, FailsWhere, TakesNumber};
+ghost use Rattle.std.specs.Io.KnownBytes.{prepend_known};
 
 use crate::{Link, LinkError, Piece};
 use dc_text::{List, Mem, Text};
@@ -17,29 +19,35 @@ pub struct MemLink {
     cuts: Vec<usize>,
     reads: usize,
     failing: Vec<u64>,
-    calls: u64,
+    number: u64,
     talk: List<Piece>,
+    written: Text,
     faults: u64,
     refusals: u64,
 }
 
 impl Model for MemLink {
-    ghost use Rattle.std.specs.Prelude.{◌≤◌, drop, length};
+    ghost use Rattle.std.specs.Prelude.{◌≡◌, ◌≤◌, drop, length};
+    ghost use Rattle.dc_outside.specs.Talk.{sent};
     ghost use Rattle.dc_outside.specs.Memory.{LinkState};
 
     ghost Value = { LinkState };
 
-    ghost view = { λ m. record { talk = m.talk; left = drop m.taken m.input.items; faults = m.faults; refusals = m.refusals } };
+    ghost view = { λ m. record { talk = m.talk; left = drop m.taken m.input.items; cuts = drop m.reads m.cuts.items; failing = m.failing.items; number = m.number; faults = m.faults; refusals = m.refusals } };
 
-    ghost invariant = { λ m. m.taken ≤ length m.input.items };
+    ghost invariant = { λ m. (m.taken ≤ length m.input.items) × (m.reads ≤ length m.cuts.items) × (m.written ≡ sent m.talk) };
 }
 
 impl MemLink {
     /// The k-th read that isn't failing gives at most `cuts[k]` bytes, where 0 counts as 1. Past the end of `cuts` a
-    /// read gives as many as the buffer takes. Calls are numbered from 0, and those in `failing` fail.
+    /// read gives as many as the buffer takes. Calls are numbered from 0, and those in `failing` fail, with no byte
+    /// moved.
     pub fn new(alloc: Global, input: &[u8], cuts: &[usize], failing: &[u64]) -> Mem<MemLink>
         ensures talk { IfOk result (λ link. link.talk ≡ []) }
         ensures left { IfOk result (λ link. link.left ≡ input.now) }
+        ensures cuts { IfOk result (λ link. link.cuts ≡ cuts.now) }
+        ensures failing { IfOk result (λ link. link.failing ≡ failing.now) }
+        ensures number { IfOk result (λ link. link.number ≡ 0) }
         ensures faults { IfOk result (λ link. link.faults ≡ 0) }
         ensures refusals { IfOk result (λ link. link.refusals ≡ 0) }
     {
@@ -53,8 +61,9 @@ impl MemLink {
             cuts,
             reads: 0,
             failing,
-            calls: 0,
+            number: 0,
             talk: List::new(alloc),
+            written: Text::new(alloc),
             faults: 0,
             refusals: 0,
         })
@@ -67,106 +76,133 @@ impl MemLink {
         &self.talk
     }
 
-    // Adds a piece, or refuses the call for want of memory.
-    fn say(&mut self, piece: Piece) -> Result<(), LinkError>
-        ensures talk { self.new.talk ≡ (if is_ok result then self.old.talk ++ piece ∷ [] else self.old.talk) }
-        ensures left { self.new.left ≡ self.old.left }
-        ensures faults { self.new.faults ≡ self.old.faults }
-        ensures refusals { CountsRefusals self.old.refusals self.new.refusals result }
-        ensures err { IfErr result (λ error. error ≡ LinkError.OutOfMemory) }
+    /// All bytes that were written.
+    pub fn sent(&self) -> &Text
+        ensures { result.now ≡ sent self.now.talk }
     {
-        match self.talk.push(piece) {
-            Ok(()) => Ok(()),
-            Err(_) => {
-                self.refusals = self.refusals.saturating_add(1);
-                Err(LinkError::OutOfMemory)
-            }
-        }
+        &self.written
     }
 
-    // Adds a piece and fails.
-    fn fail<T>(&mut self, piece: Piece) -> Result<T, LinkError>
-        ensures failed { IsErrOf result LinkError.Failed → (self.new.talk ≡ self.old.talk ++ piece ∷ []) × Rose self.old.faults self.new.faults × (self.new.refusals ≡ self.old.refusals) }
-        ensures refused { IsErrOf result LinkError.OutOfMemory → (self.new.talk ≡ self.old.talk) × Rose self.old.refusals self.new.refusals × (self.new.faults ≡ self.old.faults) }
-        ensures err { IsErr result }
-        ensures left { self.new.left ≡ self.old.left }
+    // Whether the next call is one that fails.
+    fn is_failing(&self) -> bool
+        ensures { result ≡ is_among self.now.failing self.now.number }
     {
-        match self.say(piece) {
-            Ok(()) => {
-                self.faults = self.faults.saturating_add(1);
-                Err(LinkError::Failed)
-            }
-            Err(error) => Err(error),
-        }
+        self.failing.contains(&self.number)
     }
 
-    // A text of the bytes, or the call is refused.
-    fn keep(&mut self, bytes: &[u8]) -> Result<Text, LinkError>
-        ensures ok { IfOk result (λ text. text ≡ bytes.now) }
-        ensures err { IfErr result (λ error. error ≡ LinkError.OutOfMemory) }
-        ensures talk { self.new.talk ≡ self.old.talk }
-        ensures left { self.new.left ≡ self.old.left }
-        ensures faults { self.new.faults ≡ self.old.faults }
-        ensures refusals { CountsRefusals self.old.refusals self.new.refusals result }
-    {
-        match Text::from_bytes(self.alloc, bytes) {
-            Ok(text) => Ok(text),
-            Err(_) => {
-                self.refusals = self.refusals.saturating_add(1);
-                Err(LinkError::OutOfMemory)
-            }
-        }
-    }
-
-    // The next bytes of the input, moved to the front of the buffer.
-    fn give(&mut self, buf: &mut [u8]) -> Result<usize, LinkError>
-        requires { 0 < length buf.old }
-        ensures bound { IfOk result (λ count. count ≤ length buf.new) }
-        ensures talk { self.new.talk ≡ self.old.talk ++ read_pieces result buf.new }
-        ensures input { self.old.left ≡ got (read_pieces result buf.new) ++ self.new.left }
-        ensures end { IfOk result (λ count. count ≡ 0 → self.new.left ≡ []) }
+    // Counts a call by its answer.
+    fn count<T>(&mut self, answer: Result<T, LinkError>) -> Result<T, LinkError>
+        ensures answer { result ≡ answer }
+        ensures rest { self.new ≡ record self.old { number = self.new.number; faults = self.new.faults; refusals = self.new.refusals } }
+        ensures number { TakesNumber self.old.number self.new.number result }
         ensures faults { CountsFaults self.old.faults self.new.faults result }
         ensures refusals { CountsRefusals self.old.refusals self.new.refusals result }
     {
-        let left = self.input.len() - self.taken;
-        let count = amount(&self.cuts, self.reads, left, buf.len());
-        self.reads = self.reads.saturating_add(1);
-        if count == 0 {
-            return Ok(0);
+        match &answer {
+            Ok(_) => self.number = self.number.saturating_add(1),
+            Err(LinkError::Failed) => {
+                self.number = self.number.saturating_add(1);
+                self.faults = self.faults.saturating_add(1);
+            }
+            Err(LinkError::OutOfMemory) => self.refusals = self.refusals.saturating_add(1),
         }
-        buf[..count].copy_from_slice(&self.input[self.taken..self.taken + count]);
-        let bytes = self.keep(&buf[..count])?;
-        self.say(Piece::Got(bytes))?;
-        self.taken += count;
+        answer
+    }
+
+    // Adds a piece, by which these bytes are sent.
+    fn say(&mut self, piece: Piece, bytes: &[u8]) -> Mem<()>
+        requires { sent (piece ∷ []) ≡ bytes.now }
+        ensures ok { OnOk result (self.new ≡ record self.old { talk = self.old.talk ++ piece ∷ [] }) }
+        ensures err { OnErr result (self.new ≡ self.old) }
+    {
+        self.talk.push(piece)?;
+        match self.written.append(bytes) {
+            Ok(()) => Ok(()),
+            Err(error) => {
+                let _ = self.talk.pop();
+                Err(error)
+            }
+        }
+    }
+
+    // How many bytes the next read gives to a buffer with that room.
+    fn next_count(&self, room: usize) -> usize
+        ensures { result ≡ min (next_cut self.now.cuts room) (length self.now.left) }
+    {
+        let cut = match self.cuts.get(self.reads) {
+            Some(cut) => (*cut).max(1).min(room),
+            None => room,
+        };
+        cut.min(self.input.len() - self.taken)
+    }
+
+    // Gives the next bytes of the input, as many as the buffer takes.
+    fn fill(&mut self, buf: &mut [u8]) -> Mem<()>
+        requires { length buf.old ≤ length self.old.left }
+        ensures bytes { OnOk result (buf.new ≡ take (length buf.old) self.old.left) }
+        ensures ok { OnOk result (self.new ≡ record self.old { talk = self.old.talk ++ Got buf.new ∷ []; left = drop (length buf.old) self.old.left }) }
+        ensures err { OnErr result (self.new ≡ self.old) }
+    {
+        let next = &self.input[self.taken..self.taken + buf.len()];
+        let bytes = Text::from_bytes(self.alloc, next)?;
+        buf.copy_from_slice(bytes.bytes());
+        self.say(Piece::Got(bytes), &[])?;
+        self.taken += buf.len();
+        Ok(())
+    }
+
+    // Leaves the cut of a read behind.
+    fn pass_cut(&mut self)
+        ensures { self.new ≡ record self.old { cuts = drop 1 self.old.cuts } }
+    {
+        if self.reads < self.cuts.len() {
+            self.reads += 1;
+        }
+    }
+
+    fn give(&mut self, buf: &mut [u8]) -> Mem<usize>
+        ensures count { IfOk result (λ count. count ≡ min (next_cut self.old.cuts (length buf.old)) (length self.old.left)) }
+        ensures talk { IfOk result (λ count. self.new.talk ≡ self.old.talk ++ read_pieces (Ok count) buf.new) }
+        ensures left { IfOk result (λ count. self.old.left ≡ got (read_pieces (Ok count) buf.new) ++ self.new.left) }
+        ensures rest { OnOk result (self.new ≡ record self.old { talk = self.new.talk; left = self.new.left; cuts = drop 1 self.old.cuts }) }
+        ensures err { OnErr result (self.new ≡ self.old) }
+    {
+        let count = self.next_count(buf.len());
+        if count != 0 {
+            self.fill(&mut buf[..count])?;
+        }
+        self.pass_cut();
         Ok(count)
     }
 
-    fn take(&mut self, bytes: &[u8]) -> Result<(), LinkError>
-        ensures talk { self.new.talk ≡ (if is_ok result then self.old.talk ++ Sent bytes.now ∷ [] else self.old.talk) }
-        ensures err { IfErr result (λ error. error ≡ LinkError.OutOfMemory) }
-        ensures left { self.new.left ≡ self.old.left }
-        ensures faults { self.new.faults ≡ self.old.faults }
-        ensures refusals { CountsRefusals self.old.refusals self.new.refusals result }
+    fn receive(&mut self, buf: &mut [u8]) -> Result<usize, LinkError>
+        ensures fails { FailsWhere (is_among self.old.failing self.old.number) result }
+        ensures count { IfOk result (λ count. count ≡ min (next_cut self.old.cuts (length buf.old)) (length self.old.left)) }
+        ensures talk { self.new.talk ≡ self.old.talk ++ read_pieces result buf.new }
+        ensures left { self.old.left ≡ got (read_pieces result buf.new) ++ self.new.left }
+        ensures cuts { self.new.cuts ≡ (if is_ok result then drop 1 self.old.cuts else self.old.cuts) }
+        ensures rest { self.new ≡ record self.old { talk = self.new.talk; left = self.new.left; cuts = self.new.cuts } }
     {
-        let kept = self.keep(bytes)?;
-        self.say(Piece::Sent(kept))
+        if self.is_failing() {
+            self.say(Piece::Lost, &[])?;
+            return Err(LinkError::Failed);
+        }
+        Ok(self.give(buf)?)
     }
-}
 
-// Whether the next call is one that fails.
-fn is_failing(failing: &[u64], call: u64) -> bool {
-    failing.iter().any(|number| *number == call)
-}
-
-// How many bytes the next read gives: at least one where there is one and room for one.
-fn amount(cuts: &[usize], reads: usize, left: usize, room: usize) -> usize
-    requires { 0 < room }
-    ensures left { result ≤ left }
-    ensures room { result ≤ room }
-    ensures some { 0 < left → 0 < result }
-{
-    let cut = cuts.get(reads).copied().unwrap_or(room).max(1);
-    cut.min(left).min(room)
+    fn send(&mut self, bytes: &[u8]) -> Result<(), LinkError>
+        ensures fails { FailsWhere (is_among self.old.failing self.old.number) result }
+        ensures talk { self.new.talk ≡ self.old.talk ++ write_pieces result bytes.now }
+        ensures rest { self.new ≡ record self.old { talk = self.new.talk } }
+    {
+        if self.is_failing() {
+            self.say(Piece::Cut(Text::new(self.alloc)), &[])?;
+            return Err(LinkError::Failed);
+        }
+        let kept = Text::from_bytes(self.alloc, bytes)?;
+        self.say(Piece::Sent(kept), bytes)?;
+        Ok(())
+    }
 }
 
 impl Link for MemLink {
@@ -178,23 +214,38 @@ impl Link for MemLink {
 
     ghost refusals = { λ m. m.refusals };
 
-    fn read_some(&mut self, buf: &mut [u8]) -> Result<usize, LinkError> {
-        let failing = is_failing(&self.failing, self.calls);
-        self.calls = self.calls.saturating_add(1);
-        if failing {
-            self.fail(Piece::Lost)
-        } else {
-            self.give(buf)
-        }
+    fn read_some(&mut self, buf: &mut [u8]) -> Result<usize, LinkError>
+        requires { 0 < length buf.old }
+        ensures bound { IfOk result (λ count. count ≤ length buf.new) }
+        ensures talk { Some self.new.talk ≡ told (Some self.old.talk) (read_pieces result buf.new) }
+        ensures input { Some self.old.left ≡ prepend_known (got (read_pieces result buf.new)) (Some self.new.left) }
+        ensures end { EndsAtNone result (Some self.new.left) }
+        ensures faults { CountsFaults self.old.faults self.new.faults result }
+        ensures refusals { CountsRefusals self.old.refusals self.new.refusals result }
+
+        ensures fails { FailsWhere (is_among self.old.failing self.old.number) result }
+        ensures count { IfOk result (λ count. count ≡ min (next_cut self.old.cuts (length buf.old)) (length self.old.left)) }
+        ensures cuts { self.new.cuts ≡ (if is_ok result then drop 1 self.old.cuts else self.old.cuts) }
+        ensures number { TakesNumber self.old.number self.new.number result }
+        ensures failing { self.new.failing ≡ self.old.failing }
+    {
+        let answer = self.receive(buf);
+        self.count(answer)
     }
 
-    fn write(&mut self, bytes: &[u8]) -> Result<(), LinkError> {
-        let failing = is_failing(&self.failing, self.calls);
-        self.calls = self.calls.saturating_add(1);
-        if failing {
-            self.fail(Piece::Cut(Text::new(self.alloc)))
-        } else {
-            self.take(bytes)
-        }
+    fn write(&mut self, bytes: &[u8]) -> Result<(), LinkError>
+        ensures talk { AddsWrite (Some self.old.talk) (Some self.new.talk) result bytes.now }
+        ensures input { Some self.new.left ≡ Some self.old.left }
+        ensures faults { CountsFaults self.old.faults self.new.faults result }
+        ensures refusals { CountsRefusals self.old.refusals self.new.refusals result }
+
+        ensures fails { FailsWhere (is_among self.old.failing self.old.number) result }
+        ensures nothing { self.new.talk ≡ self.old.talk ++ write_pieces result bytes.now }
+        ensures cuts { self.new.cuts ≡ self.old.cuts }
+        ensures number { TakesNumber self.old.number self.new.number result }
+        ensures failing { self.new.failing ≡ self.old.failing }
+    {
+        let answer = self.send(bytes);
+        self.count(answer)
     }
 }
