@@ -1,0 +1,10 @@
+pub mod Commands
+pub mod Ends
+pub mod Headline
+pub mod Loading
+pub mod Machine
+pub mod Replies
+pub mod Run
+pub mod Serving
+pub mod Step
+pub mod Tools

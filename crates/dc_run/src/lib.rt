@@ -1,0 +1,20 @@
+//! The run of a tool: its words, its database, and a session over a link, in which each line is answered before more is
+//! read.
+#![tactic(auto)]
+
+pub mod answering;
+pub mod command;
+pub mod loading;
+pub mod outcome;
+pub mod reply;
+pub mod running;
+pub mod session;
+pub mod settings;
+pub mod tool;
+
+pub use outcome::{End, Outcome};
+pub use running::run_words;
+pub use settings::Settings;
+
+#[cfg(test)]
+mod tests;
