@@ -1,16 +1,16 @@
 -- A map of the library's, whose keys are seen as texts, as a finite map from texts.
-use Rattle.std.proofs.Common.{◌≡◌, ℕ, Bool, true, false, cond, not, List, [], ◌∷◌, ◌++◌, Some, None, Option, refl, sym, ap, ◌∙◌, subst}
+use Rattle.std.proofs.Common.{◌≡◌, ℕ, Bool, true, false, cond, not, List, [], ◌∷◌, ◌++◌, Some, None, Option, refl, sym, ap, ◌∙◌, subst, append_assoc}
 use Rattle.std.specs.Prelude.{◌||◌, ◌&&◌, T, map, filter}
 use Rattle.std.specs.List.{list_any, AllByRecursion}
 use Rattle.std.specs.List.Sorted.{IsStrictlySortedBy}
 use Rattle.std.specs.declared.cmp.Ordering.{Ordering}
 use Rattle.std.specs.declared.cmp.Ordering.TheVariants.{Less, Equal, Greater}
-use Rattle.std.specs.Ordering.{nat_cmp, eq_by_cmp, is_eq, is_lt, match_ordering}
+use Rattle.std.specs.Ordering.{nat_cmp, eq_by_cmp, is_eq, is_lt, match_ordering, ordering_reverse}
 use Rattle.std.specs.Cmp.{eq_by_cmp_equiv, alike_right}
 use Rattle.std.specs.Cmp.Lexicographic.{slice_cmp, nat_list_cmp_total}
 use Rattle.std.specs.BTreeMap.{is_at, insert_entry}
 use Rattle.std.specs.Map.{lookup, remove_entry}
-use Rattle.std.specs.FinMap.{FinMap, get, insert, remove, entries, from_entries, from_sorted, find, put, is_sorted, entries-from_sorted, get-from_sorted, get-entries, get-from_entries, get-insert, get-remove, get-empty, same_map, IsAntisymmetric, slice_cmp-IsAntisymmetric, nat_cmp-IsAntisymmetric}
+use Rattle.std.specs.FinMap.{FinMap, get, insert, remove, entries, from_entries, from_sorted, find, put, is_sorted, entries_sorted, entries-insert, entries-from_sorted, get-from_sorted, get-entries, get-from_entries, get-insert, get-remove, get-empty, same_map, IsAntisymmetric, slice_cmp-IsAntisymmetric, nat_cmp-IsAntisymmetric}
 use Rattle.std.specs.FinMap.Entries.{by_order, below_all, find-put, find-where_key, where_key}
 use Rattle.dc_text.specs.Maps.{text_cmp, set_of}
 
@@ -128,3 +128,35 @@ set_of-push ts t = same_map nat_list_cmp_total exact_texts _ _ (λ q.
     let R : List ℕ → List ℕ → Bool = eq_by_cmp text_cmp in
     get-set_of (ts ++ t ∷ []) q ∙ ap (λ b. cond b here None) (any_push (R q) ts t) ∙ sym (one_or (R q t) (list_any (R q) ts))
     ∙ sym (get-insert nat_list_cmp_total (set_of ts) t tt q ∙ ap (cond (R q t) here) (get-set_of ts q)))
+
+-- ---- a map filled in order
+
+first : (a b : Bool) → T (a && b) → T a
+first true b p = tt
+first false b p = p
+
+second : (a b : Bool) → T (a && b) → T b
+second true b p = p
+second false b p = absurd p
+
+less : (o : Ordering) → T (is_lt o) → o ≡ Less
+less Less p = refl
+less Equal p = absurd p
+less Greater p = absurd p
+
+below_in : {X : Type 0} (j : List ℕ) (xs ys : List (List ℕ × X)) (k : List ℕ) (v : X) → T (below_all text_cmp j (xs ++ (k, v) ∷ ys)) → text_cmp j k ≡ Less
+below_in j [] ys k v h = less _ (first _ _ h)
+below_in j (x ∷ xs) ys k v h = below_in j xs ys k v (second _ _ h)
+
+-- an entry whose key is above all is put last
+pub put-last : {X : Type 0} (xs ys : List (List ℕ × X)) (k : List ℕ) (v : X) → T (is_sorted text_cmp (xs ++ (k, v) ∷ ys)) → put text_cmp k v xs ≡ xs ++ (k, v) ∷ []
+put-last [] ys k v h = refl
+put-last (x ∷ xs) ys k v h =
+    ap (λ o. by_order o ((k, v) ∷ x ∷ xs) ((x.0, v) ∷ xs) (x ∷ put text_cmp k v xs)) (nat_list_cmp_total.antisymm k x.0 ∙ ap ordering_reverse (below_in x.0 xs ys k v (first _ _ h)))
+    ∙ ap (λ l. x ∷ l) (put-last xs ys k v (second _ _ h))
+
+-- the entries of a map and those that come, when the first of them is inserted
+pub entries-filled : {X : Type 0} (m n : FinMap {K = List ℕ} text_cmp X) (rest : List (List ℕ × X)) (k : List ℕ) (v : X) → entries m ++ (k, v) ∷ rest ≡ entries n → entries (insert m k v) ++ rest ≡ entries n
+entries-filled m n rest k v is =
+    ap (λ es. es ++ rest) (entries-insert nat_list_cmp_total m k v ∙ put-last (entries m) rest k v (subst (λ es. T (is_sorted text_cmp es)) (sym is) (entries_sorted n)))
+    ∙ append_assoc (entries m) ((k, v) ∷ []) rest ∙ is

@@ -88,3 +88,16 @@ impl<V: Drop> TextMap<V> {
         }
     }
 }
+
+impl<V: Copied + Drop> TextMap<V> {
+    /// A map of copies.
+    pub fn copy(&self, alloc: Global) -> Mem<Self>
+        ensures { IfOk result (λ copy. copy ≡ self.now) }
+    {
+        let mut copy = TextMap::new(alloc);
+        for (key, value) in self.iter() {
+            copy.insert(Text::from_bytes(alloc, key)?, value.copied()?)?;
+        }
+        Ok(copy)
+    }
+}
