@@ -62,7 +62,8 @@ fn trim_start(bytes: &[u8]) -> &[u8]
     rest
 }
 
-fn trim_end(bytes: &[u8]) -> &[u8]
+/// The bytes without whitespace at the end.
+pub fn trim_end(bytes: &[u8]) -> &[u8]
     ensures { result.now ≡ drop_back is_space_of bytes.now }
 {
     let mut rest = bytes;

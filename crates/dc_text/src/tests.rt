@@ -1,7 +1,7 @@
 // The examples of the texts, as tables.
 use crate::{
-    FieldKey, FlagName, Line, Lines, List, Mem, Name, NameRefused, Text, TextMap, VarKey,
-    plain_words, settle, show_newlines,
+    FieldKey, FlagName, Line, Lines, List, Mem, Name, NameRefused, SmallMap, Text, TextMap, VarKey,
+    escape, plain_words, settle, show_newlines, unescape_words,
 };
 use std::alloc::Global;
 use std::test::Fail;
@@ -144,6 +144,25 @@ fn lines_have_words(rt: HostRuntime) -> Result<(), Fail> {
 }
 
 #[test]
+fn escaped_lines_have_words(rt: HostRuntime) -> Result<(), Fail> {
+    let alloc = rt.alloc();
+    for (line, words) in [
+        ("a\\ b c\\\\d", "a b|c\\d|"),
+        (" x\\ny\tz\\", "x\ny|z\\|"),
+        ("\\\\ \\\n", "\\|\n|"),
+        ("a\\ ", "a |"),
+        (" \t", ""),
+        ("", ""),
+    ] {
+        let read = unescape_words(alloc, line.as_bytes())?;
+        assert_eq!(rt; barred(alloc, &read)?.bytes(), words.as_bytes(), "{line:?}");
+    }
+    assert_eq!(rt; escape(alloc, b"a\\\n")?.bytes(), b"a\\\\\\n".as_slice());
+    assert_eq!(rt; escape(alloc, b"x y")?.bytes(), b"x y".as_slice());
+    Ok(())
+}
+
+#[test]
 fn lists_and_maps_hold_what_is_put(rt: HostRuntime) -> Result<(), Fail> {
     let alloc = rt.alloc();
     let mut list = List::new(alloc);
@@ -188,5 +207,75 @@ fn a_stream_has_lines(rt: HostRuntime) -> Result<(), Fail> {
         }
     }
     assert_eq!(rt; text.bytes(), b"a||".as_slice());
+    Ok(())
+}
+
+// The keys of the entries, with a bar after each.
+fn barred_keys<V>(alloc: Global, entries: &[(Text, V)]) -> Mem<Text> {
+    let mut text = Text::new(alloc);
+    for (key, _) in entries {
+        text.append(key.bytes())?;
+        text.push(b'|')?;
+    }
+    Ok(text)
+}
+
+#[test]
+fn a_small_map_holds_what_is_put(rt: HostRuntime) -> Result<(), Fail> {
+    let alloc = rt.alloc();
+    let mut map = SmallMap::new(alloc);
+    assert_eq!(rt; map.is_empty(), true);
+    for (key, value) in [("d", "4"), ("b", "2"), ("bb", "3"), ("", "0"), ("b", "5")] {
+        let value = Text::from_bytes(alloc, value.as_bytes())?;
+        map.insert(Text::from_bytes(alloc, key.as_bytes())?, value)?;
+    }
+    assert_eq!(rt; map.len(), 4);
+    assert_eq!(rt;
+        barred_keys(alloc, map.entries())?.bytes(),
+        b"|b|bb|d|".as_slice()
+    );
+    assert_eq!(rt;
+        map.get(b"b").map(|value| value.bytes()),
+        Some(b"5".as_slice())
+    );
+    assert_eq!(rt; map.contains(b"c"), false);
+    map.remove(b"c");
+    map.remove(b"bb");
+    let copy = map.copy(alloc)?;
+    assert_eq!(rt; copy.is_empty(), false);
+    assert_eq!(rt;
+        barred_keys(alloc, copy.entries())?.bytes(),
+        b"|b|d|".as_slice()
+    );
+    assert_eq!(rt;
+        copy.get(b"d").map(|value| value.bytes()),
+        Some(b"4".as_slice())
+    );
+    Ok(())
+}
+
+#[test]
+fn choices_are_split_and_joined(rt: HostRuntime) -> Result<(), Fail> {
+    let alloc = rt.alloc();
+    for (text, choices, joined) in [
+        ("a\\, b, c", "a, b|c|", "a\\, b, c"),
+        (" \n a,  \tb,c", "a|b,c|", "a, b\\,c"),
+        ("\\ a\\\\ , \\b,\n", " a\\ |\\b|", "\\ a\\\\ , \\b"),
+        ("a,", "a,|", "a\\,"),
+        (" , ", "", ""),
+        ("", "", ""),
+    ] {
+        let read = crate::split_choices(alloc, text.as_bytes())?;
+        assert_eq!(rt;
+            barred(alloc, &read)?.bytes(),
+            choices.as_bytes(),
+            "{text:?}"
+        );
+        assert_eq!(rt;
+            crate::join_choices(alloc, &read)?.bytes(),
+            joined.as_bytes(),
+            "{text:?}"
+        );
+    }
     Ok(())
 }
