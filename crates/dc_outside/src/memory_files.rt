@@ -1,6 +1,8 @@
 // Files in memory: what they hold is known, their faults are chosen, and they keep their calls.
-ghost use Rattle.std.specs.Prelude.{◌≡◌, ◌∷◌, ◌++◌, [], length, IfOk, OnErr, OnOk, Some, option_map};
-ghost use Rattle.dc_outside.specs.Disk.{File, file_at, bytes_at};
+ghost use Rattle.std.specs.Prelude.{◌≡◌, ◌↔◌, ◌∷◌, ◌++◌, ◌||◌, [], true, length, IsTrue, IfOk, OnErr, OnOk, Some, option_map, is_ok, is_none, if◌then◌else◌};
+ghost use Rattle.std.specs.Option.{option_copied};
+ghost use Rattle.std.specs.FinMap as map;
+ghost use Rattle.dc_outside.specs.Disk.{File, file_at, bytes_at, renamed, after_front, paths_below, Writes, Renames, Removes};
 ghost use Rattle.dc_outside.specs.Calls.{logged};
 ghost use Rattle.dc_outside.specs.Counts.{CountsFilesFaults, CountsFilesRefusals};
 ghost use Rattle.dc_outside.specs.Memory.{files_of, is_among, FilesFailsWhere};
@@ -101,6 +103,20 @@ impl MemFiles {
         self.calls.push(FilesCall { op, path, ok })
     }
 
+    // Fails a call that is one to fail.
+    fn begin(&mut self, op: FilesOp, path: &Text) -> Result<(), FilesError>
+        ensures fails { FilesFailsWhere (is_among self.old.failing (length self.old.calls)) result }
+        ensures ok { OnOk result (self.new ≡ self.old) }
+        ensures calls { OnErr result (Some self.new.calls ≡ logged (Some self.old.calls) op path.now result) }
+        ensures rest { self.new ≡ record self.old { calls = self.new.calls } }
+    {
+        if self.is_failing() {
+            self.log(op, path, false)?;
+            return Err(FilesError::Failed);
+        }
+        Ok(())
+    }
+
     // Counts a call by its answer.
     fn count<T>(&mut self, answer: Result<T, FilesError>) -> Result<T, FilesError>
         ensures answer { result ≡ answer }
@@ -126,20 +142,143 @@ impl MemFiles {
         }
     }
 
-    fn find(&mut self, path: &Text) -> Result<Option<Text>, FilesError>
+    // A copy of the file at the path.
+    fn file_at(&self, path: &Text) -> Mem<Option<Stored>>
+        ensures { IfOk result (λ found. found ≡ file_at self.now.disk path.now) }
+    {
+        match self.files.get(path.bytes()) {
+            Some(file) => Ok(Some(Stored {
+                bytes: file.bytes.copy()?,
+                mode: file.mode,
+            })),
+            None => Ok(None),
+        }
+    }
+
+    // The paths of the files below the folder.
+    fn paths_below(&self, dir: &Text) -> Mem<List<Text>>
+        ensures { IfOk result (λ found. found ≡ paths_below self.now.disk dir.now) }
+    {
+        let mut front = dir.copy()?;
+        front.push(b'/')?;
+        let mut found = List::new(self.alloc);
+        for (path, _) in self.files.iter() {
+            if let Some(rest) = after_front(path, front.bytes()) {
+                found.push(Text::from_bytes(self.alloc, rest)?)?;
+            }
+        }
+        Ok(found)
+    }
+
+    // Keeps a call that was done, and the file that it leaves.
+    fn store(&mut self, op: FilesOp, path: &Text, file: Stored) -> Mem<()>
+        ensures ok { OnOk result (self.new ≡ record self.old { disk = map.insert self.old.disk path.now file; calls = self.old.calls ++ record { op = op; path = path.now; ok = true } ∷ [] }) }
+        ensures err { OnErr result (self.new ≡ self.old) }
+    {
+        let place = path.copy()?;
+        self.log(op, path, true)?;
+        match self.files.insert(place, file) {
+            Ok(()) => Ok(()),
+            Err(error) => {
+                let _ = self.calls.pop();
+                Err(error)
+            }
+        }
+    }
+}
+
+// What the call adds to the calls, and to nothing else. `count` adds to the counts.
+impl MemFiles {
+    fn read_call(&mut self, path: &Text) -> Result<Option<Text>, FilesError>
         ensures value { IfOk result (λ found. found ≡ bytes_at self.old.disk path.now) }
         ensures fails { FilesFailsWhere (is_among self.old.failing (length self.old.calls)) result }
-        ensures rest { self.new ≡ record self.old { calls = self.new.calls } }
         ensures calls { Some self.new.calls ≡ logged (Some self.old.calls) FilesOp.Read path.now result }
+        ensures rest { self.new ≡ record self.old { calls = self.new.calls } }
     {
-        if self.is_failing() {
-            self.log(FilesOp::Read, path, false)?;
-            return Err(FilesError::Failed);
-        }
+        self.begin(FilesOp::Read, path)?;
         let found = self.bytes_at(path)?;
         self.log(FilesOp::Read, path, true)?;
         Ok(found)
     }
+
+    fn list_call(&mut self, dir: &Text) -> Result<List<Text>, FilesError>
+        ensures value { IfOk result (λ found. found ≡ paths_below self.old.disk dir.now) }
+        ensures fails { FilesFailsWhere (is_among self.old.failing (length self.old.calls)) result }
+        ensures calls { Some self.new.calls ≡ logged (Some self.old.calls) FilesOp.List dir.now result }
+        ensures rest { self.new ≡ record self.old { calls = self.new.calls } }
+    {
+        self.begin(FilesOp::List, dir)?;
+        let found = self.paths_below(dir)?;
+        self.log(FilesOp::List, dir, true)?;
+        Ok(found)
+    }
+
+    fn write_call(&mut self, path: &Text, bytes: &[u8], mode: u16) -> Result<(), FilesError>
+        ensures disk { self.new.disk ≡ (if is_ok result then map.insert self.old.disk path.now (record { bytes = bytes.now; mode = mode }) else self.old.disk) }
+        ensures fails { FilesFailsWhere (is_among self.old.failing (length self.old.calls)) result }
+        ensures calls { Some self.new.calls ≡ logged (Some self.old.calls) FilesOp.Write path.now result }
+        ensures rest { self.new ≡ record self.old { disk = self.new.disk; calls = self.new.calls } }
+    {
+        self.begin(FilesOp::Write, path)?;
+        let bytes = Text::from_bytes(self.alloc, bytes)?;
+        self.store(FilesOp::Write, path, Stored { bytes, mode })?;
+        Ok(())
+    }
+
+    fn sync_call(&mut self, op: FilesOp, path: &Text) -> Result<(), FilesError>
+        ensures fails { FilesFailsWhere (is_among self.old.failing (length self.old.calls)) result }
+        ensures calls { Some self.new.calls ≡ logged (Some self.old.calls) op path.now result }
+        ensures rest { self.new ≡ record self.old { calls = self.new.calls } }
+    {
+        self.begin(op, path)?;
+        self.log(op, path, true)?;
+        Ok(())
+    }
+
+    fn rename_call(&mut self, from: &Text, to: &Text) -> Result<(), FilesError>
+        ensures disk { self.new.disk ≡ (if is_ok result then renamed self.old.disk from.now to.now else self.old.disk) }
+        ensures fails { FilesFailsWhere (is_among self.old.failing (length self.old.calls) || is_none (file_at self.old.disk from.now)) result }
+        ensures calls { Some self.new.calls ≡ logged (Some self.old.calls) FilesOp.Rename to.now result }
+        ensures rest { self.new ≡ record self.old { disk = self.new.disk; calls = self.new.calls } }
+    {
+        self.begin(FilesOp::Rename, to)?;
+        match self.file_at(from)? {
+            Some(file) => self.store(FilesOp::Rename, to, file)?,
+            None => {
+                self.log(FilesOp::Rename, to, false)?;
+                return Err(FilesError::Failed);
+            }
+        }
+        if !are_equal(from, to) {
+            self.files.remove(from.bytes());
+        }
+        Ok(())
+    }
+
+    fn remove_call(&mut self, path: &Text) -> Result<(), FilesError>
+        ensures disk { self.new.disk ≡ (if is_ok result then map.remove self.old.disk path.now else self.old.disk) }
+        ensures fails { FilesFailsWhere (is_among self.old.failing (length self.old.calls)) result }
+        ensures calls { Some self.new.calls ≡ logged (Some self.old.calls) FilesOp.Remove path.now result }
+        ensures rest { self.new ≡ record self.old { disk = self.new.disk; calls = self.new.calls } }
+    {
+        self.begin(FilesOp::Remove, path)?;
+        self.log(FilesOp::Remove, path, true)?;
+        self.files.remove(path.bytes());
+        Ok(())
+    }
+}
+
+fn are_equal(one: &Text, other: &Text) -> bool
+    ensures { IsTrue result ↔ (one.now ≡ other.now) }
+{
+    one.bytes() == other.bytes()
+}
+
+// What follows the front in the text.
+fn after_front<'a>(text: &'a [u8], front: &[u8]) -> Option<&'a [u8]>
+    ensures { option_copied result ≡ after_front front.now text.now }
+{
+    text.strip_prefix(front)
 }
 
 // The files of the entries.
@@ -179,7 +318,91 @@ impl Files for MemFiles {
         ensures fails { FilesFailsWhere (is_among self.old.failing (length self.old.calls)) result }
         ensures failing { self.new.failing ≡ self.old.failing }
     {
-        let answer = self.find(path);
+        let answer = self.read_call(path);
+        self.count(answer)
+    }
+
+    fn list(&mut self, dir: &Text) -> Result<List<Text>, FilesError>
+        ensures value { IfOk result (λ found. found ≡ paths_below self.old.disk dir.now) }
+        ensures disk { Some self.new.disk ≡ Some self.old.disk }
+        ensures calls { Some self.new.calls ≡ logged (Some self.old.calls) FilesOp.List dir.now result }
+        ensures faults { CountsFilesFaults self.old.faults self.new.faults result }
+        ensures refusals { CountsFilesRefusals self.old.refusals self.new.refusals result }
+
+        ensures fails { FilesFailsWhere (is_among self.old.failing (length self.old.calls)) result }
+        ensures failing { self.new.failing ≡ self.old.failing }
+    {
+        let answer = self.list_call(dir);
+        self.count(answer)
+    }
+
+    fn write(&mut self, path: &Text, bytes: &[u8], mode: u16) -> Result<(), FilesError>
+        ensures disk { Writes (Some self.old.disk) (Some self.new.disk) path.now (record { bytes = bytes.now; mode = mode }) result }
+        ensures calls { Some self.new.calls ≡ logged (Some self.old.calls) FilesOp.Write path.now result }
+        ensures faults { CountsFilesFaults self.old.faults self.new.faults result }
+        ensures refusals { CountsFilesRefusals self.old.refusals self.new.refusals result }
+
+        ensures fails { FilesFailsWhere (is_among self.old.failing (length self.old.calls)) result }
+        ensures failing { self.new.failing ≡ self.old.failing }
+        ensures err { OnErr result (self.new.disk ≡ self.old.disk) }
+    {
+        let answer = self.write_call(path, bytes, mode);
+        self.count(answer)
+    }
+
+    fn sync(&mut self, path: &Text) -> Result<(), FilesError>
+        ensures disk { Some self.new.disk ≡ Some self.old.disk }
+        ensures calls { Some self.new.calls ≡ logged (Some self.old.calls) FilesOp.Sync path.now result }
+        ensures faults { CountsFilesFaults self.old.faults self.new.faults result }
+        ensures refusals { CountsFilesRefusals self.old.refusals self.new.refusals result }
+
+        ensures fails { FilesFailsWhere (is_among self.old.failing (length self.old.calls)) result }
+        ensures failing { self.new.failing ≡ self.old.failing }
+    {
+        let answer = self.sync_call(FilesOp::Sync, path);
+        self.count(answer)
+    }
+
+    // A file that isn't there can't be renamed.
+    fn rename(&mut self, from: &Text, to: &Text) -> Result<(), FilesError>
+        ensures disk { Renames (Some self.old.disk) (Some self.new.disk) from.now to.now result }
+        ensures calls { Some self.new.calls ≡ logged (Some self.old.calls) FilesOp.Rename to.now result }
+        ensures faults { CountsFilesFaults self.old.faults self.new.faults result }
+        ensures refusals { CountsFilesRefusals self.old.refusals self.new.refusals result }
+
+        ensures fails { FilesFailsWhere (is_among self.old.failing (length self.old.calls) || is_none (file_at self.old.disk from.now)) result }
+        ensures failing { self.new.failing ≡ self.old.failing }
+        ensures err { OnErr result (self.new.disk ≡ self.old.disk) }
+    {
+        let answer = self.rename_call(from, to);
+        self.count(answer)
+    }
+
+    fn sync_names(&mut self) -> Result<(), FilesError>
+        ensures disk { Some self.new.disk ≡ Some self.old.disk }
+        ensures calls { Some self.new.calls ≡ logged (Some self.old.calls) FilesOp.SyncNames [] result }
+        ensures faults { CountsFilesFaults self.old.faults self.new.faults result }
+        ensures refusals { CountsFilesRefusals self.old.refusals self.new.refusals result }
+
+        ensures fails { FilesFailsWhere (is_among self.old.failing (length self.old.calls)) result }
+        ensures failing { self.new.failing ≡ self.old.failing }
+    {
+        let no_path = Text::new(self.alloc);
+        let answer = self.sync_call(FilesOp::SyncNames, &no_path);
+        self.count(answer)
+    }
+
+    fn remove(&mut self, path: &Text) -> Result<(), FilesError>
+        ensures disk { Removes (Some self.old.disk) (Some self.new.disk) path.now result }
+        ensures calls { Some self.new.calls ≡ logged (Some self.old.calls) FilesOp.Remove path.now result }
+        ensures faults { CountsFilesFaults self.old.faults self.new.faults result }
+        ensures refusals { CountsFilesRefusals self.old.refusals self.new.refusals result }
+
+        ensures fails { FilesFailsWhere (is_among self.old.failing (length self.old.calls)) result }
+        ensures failing { self.new.failing ≡ self.old.failing }
+        ensures err { OnErr result (self.new.disk ≡ self.old.disk) }
+    {
+        let answer = self.remove_call(path);
         self.count(answer)
     }
 }

@@ -84,35 +84,112 @@ fn show_read(alloc: Global, answer: Result<Option<Text>, FilesError>) -> Mem<Tex
     }
 }
 
+// The answer of a call on a path, as text. A write leaves "y" with mode 600, and a rename puts the file at "d/q".
+fn answer_of(alloc: Global, files: &mut MemFiles, op: FilesOp, path: &Text) -> Mem<Text> {
+    let done = match op {
+        FilesOp::Read => return show_read(alloc, files.read(path)),
+        FilesOp::List => return show_paths(alloc, files.list(path)),
+        FilesOp::Write => files.write(path, b"y", 0o600),
+        FilesOp::Sync => files.sync(path),
+        FilesOp::Rename => files.rename(path, &text(alloc, "d/q")?),
+        FilesOp::SyncNames => files.sync_names(),
+        FilesOp::Remove => files.remove(path),
+    };
+    match done {
+        Ok(()) => text(alloc, "done"),
+        Err(FilesError::Failed) => text(alloc, "failed"),
+        Err(FilesError::OutOfMemory) => text(alloc, "no memory"),
+    }
+}
+
+// The paths, a bar after each.
+fn show_paths(alloc: Global, answer: Result<List<Text>, FilesError>) -> Mem<Text> {
+    let mut shown = Text::new(alloc);
+    match answer {
+        Ok(paths) => {
+            for path in paths.as_slice() {
+                shown.append(path.bytes())?;
+                shown.push(b'|')?;
+            }
+        }
+        Err(_) => shown.append(b"failed")?,
+    }
+    Ok(shown)
+}
+
+// Files with the paths and bytes, in which the calls of these numbers fail.
+fn make_files(alloc: Global, entries: &[(&str, &str)], failing: &[u64]) -> Mem<MemFiles> {
+    let mut listed = Vec::new(alloc);
+    for (path, bytes) in entries {
+        listed.push((text(alloc, path)?, text(alloc, bytes)?))?;
+    }
+    MemFiles::new(alloc, &listed, failing)
+}
+
 #[test]
-fn files_are_read(rt: HostRuntime) -> Result<(), Fail> {
+fn files_are_read_and_changed(rt: HostRuntime) -> Result<(), Fail> {
     let alloc = rt.alloc();
-    let entries = [
-        (text(alloc, "a")?, text(alloc, "old")?),
-        (text(alloc, "b")?, text(alloc, "other")?),
-        (text(alloc, "a")?, text(alloc, "new")?),
+    let entries = [("d/q", "old"), ("e", "other"), ("d/q", "x")];
+    let mut files = make_files(alloc, &entries, &[2, 3, 11])?;
+    let calls = [
+        (FilesOp::Read, "d/q", "x", 0o644),
+        (FilesOp::Read, "d", "none", 0o644),
+        (FilesOp::Read, "e", "failed", 0o644),
+        (FilesOp::Write, "d/q", "failed", 0o644),
+        (FilesOp::Write, "d/q-new", "done", 0o644),
+        (FilesOp::Sync, "d/q-new", "done", 0o644),
+        (FilesOp::List, "d", "q|q-new|", 0o644),
+        (FilesOp::Rename, "d/q-new", "done", 0o600),
+        (FilesOp::Rename, "d/q-new", "failed", 0o600),
+        (FilesOp::SyncNames, "", "done", 0o600),
+        (FilesOp::Read, "d/q", "y", 0o600),
+        (FilesOp::Remove, "d/q", "failed", 0o600),
+        (FilesOp::Remove, "d/q", "done", 0),
+        (FilesOp::Remove, "d/q", "done", 0),
+        (FilesOp::List, "d", "", 0),
     ];
-    let mut files = MemFiles::new(alloc, &entries, &[2])?;
-    for (path, answer) in [("a", "new"), ("c", "none"), ("b", "failed"), ("b", "other")] {
-        let read = files.read(&text(alloc, path)?);
+    let place = text(alloc, "d/q")?;
+    for (number, (op, path, answer, mode)) in calls.iter().enumerate() {
+        let given = answer_of(alloc, &mut files, *op, &text(alloc, path)?)?;
+        assert_eq!(rt; given.bytes(), answer.as_bytes(), "call {number}");
         assert_eq!(rt;
-            show_read(alloc, read)?.bytes(),
-            answer.as_bytes(),
-            "{path:?}"
+            files.mode(&place).unwrap_or(0),
+            *mode,
+            "after call {number}"
         );
     }
-    let calls = files.calls();
-    assert_eq!(rt; calls.len(), 4);
-    let ok = [true, true, false, true];
-    for (call, ok) in calls.as_slice().iter().zip(ok) {
-        assert_eq!(rt; call.op, FilesOp::Read);
-        assert_eq!(rt; call.ok, ok);
+    assert_eq!(rt; files.calls().len(), calls.len());
+    for (call, (op, path, answer, _)) in files.calls().as_slice().iter().zip(calls) {
+        assert_eq!(rt; call.op, op);
+        assert_eq!(rt; call.ok, answer != "failed");
+        let path = if op == FilesOp::Rename {
+            b"d/q".as_slice()
+        } else {
+            path.as_bytes()
+        };
+        assert_eq!(rt; call.path.bytes(), path);
     }
-    assert_eq!(rt;
-        calls.get(2).map(|call| call.path.bytes()),
-        Some(b"b".as_slice())
-    );
-    assert_eq!(rt; files.mode(&text(alloc, "a")?), Some(0o644));
-    assert_eq!(rt; files.mode(&text(alloc, "c")?), None);
+    Ok(())
+}
+
+#[test]
+fn files_below_a_folder_are_listed(rt: HostRuntime) -> Result<(), Fail> {
+    let alloc = rt.alloc();
+    let entries = [
+        ("d/b", ""),
+        ("d", ""),
+        ("da/x", ""),
+        ("d/a/c", ""),
+        ("d/a.x", ""),
+    ];
+    let mut files = make_files(alloc, &entries, &[])?;
+    for (folder, paths) in [("d", "a.x|a/c|b|"), ("d/a", "c|"), ("x", ""), ("da", "x|")] {
+        let answer = files.list(&text(alloc, folder)?);
+        assert_eq!(rt;
+            show_paths(alloc, answer)?.bytes(),
+            paths.as_bytes(),
+            "{folder:?}"
+        );
+    }
     Ok(())
 }
