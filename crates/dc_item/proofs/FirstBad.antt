@@ -1,6 +1,5 @@
 -- The first line that doesn't stand is the first bad line.
-use Rattle.std.proofs.Common.{◌≡◌, ℕ, zero, suc, ◌+◌, ◌-◌, ◌<◌, ◌≤◌, List, [], ◌∷◌, ◌++◌, length, take, drop, map, refl, sym, ap, ◌∙◌, subst, arith, length-append, append_assoc, inl, inr}
-use Rattle.std.specs.Prelude.{◌⊎◌}
+use Rattle.std.proofs.Common.{◌≡◌, ℕ, zero, suc, ◌+◌, ◌-◌, ◌<◌, List, [], ◌∷◌, ◌++◌, length, take, drop, map, refl, sym, ap, ◌∙◌, subst, arith, length-append, append_assoc, inl, inr}
 use Rattle.std.specs.List.{enumerate_from}
 use Rattle.std.proofs.lemmas.List.{take_at, take-append-drop, take-take, map-append, length-map}
 use Rattle.std.proofs.lemmas.List.FromFn.{length-enumerate_from}
@@ -9,7 +8,7 @@ use Rattle.dc_text.specs.Faults.{AllStand, IsFirstFault}
 use Rattle.dc_text.specs.Lines.{lines_of}
 use Rattle.dc_text.proofs.FaultLemmas.{not_in_nil}
 use Rattle.dc_item.specs.Grammar.{part_of}
-use Rattle.dc_item.specs.Records.{numbered, LineStands, ReadsLines, HasReading, IsBadAt, IsBad, records_of}
+use Rattle.dc_item.specs.Records.{numbered, LineStands, HasReading, IsBadAt, IsBad, records_of}
 use Rattle.dc_item.proofs.Groups.{Line}
 use Rattle.dc_item.specs.declared.part.Part.{Part}
 

@@ -1,8 +1,8 @@
 -- The lines of a text, parted into records, when one more line comes.
-use Rattle.std.proofs.Common.{◌≡◌, ℕ, Bool, true, false, cond, List, [], ◌∷◌, ◌++◌, map, None, Some, refl, sym, ap, ◌∙◌, append_assoc}
+use Rattle.std.proofs.Common.{◌≡◌, ℕ, Bool, true, false, cond, List, [], ◌∷◌, ◌++◌, None, refl, sym, ap, ◌∙◌, append_assoc}
 use Rattle.std.specs.Prelude.{◌||◌}
 use Rattle.std.specs.List.{list_any, filter_map, AllByRecursion, cons_option}
-use Rattle.std.proofs.lemmas.List.{map-append, append-nil}
+use Rattle.std.proofs.lemmas.List.{map-append}
 use Rattle.dc_item.specs.Records.{is_blank, until_blank, since_blank, name_in, item_of, parts_in, record_at, records_of}
 use Rattle.dc_item.specs.Table.{names_of}
 use Rattle.dc_item.specs.declared.part.Part.{Part}

@@ -1,19 +1,20 @@
 -- What an item keeps, when something is put into it, and owners in order.
 use Rattle.std.proofs.Common.{◌≡◌, ℕ, ◌+◌, ◌<◌, length, take, get_or, Bool, true, false, cond, List, [], ◌∷◌, ◌++◌, Some, None, Option, map as each, refl, sym, ap, ◌∙◌, subst}
-use Rattle.std.specs.Prelude.{is_some, ◌&&◌, ◌||◌}
-use Rattle.std.specs.List.{list_all, list_any}
-use Rattle.std.proofs.lemmas.List.{take_more}
+use Rattle.std.specs.Prelude.{is_some, not, ◌&&◌, ◌||◌}
+use Rattle.std.specs.List.{filter, list_all, list_any}
+use Rattle.std.proofs.lemmas.List.{take_more, append-nil}
 use Rattle.std.specs.declared.cmp.Ordering.{Ordering}
 use Rattle.std.specs.declared.cmp.Ordering.TheVariants.{Less, Equal, Greater}
 use Rattle.std.specs.Ordering.{eq_by_cmp, is_eq}
 use Rattle.std.specs.Cmp.Lexicographic.{nat_list_cmp_total}
-use Rattle.std.specs.FinMap.{get, insert, contains_key, empty, entries, keys, put, from_entries, get-empty, get-insert, entries-insert}
-use Rattle.std.specs.FinMap.Entries.{by_order}
+use Rattle.std.specs.FinMap.{get, insert, contains_key, empty, entries, keys, put, remove, retain_keys, from_entries, entries_sorted, same_map, contains_key-keys, get-empty, get-entries, get-from_entries, get-insert, get-remove, get-retain_keys, entries-insert}
+use Rattle.std.specs.FinMap.Entries.{by_order, where_key, find-where_key, is_sorted-where_key}
 use Rattle.dc_text.specs.Maps.{Texts, TextSet, set_of, text_cmp}
 use Rattle.dc_text.specs.Names.{is_name, is_field_key, is_flag_name, is_variable_key}
 use Rattle.dc_text.specs.Settled.{is_settled}
 use Rattle.dc_text.proofs.MapLemmas.{exact_texts, get-set_of, set_of-push, entries-in_order, from_entries-entries}
-use Rattle.dc_item.specs.Item.{Parts, IsItem, no_parts, selves}
+use Rattle.dc_item.specs.After.{without, left_of}
+use Rattle.dc_item.specs.Item.{IsItem, no_parts, selves}
 
 is_equal : (o : Ordering) → is_eq o ≡ true → o ≡ Equal
 is_equal Less e = absurd (cc)
@@ -128,15 +129,95 @@ set_of-firsts (e ∷ es) = ap (λ s. insert s e.0 tt) (set_of-firsts es)
 pub set_of-keys : (s : TextSet) → set_of (keys s) ≡ s
 set_of-keys s = set_of-firsts (entries s) ∙ from_entries-entries s
 
--- the members of a set that a list has
-pub set_of-is_keys : (os ns : List (List ℕ)) → os ≡ keys (set_of ns) → set_of os ≡ set_of ns
-set_of-is_keys os ns is = ap set_of is ∙ set_of-keys (set_of ns)
+-- the members of a set in a list
+pub set_of-is_keys : (os : List (List ℕ)) (t : TextSet) → os ≡ keys t → set_of os ≡ t
+set_of-is_keys os t is = ap set_of is ∙ set_of-keys t
 
-pub with_owners : (f v : Texts (List ℕ)) (s : TextSet) (os ps ns : List (List ℕ)) → Kept f s v os → ps ≡ keys (set_of ns) → list_all is_name ps ≡ true → Kept f s v ps
-with_owners f v s os ps ns kept is all = (
+pub with_owners : (f v : Texts (List ℕ)) (s t : TextSet) (os ps : List (List ℕ)) → Kept f s v os → ps ≡ keys t → list_all is_name ps ≡ true → Kept f s v ps
+with_owners f v s t os ps kept is all = (
   record { fields = kept.0.fields; flags = kept.0.flags; variables = kept.0.variables; owners = KeepsAll-set_of is_name ps all },
-  is ∙ ap keys (sym (set_of-is_keys ps ns is)),
+  is ∙ ap keys (sym (set_of-is_keys ps t is)),
 )
+
+-- ---- what is taken away
+
+Keeps-remove : (p q : List ℕ → Bool) (m : Texts (List ℕ)) (k : List ℕ) → Keeps p q m → Keeps p q (remove m k)
+Keeps-remove p q m k keeps key value e =
+    elim (eq_by_cmp text_cmp key k) as (λ b. cond b None (get m key) ≡ Some value → (p key ≡ true) × (q value ≡ true)) [
+      | true ↦ λ is. absurd (cc)
+      | false ↦ λ is. keeps key value is
+    ] (sym (get-remove nat_list_cmp_total m k key) ∙ e)
+
+pub without_field : (f g v : Texts (List ℕ)) (s : TextSet) (os : List (List ℕ)) (k : List ℕ) → Kept f s v os → g ≡ remove f k → Kept g s v os
+without_field f g v s os k kept is = (
+  record { fields = subst (Keeps is_field_key is_settled) (sym is) (Keeps-remove is_field_key is_settled f k kept.0.fields); flags = kept.0.flags; variables = kept.0.variables; owners = kept.0.owners },
+  kept.1,
+)
+
+KeepsAll-insert : (p : List ℕ → Bool) (s : TextSet) (k : List ℕ) → KeepsAll p s → p k ≡ true → KeepsAll p (insert s k tt)
+KeepsAll-insert p s k keeps pk text e =
+    elim (eq_by_cmp text_cmp text k) as (λ b. eq_by_cmp text_cmp text k ≡ b → is_some (cond b here (get s text)) ≡ true → p text ≡ true) [
+      | true ↦ λ t is. ap p (same_key text k t) ∙ pk
+      | false ↦ λ t is. keeps text is
+    ] refl (ap is_some (sym (get-insert nat_list_cmp_total s k tt text)) ∙ e)
+
+KeepsAll-remove : (p : List ℕ → Bool) (s : TextSet) (k : List ℕ) → KeepsAll p s → KeepsAll p (remove s k)
+KeepsAll-remove p s k keeps text e =
+    elim (eq_by_cmp text_cmp text k) as (λ b. is_some (cond b None (get s text)) ≡ true → p text ≡ true) [
+      | true ↦ λ is. absurd (cc)
+      | false ↦ λ is. keeps text is
+    ] (ap is_some (sym (get-remove nat_list_cmp_total s k text)) ∙ e)
+
+pub with_flag_set : (f v : Texts (List ℕ)) (s t : TextSet) (os : List (List ℕ)) (k : List ℕ) → Kept f s v os → t ≡ insert s k tt → is_flag_name k ≡ true → Kept f t v os
+with_flag_set f v s t os k kept is flag = (
+  record { fields = kept.0.fields; flags = subst (KeepsAll is_flag_name) (sym is) (KeepsAll-insert is_flag_name s k kept.0.flags flag); variables = kept.0.variables; owners = kept.0.owners },
+  kept.1,
+)
+
+pub with_flag_unset : (f v : Texts (List ℕ)) (s t : TextSet) (os : List (List ℕ)) (k : List ℕ) → Kept f s v os → t ≡ remove s k → Kept f t v os
+with_flag_unset f v s t os k kept is = (
+  record { fields = kept.0.fields; flags = subst (KeepsAll is_flag_name) (sym is) (KeepsAll-remove is_flag_name s k kept.0.flags); variables = kept.0.variables; owners = kept.0.owners },
+  kept.1,
+)
+
+-- ---- the members that pass
+
+filter-firsts : (p : List ℕ → Bool) (es : List (List ℕ × Unit {0})) → filter p (each (λ e. e.0) es) ≡ each (λ e. e.0) (where_key text_cmp p es)
+filter-firsts p [] = refl
+filter-firsts p (e ∷ es) = elim (p e.0) as (λ b. cond b (e.0 ∷ filter p (each (λ e. e.0) es)) (filter p (each (λ e. e.0) es)) ≡ each (λ (e : List ℕ × Unit {0}). e.0) (cond b (e ∷ where_key text_cmp p es) (where_key text_cmp p es))) [
+  | true ↦ ap (λ l. e.0 ∷ l) (filter-firsts p es)
+  | false ↦ filter-firsts p es
+]
+
+-- the members of a set that pass, in order
+pub keys-retain_keys : (s : TextSet) (p : List ℕ → Bool) → filter p (keys s) ≡ keys (retain_keys s p)
+keys-retain_keys s p =
+    let left : List (List ℕ × Unit {0}) = where_key text_cmp p (entries s) in
+    let alike : (q x : List ℕ) → text_cmp q x ≡ Equal → p x ≡ p q = λ q x t. ap p (sym (exact_texts q x t)) in
+    let made : from_entries {R = text_cmp} left ≡ retain_keys s p
+    = same_map nat_list_cmp_total exact_texts _ _ (λ q. get-from_entries nat_list_cmp_total left q ∙ find-where_key text_cmp p q (alike q) (entries s)
+    ∙ ap (λ o. cond (p q) o None) (sym (get-entries s q)) ∙ sym (get-retain_keys s p q (alike q))) in
+    filter-firsts p (entries s) ∙ ap (λ es. each (λ (e : List ℕ × Unit {0}). e.0) es) (sym (entries-in_order left (is_sorted-where_key text_cmp p (entries s) (entries_sorted s)))) ∙ ap keys made
+
+-- the owners that are left are those of the set without the names
+pub left_is : (os ns ps : List (List ℕ)) → os ≡ keys (set_of os) → ps ≡ left_of os ns → ps ≡ keys (without (set_of os) ns)
+left_is os ns ps sorted is = is ∙ ap (λ l. left_of l ns) sorted ∙ keys-retain_keys (set_of os) (λ owner. not (contains_key (set_of ns) owner))
+
+filter_push : (p : List ℕ → Bool) (xs : List (List ℕ)) (x : List ℕ) → filter p (xs ++ x ∷ []) ≡ filter p xs ++ cond (p x) (x ∷ []) []
+filter_push p [] x = refl
+filter_push p (y ∷ xs) x = elim (p y) as (λ b. cond b (y ∷ filter p (xs ++ x ∷ [])) (filter p (xs ++ x ∷ [])) ≡ cond b (y ∷ filter p xs) (filter p xs) ++ cond (p x) (x ∷ []) []) [
+  | true ↦ ap (λ l. y ∷ l) (filter_push p xs x)
+  | false ↦ filter_push p xs x
+]
+
+firsts-selves : (ks : List (List ℕ)) → each (λ e. e.0) (selves ks) ≡ ks
+firsts-selves [] = refl
+firsts-selves (k ∷ ks) = ap (λ l. k ∷ l) (firsts-selves ks)
+
+-- a map from names to themselves has what their set has
+pub held_has : (held : Texts (List ℕ)) (ns : List (List ℕ)) (q : List ℕ) → entries held ≡ selves (keys (set_of ns)) → contains_key held q ≡ contains_key (set_of ns) q
+held_has held ns q is =
+    contains_key-keys held q ∙ ap (list_any (eq_by_cmp text_cmp q)) (ap (each (λ (e : List ℕ × List ℕ). e.0)) is ∙ firsts-selves (keys (set_of ns))) ∙ sym (contains_key-keys (set_of ns) q)
 
 -- ---- a turn of the loop over texts
 
@@ -183,3 +264,24 @@ selves_turn ts items i x key value held new same h is copy again so_far put =
 pub second-seen : {Y X : Type 0} (f : Y → List ℕ) (es : List (Y × X)) → each (λ e. e.1) es ≡ each (λ (e : List ℕ × X). e.1) (each (λ e. (f e.0, e.1)) es)
 second-seen f [] = refl
 second-seen f (e ∷ es) = ap (λ l. e.1 ∷ l) (second-seen f es)
+
+-- ---- a turn of the loop over owners
+
+abbrev pub LeftTurn : List (List ℕ) → ℕ → List (List ℕ) → List (List ℕ) → Type 0
+LeftTurn owners i names new = (new ≡ left_of (take (i + 1) owners) names) × (list_all is_name new ≡ true)
+
+pub left_turn : (owners items names left new : List (List ℕ)) (i : ℕ) (x : List ℕ) (b : Bool) → items ≡ owners → i < length items → x ≡ get_or items i x → contains_key (set_of names) x ≡ b
+    → left ≡ left_of (take i owners) names → list_all is_name left ≡ true → new ≡ left ++ cond b [] (x ∷ []) → is_name x ≡ true → LeftTurn owners i names new
+left_turn owners items names left new i x b same h is has so_far all put name =
+    let p : List ℕ → Bool = λ owner. not (contains_key (set_of names) owner) in
+    let more : take (i + 1) owners ≡ take i owners ++ x ∷ [] = ap (take (i + 1)) (sym same) ∙ take_more items i x h ∙ (λ j. take i (same j) ++ sym is j ∷ []) in
+    let turned : cond (p x) (x ∷ []) [] ≡ cond b [] (x ∷ []) = ap (λ c. cond (not c) (x ∷ []) []) has ∙ flip b (x ∷ []) [] in (
+      put ∙ (λ j. so_far j ++ sym turned j) ∙ sym (filter_push p (take i owners) x) ∙ ap (filter p) (sym more),
+      ap (list_all is_name) put ∙ elim b as (λ c. list_all is_name (left ++ cond c [] (x ∷ [])) ≡ true) [
+        | true ↦ ap (list_all is_name) (append-nil left) ∙ all
+        | false ↦ list_all-push is_name left x all name
+      ],
+    ) where
+      flip : {A : Type 0} (c : Bool) (y z : A) → cond (not c) y z ≡ cond c z y
+      flip true y z = refl
+      flip false y z = refl

@@ -1,6 +1,11 @@
+pub mod AfterLemmas
 pub mod FirstBad
 pub mod Groups
 pub mod ItemLemmas
 pub mod OpenRecord
 pub mod PieceLemmas
+pub mod PrintedBytes
+pub mod PrintedParts
+pub mod PrintedText
+pub mod ReadTables
 pub mod ReaderLemmas

@@ -10,12 +10,12 @@ use Rattle.std.specs.List.{list_any, filter_map, AllByRecursion, cons_option}
 use Rattle.std.proofs.lemmas.List.{append-nil}
 use Rattle.std.proofs.lemmas.List.Elements.{filter_map-append}
 use Rattle.std.proofs.lemmas.Result.{MatchResult-at_ok, MatchResult-at_err}
-use Rattle.dc_text.specs.Faults.{AllStand, IsFirstFault, run}
+use Rattle.dc_text.specs.Faults.{AllStand, IsFirstFault}
 use Rattle.dc_text.specs.Lines.{lines_of}
 use Rattle.dc_text.specs.Maps.{set_of, text_cmp}
 use Rattle.dc_text.proofs.FaultLemmas.{run_finds}
 use Rattle.dc_text.proofs.MapLemmas.{set_of-push}
-use Rattle.dc_item.specs.Records.{is_blank, until_blank, since_blank, name_in, item_of, parts_in, records_of, numbered, Stands, LineStands, ReadsLines, HasReading, IsNew, IsNewName, IsAnswer, IsBad, EndsInVariables, OfOwners, OfFlags, OfVariables}
+use Rattle.dc_item.specs.Records.{is_blank, until_blank, since_blank, name_in, item_of, parts_in, records_of, numbered, Stands, LineStands, ReadsLines, HasReading, IsNew, IsAnswer, IsBad, EndsInVariables, OfOwners, OfFlags, OfVariables}
 use Rattle.dc_item.specs.Reader.{added, entry_of, closed, with_current, begun, step, at_start, taken_or, line_step, read_all, Fails}
 use Rattle.dc_item.specs.Table.{Apart, names_of}
 use Rattle.dc_item.proofs.FirstBad.{HasFault, bad_from_fault, reading_from_all}

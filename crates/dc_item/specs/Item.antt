@@ -3,7 +3,7 @@ use Rattle.std.specs.Prelude.{◌≡◌, ℕ, List, Some, true, refl, map as eac
 use Rattle.std.specs.Coded.{Coded, code_by, coded×, coded_ℕ, coded_list}
 use base.Stored.{coded_unit}
 use Rattle.std.specs.FinMap as map
-use Rattle.dc_text.specs.Maps.{Texts, TextSet, text_cmp}
+use Rattle.dc_text.specs.Maps.{Texts, TextSet}
 use Rattle.dc_text.specs.Names.{is_name, is_field_key, is_flag_name, is_variable_key}
 use Rattle.dc_text.specs.Settled.{is_settled}
 

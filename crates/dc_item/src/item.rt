@@ -5,10 +5,11 @@ ghost use Rattle.std.specs.FinMap as map;
 ghost use Rattle.std.specs.Option.{option_copied};
 ghost use Rattle.dc_text.specs.Maps.{set_of};
 ghost use Rattle.dc_text.specs.Names.{is_flag_name};
+ghost use Rattle.dc_item.specs.After.{with_flag, without};
 ghost use Rattle.dc_item.specs.Item.{no_parts, IsItem};
 
-use crate::owners::in_order;
-use dc_text::{FieldKey, FlagName, List, Mem, Name, Settled, TextMap, VarKey};
+use crate::owners::{in_order, in_order_without};
+use dc_text::{FieldKey, FlagName, List, Mem, Name, Settled, SmallMap, VarKey};
 use std::alloc::Global;
 use std::marker::Model;
 
@@ -16,9 +17,9 @@ use std::marker::Model;
 #[derive(Drop)]
 pub struct Item {
     alloc: Global,
-    fields: TextMap<Settled>,
-    flags: TextMap<()>,
-    variables: TextMap<Settled>,
+    fields: SmallMap<Settled>,
+    flags: SmallMap<()>,
+    variables: SmallMap<Settled>,
     owners: List<Name>,
 }
 
@@ -45,9 +46,9 @@ impl Item {
     {
         Item {
             alloc,
-            fields: TextMap::new(alloc),
-            flags: TextMap::new(alloc),
-            variables: TextMap::new(alloc),
+            fields: SmallMap::new(alloc),
+            flags: SmallMap::new(alloc),
+            variables: SmallMap::new(alloc),
             owners: List::new(alloc),
         }
     }
@@ -81,6 +82,25 @@ impl Item {
         &self.owners
     }
 
+    pub(crate) fn fields(&self) -> &SmallMap<Settled>
+        ensures { result.now ≡ self.now.fields }
+    {
+        &self.fields
+    }
+
+    pub(crate) fn flags(&self) -> &SmallMap<()>
+        ensures { result.now ≡ self.now.flags }
+    {
+        &self.flags
+    }
+
+    /// The variables, which texts of the template may refer to.
+    pub fn variables(&self) -> &SmallMap<Settled>
+        ensures { result.now ≡ self.now.variables }
+    {
+        &self.variables
+    }
+
     /// An item that is equal to this one.
     pub fn copy(&self) -> Mem<Self>
         ensures { IfOk result (λ copy. copy ≡ self.now) }
@@ -96,6 +116,16 @@ impl Item {
             variables,
             owners,
         })
+    }
+
+    /// The item without this field and this flag.
+    pub fn without(&self, field: &[u8], flag: &[u8]) -> Mem<Item>
+        ensures { IfOk result (λ item. item ≡ record self.now { fields = map.remove self.now.fields field.now; flags = map.remove self.now.flags flag.now }) }
+    {
+        let mut item = self.copy()?;
+        item.drop_field(field);
+        item.drop_flag(flag);
+        Ok(item)
     }
 
     // Puts the field, in the place of one with its key.
@@ -118,6 +148,53 @@ impl Item {
         Ok(())
     }
 
+    // Takes the field away, if the item has it.
+    pub(crate) fn drop_field(&mut self, key: &[u8])
+        ensures { self.new ≡ record self.old { fields = map.remove self.old.fields key.now } }
+    {
+        self.fields.remove(key);
+    }
+
+    // Makes the flag false.
+    pub(crate) fn drop_flag(&mut self, flag: &[u8])
+        ensures { self.new ≡ record self.old { flags = map.remove self.old.flags flag.now } }
+    {
+        self.flags.remove(flag);
+    }
+
+    // Makes the flag true, or not.
+    pub(crate) fn set_flag(&mut self, flag: &FlagName, is_set: bool) -> Mem<()>
+        ensures ok { OnOk result (self.new ≡ record self.old { flags = with_flag self.old.flags flag.now is_set }) }
+        ensures err { OnErr result (self.new ≡ self.old) }
+    {
+        if is_set {
+            self.flags.insert(flag.copy()?.into_text(), ())?;
+        } else {
+            self.flags.remove(flag.bytes());
+        }
+        Ok(())
+    }
+
+    // Adds the owner, if it isn't there.
+    pub(crate) fn add_owner(&mut self, owner: &Name) -> Mem<()>
+        ensures ok { OnOk result (self.new ≡ record self.old { owners = map.insert self.old.owners owner.now tt }) }
+        ensures err { OnErr result (self.new ≡ self.old) }
+    {
+        let mut names = self.owners.copy(self.alloc)?;
+        names.push(owner.copy()?)?;
+        self.put_owners(&names)?;
+        Ok(())
+    }
+
+    // Takes away the owners that the list names.
+    pub(crate) fn drop_owners(&mut self, names: &List<Name>) -> Mem<()>
+        ensures ok { OnOk result (self.new ≡ record self.old { owners = without self.old.owners names.now }) }
+        ensures err { OnErr result (self.new ≡ self.old) }
+    {
+        self.owners = in_order_without(self.alloc, &self.owners, names)?;
+        Ok(())
+    }
+
     // Makes these the flags that are true.
     pub(crate) fn put_flags(&mut self, flags: &List<FlagName>) -> Mem<()>
         ensures ok { OnOk result (self.new ≡ record self.old { flags = set_of flags.now }) }
@@ -137,11 +214,11 @@ impl Item {
     }
 }
 
-fn set_of_flags(alloc: Global, flags: &List<FlagName>) -> Mem<TextMap<()>>
+fn set_of_flags(alloc: Global, flags: &List<FlagName>) -> Mem<SmallMap<()>>
     ensures value { IfOk result (λ set. set ≡ set_of flags.now) }
     ensures flags { IfOk result (λ set. list_all is_flag_name flags.now ≡ true) }
 {
-    let mut set = TextMap::new(alloc);
+    let mut set = SmallMap::new(alloc);
     for flag in flags.as_slice() {
         set.insert(flag.copy()?.into_text(), ())?;
     }

@@ -4,14 +4,19 @@
 pub mod entry;
 pub mod item;
 pub mod laws;
-pub mod owners;
-pub mod part;
-pub mod reader;
-pub mod reading;
+pub mod op;
+mod owners;
+mod part;
+mod printing;
+mod reader;
+mod reading;
 pub mod records;
+mod same;
 
 pub use entry::Entry;
 pub use item::Item;
+pub use op::{After, Op};
+pub use printing::{print_records, print_table};
 pub use records::{RecordError, read_records};
 
 #[cfg(test)]

@@ -4,7 +4,7 @@ ghost use Rattle.std.specs.Prelude.{◌≡◌, IfOk, OnOk, None, Some, if◌then
 use crate::entry::Entry;
 use crate::item::Item;
 use crate::part::Part;
-use dc_text::{List, Mem, Name, TextMap};
+use dc_text::{FieldKey, FlagName, List, Mem, Name, Settled, TextMap, VarKey};
 use std::alloc::Global;
 
 /// A record of which some lines were read.
@@ -42,49 +42,69 @@ impl Open {
         ensures { IfOk result (λ stands. added self.old part ≡ (if stands then Some self.new else None)) }
     {
         match part {
-            Part::Field(key, value) => {
-                if self.item.field(key.bytes()).is_some() {
-                    return Ok(false);
-                }
-                self.item.put_field(key, value)?;
-                self.in_variables = false;
-                Ok(true)
-            }
-            Part::Owners(names) => {
-                if self.has_owners {
-                    return Ok(false);
-                }
-                self.item.put_owners(&names)?;
-                self.has_owners = true;
-                self.in_variables = false;
-                Ok(true)
-            }
-            Part::Flags(flags) => {
-                if self.has_flags {
-                    return Ok(false);
-                }
-                self.item.put_flags(&flags)?;
-                self.has_flags = true;
-                self.in_variables = false;
-                Ok(true)
-            }
-            Part::Variables => {
-                if self.has_variables {
-                    return Ok(false);
-                }
-                self.has_variables = true;
-                self.in_variables = true;
-                Ok(true)
-            }
-            Part::Variable(key, value) => {
-                if !self.in_variables || self.item.var(key.bytes()).is_some() {
-                    return Ok(false);
-                }
-                self.item.put_variable(key, value)?;
-                Ok(true)
-            }
+            Part::Field(key, value) => self.add_field(key, value),
+            Part::Owners(names) => self.add_owners(&names),
+            Part::Flags(flags) => self.add_flags(&flags),
+            Part::Variables => Ok(self.begin_variables()),
+            Part::Variable(key, value) => self.add_variable(key, value),
             _ => Ok(false),
         }
+    }
+
+    fn add_field(&mut self, key: FieldKey, value: Settled) -> Mem<bool>
+        ensures { IfOk result (λ stands. added self.old (Part.Field key value) ≡ (if stands then Some self.new else None)) }
+    {
+        if self.item.field(key.bytes()).is_some() {
+            return Ok(false);
+        }
+        self.item.put_field(key, value)?;
+        self.in_variables = false;
+        Ok(true)
+    }
+
+    fn add_owners(&mut self, names: &List<Name>) -> Mem<bool>
+        ensures { IfOk result (λ stands. added self.old (Part.Owners names.now) ≡ (if stands then Some self.new else None)) }
+    {
+        if self.has_owners {
+            return Ok(false);
+        }
+        self.item.put_owners(names)?;
+        self.has_owners = true;
+        self.in_variables = false;
+        Ok(true)
+    }
+
+    fn add_flags(&mut self, flags: &List<FlagName>) -> Mem<bool>
+        ensures { IfOk result (λ stands. added self.old (Part.Flags flags.now) ≡ (if stands then Some self.new else None)) }
+    {
+        if self.has_flags {
+            return Ok(false);
+        }
+        self.item.put_flags(flags)?;
+        self.has_flags = true;
+        self.in_variables = false;
+        Ok(true)
+    }
+
+    fn begin_variables(&mut self) -> bool
+        ensures { added self.old Part.Variables ≡ (if result then Some self.new else None) }
+    {
+        if self.has_variables {
+            return false;
+        }
+        self.has_variables = true;
+        self.in_variables = true;
+        true
+    }
+
+    fn add_variable(&mut self, key: VarKey, value: Settled) -> Mem<bool>
+        ensures { IfOk result (λ stands. added self.old (Part.Variable key value) ≡ (if stands then Some self.new else None)) }
+    {
+        if !self.in_variables || self.item.var(key.bytes()).is_some() {
+            return Ok(false);
+        }
+        self.item.put_variable(key, value)?;
+        Ok(true)
     }
 }
 

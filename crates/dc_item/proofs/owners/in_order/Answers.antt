@@ -1,4 +1,4 @@
-use Rattle.std.proofs.Common.{ap, ◌∙◌, ◌++◌, refl, map as each}
+use Rattle.std.proofs.Common.{ap, ◌∙◌, ◌++◌, map as each}
 use Rattle.std.specs.List.{list_all}
 use Rattle.dc_text.specs.Names.{is_name}
 use Rattle.dc_item.proofs.ItemLemmas.{second-selves, second-seen}
