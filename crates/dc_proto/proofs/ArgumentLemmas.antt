@@ -1,0 +1,60 @@
+-- Commands with a wrong number of arguments.
+use Rattle.std.proofs.Common.{◌≡◌, ◌≤◌, ◌<◌, ℕ, List, [], ◌∷◌, length, refl, arith}
+use Rattle.dc_proto.specs.Commands.{get, reset, subst, fget, fset, metaget}
+use Rattle.dc_proto.specs.Replies.{wrong_number}
+use Rattle.dc_proto.specs.declared.command.Heard.TheVariants.{Refused}
+
+pub get_long : (arguments : List (List ℕ)) → 2 ≤ length arguments → get arguments ≡ Refused wrong_number
+get_long [] long = absurd (omega arith)
+get_long (question ∷ []) long = absurd (omega arith)
+get_long (question ∷ more ∷ arguments) long = refl
+
+pub reset_long : (arguments : List (List ℕ)) → 2 ≤ length arguments → reset arguments ≡ Refused wrong_number
+reset_long [] long = absurd (omega arith)
+reset_long (question ∷ []) long = absurd (omega arith)
+reset_long (question ∷ more ∷ arguments) long = refl
+
+pub subst_one : (arguments : List (List ℕ)) → 1 ≤ length arguments → length arguments < 2 → subst arguments ≡ Refused wrong_number
+subst_one [] least below = absurd (omega arith)
+subst_one (question ∷ []) least below = refl
+subst_one (question ∷ more ∷ arguments) least below = absurd (omega arith)
+
+pub fget_one : (arguments : List (List ℕ)) → 1 ≤ length arguments → length arguments < 2 → fget arguments ≡ Refused wrong_number
+fget_one [] least below = absurd (omega arith)
+fget_one (question ∷ []) least below = refl
+fget_one (question ∷ more ∷ arguments) least below = absurd (omega arith)
+
+pub fget_long : (arguments : List (List ℕ)) → 3 ≤ length arguments → fget arguments ≡ Refused wrong_number
+fget_long [] long = absurd (omega arith)
+fget_long (question ∷ []) long = absurd (omega arith)
+fget_long (question ∷ flag ∷ []) long = absurd (omega arith)
+fget_long (question ∷ flag ∷ more ∷ arguments) long = refl
+
+pub fset_one : (arguments : List (List ℕ)) → 1 ≤ length arguments → length arguments < 2 → fset arguments ≡ Refused wrong_number
+fset_one [] least below = absurd (omega arith)
+fset_one (question ∷ []) least below = refl
+fset_one (question ∷ more ∷ arguments) least below = absurd (omega arith)
+
+pub fset_two : (arguments : List (List ℕ)) → 2 ≤ length arguments → length arguments < 3 → fset arguments ≡ Refused wrong_number
+fset_two [] least below = absurd (omega arith)
+fset_two (question ∷ []) least below = absurd (omega arith)
+fset_two (question ∷ flag ∷ []) least below = refl
+fset_two (question ∷ flag ∷ more ∷ arguments) least below = absurd (omega arith)
+
+pub fset_long : (arguments : List (List ℕ)) → 4 ≤ length arguments → fset arguments ≡ Refused wrong_number
+fset_long [] long = absurd (omega arith)
+fset_long (question ∷ []) long = absurd (omega arith)
+fset_long (question ∷ flag ∷ []) long = absurd (omega arith)
+fset_long (question ∷ flag ∷ value ∷ []) long = absurd (omega arith)
+fset_long (question ∷ flag ∷ value ∷ more ∷ arguments) long = refl
+
+pub metaget_one : (arguments : List (List ℕ)) → 1 ≤ length arguments → length arguments < 2 → metaget arguments ≡ Refused wrong_number
+metaget_one [] least below = absurd (omega arith)
+metaget_one (question ∷ []) least below = refl
+metaget_one (question ∷ more ∷ arguments) least below = absurd (omega arith)
+
+pub metaget_long : (arguments : List (List ℕ)) → 3 ≤ length arguments → metaget arguments ≡ Refused wrong_number
+metaget_long [] long = absurd (omega arith)
+metaget_long (question ∷ []) long = absurd (omega arith)
+metaget_long (question ∷ field ∷ []) long = absurd (omega arith)
+metaget_long (question ∷ field ∷ more ∷ arguments) long = refl
