@@ -1,0 +1,16 @@
+pub mod CheckLemmas
+pub mod ExpansionLemmas
+pub mod FaultLaws
+pub mod FieldLemmas
+pub mod FormLemmas
+pub mod KeyLemmas
+pub mod PrintLemmas
+pub mod PrintedFields
+pub mod PrintedForms
+pub mod PrintedLines
+pub mod ReadAgain
+pub mod RowLemmas
+pub mod SoundLemmas
+pub mod StanzaLemmas
+pub mod TestLemmas
+pub mod TrimLemmas

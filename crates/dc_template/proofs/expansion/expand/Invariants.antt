@@ -1,0 +1,9 @@
+use Rattle.std.proofs.Common.{◌≡◌, ◌++◌, length}
+use Rattle.dc_template.specs.Expansion.{expanded}
+use Rattle.dc_template.proofs.expansion.expand.Given as goal
+
+abbrev pub invariant-loop-front : goal.invariant-loop-front
+invariant-loop-front l = l.out ++ expanded l.variables l.rest ≡ expanded l.variables l.text
+
+abbrev pub decreases-loop-front : goal.decreases-loop-front
+decreases-loop-front l = length l.rest

@@ -1,0 +1,9 @@
+pub mod Expansion
+pub mod Forms
+pub mod Kinds
+pub mod Languages
+pub mod Machine
+pub mod Printed
+pub mod Reading
+pub mod Stanzas
+pub mod TemplateFaults

@@ -1,0 +1,62 @@
+// Variables in the text of a field.
+ghost use Rattle.std.specs.Prelude.{◌≡◌, ◌∷◌, ◌++◌, [], OnOk, IfOk, false};
+ghost use Rattle.dc_template.specs.Expansion.{opens as opens_of, closes, value_of, expanded};
+
+use dc_text::bytes::split_at_byte;
+use dc_text::{Mem, Settled, SmallMap, Text};
+use std::alloc::Global;
+
+/// The text with its references replaced, from left to right: `${K}` by the variable K, or by nothing where it is unset,
+/// and `\${K}` by `${K}`. K reaches to the next `}`; without one the bytes stay. What is put in isn't read again.
+pub fn expand(alloc: Global, text: &[u8], variables: &SmallMap<Settled>) -> Mem<Text>
+    ensures { IfOk result (λ out. out ≡ expanded variables.now text.now) }
+{
+    let mut out = Text::new(alloc);
+    let mut rest = text;
+    while let Some((front, after)) = split_at_byte(rest, b'}') {
+        append_expanded(&mut out, front, variables)?;
+        rest = after;
+    }
+    out.append(rest)?;
+    Ok(out)
+}
+
+// Appends what a text without a `}` is replaced by where a `}` follows it.
+fn append_expanded(out: &mut Text, front: &[u8], variables: &SmallMap<Settled>) -> Mem<()>
+    requires { closes front.now ≡ false }
+    ensures { OnOk result (out.new ≡ out.old ++ expanded variables.now (front.now ++ 125 ∷ [])) }
+{
+    let mut rest = front;
+    while let [first, tail @ ..] = rest {
+        if opens(rest) {
+            return append_value(out, &rest[2..], variables);
+        }
+        if *first == b'\\' && opens(tail) {
+            out.append(tail)?;
+            break;
+        }
+        out.push(*first)?;
+        rest = tail;
+    }
+    out.push(b'}')
+}
+
+// Appends the value of a variable, where it is set.
+fn append_value(out: &mut Text, key: &[u8], variables: &SmallMap<Settled>) -> Mem<()>
+    ensures { OnOk result (out.new ≡ out.old ++ value_of variables.now key.now) }
+{
+    match variables.get(key) {
+        Some(value) => out.append(value.bytes()),
+        None => Ok(()),
+    }
+}
+
+// Whether the bytes begin with `${`.
+fn opens(bytes: &[u8]) -> bool
+    ensures { result ≡ opens_of bytes.now }
+{
+    match bytes {
+        [first, next, ..] => *first == b'$' && *next == b'{',
+        _ => false,
+    }
+}
