@@ -1,0 +1,63 @@
+// The template, kind and value of a question.
+ghost use Rattle.std.specs.Prelude.{◌≡◌, [], IfOk, unwrap_or};
+ghost use Rattle.std.specs.Option.{option_copied};
+ghost use Rattle.dc_question.specs.Readings.{template_of as template_of_table, kind_by, default_of, value_of};
+
+use crate::fields::{known_key, localised};
+use dc_item::Item;
+use dc_template::Kind;
+use dc_text::{Mem, Text, TextMap};
+use std::alloc::Global;
+
+/// The template of a question: the item that its field `template` names.
+pub fn template_of<'t>(templates: &'t TextMap<Item>, question: &Item) -> Option<&'t Item>
+    ensures { option_copied result ≡ template_of_table templates.now question.now }
+{
+    match question.field(b"template") {
+        None => None,
+        Some(name) => templates.get(name.bytes()),
+    }
+}
+
+/// The kind of a question with this template: `None` without a template, or where its `type` is no kind's word.
+pub fn kind(template: Option<&Item>) -> Option<Kind>
+    ensures { result ≡ kind_by (option_copied template.entry) }
+{
+    match template {
+        None => None,
+        Some(item) => kind_of_item(item),
+    }
+}
+
+fn kind_of_item(template: &Item) -> Option<Kind>
+    ensures { result ≡ kind_by (Some template.now) }
+{
+    match template.field(b"type") {
+        None => None,
+        Some(word) => Kind::read(word.bytes()),
+    }
+}
+
+/// The value of a question with this template: its own, else the template's default in the user's language, else the
+/// empty text.
+pub fn value(alloc: Global, lang: &[u8], question: &Item, template: Option<&Item>) -> Mem<Text>
+    ensures { IfOk result (λ value. value ≡ value_of lang.now question.now (option_copied template.entry)) }
+{
+    if let Some(value) = question.field(b"value") {
+        return Text::from_bytes(alloc, value.bytes());
+    }
+    match template {
+        None => Ok(Text::new(alloc)),
+        Some(item) => default_value(alloc, lang, item),
+    }
+}
+
+fn default_value(alloc: Global, lang: &[u8], template: &Item) -> Mem<Text>
+    ensures { IfOk result (λ value. value ≡ unwrap_or (default_of lang.now (Some template.now)) []) }
+{
+    let key = known_key(alloc, b"default")?;
+    match localised(alloc, lang, template, &key)? {
+        None => Ok(Text::new(alloc)),
+        Some(value) => Text::from_bytes(alloc, value.bytes()),
+    }
+}
