@@ -1,10 +1,11 @@
 -- What the machine answers to lines that follow others.
 use Rattle.std.proofs.Common.{◌≡◌, ℕ, Bool, true, false, ◌||◌, List, [], ◌∷◌, ◌++◌, refl, ap, sym, ◌∙◌}
 use Rattle.dc_text.specs.declared.stream.Line.{Line}
-use Rattle.dc_run.specs.declared.reply.Reply.{Reply}
+use Rattle.dc_proto.specs.declared.reply.Reply.{Reply}
 use Rattle.dc_run.specs.declared.session.Stepped.{Stepped}
 use Rattle.dc_run.specs.declared.session.Stepped.TheVariants.{Silent, Replied, Stopped}
-use Rattle.dc_run.specs.Machine.{State, answer, next, unless_stopped, add_reply, is_stop, replies, stops, after, last_code_from}
+use Rattle.dc_run.specs.State.{State}
+use Rattle.dc_run.specs.Machine.{answer, next, unless_stopped, add_reply, is_stop, replies, stops, after, last_code_from}
 
 pub last_code_from-append : (code : ℕ) (a b : List Reply) → last_code_from code (a ++ b) ≡ last_code_from (last_code_from code a) b
 last_code_from-append code [] b = refl

@@ -4,5 +4,7 @@ pub mod Talks
 pub mod Progress
 pub mod Teeth
 pub mod ToolLemmas
-pub mod CommandLemmas
 pub mod RunningLemmas
+pub mod SavingLemmas
+pub mod MachineLaws
+pub mod LoadingLemmas

@@ -9,11 +9,12 @@ use Rattle.dc_text.proofs.Parts.{whole_lines-append, rest_of-append}
 use Rattle.dc_outside.specs.declared.link.Piece.{Piece}
 use Rattle.dc_outside.specs.declared.link.Piece.TheVariants.{Got, Cut, Lost}
 use Rattle.dc_outside.specs.Talk.{told, got}
-use Rattle.dc_run.specs.declared.reply.Reply.{Reply}
+use Rattle.dc_proto.specs.declared.reply.Reply.{Reply}
 use Rattle.dc_run.specs.declared.outcome.LinkEnd.TheVariants as end
 use Rattle.dc_run.specs.declared.outcome.Served.{Served}
 use Rattle.dc_run.specs.declared.outcome.Served.TheVariants.{On, Stopped, Failed, OutOfMemory}
-use Rattle.dc_run.specs.Machine.{State, replies}
+use Rattle.dc_run.specs.State.{State}
+use Rattle.dc_run.specs.Machine.{replies}
 use Rattle.dc_run.specs.Serving.{sent, said, Goes, Serves, HasServed}
 use Rattle.dc_run.specs.Step.{IsCaughtUp, InStep}
 use Rattle.dc_run.specs.Ends.{link_end_of}

@@ -1,15 +1,72 @@
--- A run over a loaded table.
-use Rattle.std.proofs.Common.{◌≡◌, ℕ, List, Option, inr}
-use Rattle.dc_outside.specs.Disk.{Disk}
-use Rattle.dc_outside.specs.declared.link.Piece.{Piece}
+-- The end of a run, from how it was loaded, served and saved.
+use Rattle.std.proofs.Common.{◌≡◌, inl, inr, ℕ, true, List, Option, Result, Ok, Err, refl, sym, ap, ◌∙◌, subst}
+use Rattle.dc_run.specs.declared.loading.Database.{Database}
+use Rattle.dc_run.specs.declared.outcome.End.{End}
+use Rattle.dc_run.specs.declared.outcome.End.TheVariants as end
 use Rattle.dc_run.specs.declared.outcome.LinkEnd.{LinkEnd}
-use Rattle.dc_run.specs.declared.outcome.LinkEnd.TheVariants.{Done, LinkFault, TooLong, OutOfMemory}
-use Rattle.dc_run.specs.Ends.{end_of}
-use Rattle.dc_run.specs.Headline.{HasCommunicated, IsSession}
+use Rattle.dc_run.specs.declared.outcome.LinkEnd.TheVariants as link
+use Rattle.dc_run.specs.Finishing.{Finishes, IsSaved, IsUnwritten, IsWithoutMemory}
+use Rattle.dc_run.specs.Headline.{Surroundings, begun, IsSession, IsEnded, IsFinished, IsUnsaved, IsSilent, HasCommunicated}
+use Rattle.dc_run.specs.Loading.{LoadsDatabase}
+use Rattle.dc_run.specs.Run.{HasRun}
+use Rattle.dc_run.specs.Saving.{Told}
+use Rattle.dc_run.specs.State.{State, loaded}
 
-pub communicated : (path : List ℕ) (disk : Option Disk) (talk new_talk : Option (List Piece)) (input left : Option (List ℕ)) (end : LinkEnd) (code : ℕ)
-    → IsSession path disk talk new_talk input left end code → HasCommunicated path disk talk new_talk input left (end_of end) code
-communicated path disk talk new_talk input left Done code session = session
-communicated path disk talk new_talk input left LinkFault code session = session
-communicated path disk talk new_talk input left TooLong code session = session
-communicated path disk talk new_talk input left OutOfMemory code session = inr session
+-- the run ends before a session
+pub not_loaded : (path lang : List ℕ) (old new : Surroundings) (how : End) → LoadsDatabase old.files new.files path (Err how) → IsSilent old new 0
+    → HasCommunicated path lang old new how 0
+not_loaded path lang old new end.Done loads silent = absurd loads
+not_loaded path lang old new (end.Usage word) loads silent = absurd loads
+not_loaded path lang old new (end.Damaged damaged line) loads silent = (silent, loads)
+not_loaded path lang old new (end.FilesFault failed) loads silent = inl (silent, loads)
+not_loaded path lang old new end.LinkFault loads silent = absurd loads
+not_loaded path lang old new end.TooLong loads silent = absurd loads
+not_loaded path lang old new end.OutOfMemory loads silent = inl (silent, loads)
+
+module _ (path lang : List ℕ) (old new : Surroundings) (state : State) (code : ℕ) where
+  refused : (ended : LinkEnd) (how : End) → IsEnded ended → IsSession path lang old new ended state code → IsWithoutMemory path state (begun old path) new.files how
+      → HasCommunicated path lang old new how code
+  refused ended how at session left = rw left.end_is (inr (inr (record { end = ended; ended = at; state = state; session = session; changed = left.changed; ran_out = left.ran_out })))
+
+  unsaved : (ended : LinkEnd) (how : End) → IsSession path lang old new ended state code → IsUnwritten path state (begun old path) new.files ended how
+      → IsUnsaved path lang old new ended code
+  unsaved ended how session left = record { state = state; session = session; changed = left.changed; failed = left.failed }
+
+  saved : (ended : LinkEnd) (how : End) → IsSession path lang old new ended state code → IsSaved path state (begun old path) new.files ended how
+      → IsFinished path lang old new ended code
+  saved ended how session done = record { state = state; session = session; files = done.files_are }
+
+  -- the run ends after a session
+  pub finished : (ended : LinkEnd) (how : End) → IsSession path lang old new ended state code → Finishes path state ended (begun old path) new.files how
+      → HasCommunicated path lang old new how code
+  finished link.OutOfMemory how session done = rw done.0 (inr (inl (record { state = state; session = session; files = done.1 })))
+  finished link.Done how session done = elim done [
+    | inl kept ↦ rw kept.end_is (saved link.Done how session kept)
+    | inr (inl left) ↦ rw left.end_is (inr (refl, unsaved link.Done how session left))
+    | inr (inr left) ↦ refused link.Done how tt session left
+  ]
+  finished link.LinkFault how session done = elim done [
+    | inl kept ↦ rw kept.end_is (inl (saved link.LinkFault how session kept))
+    | inr (inl left) ↦ rw left.end_is (inr (unsaved link.LinkFault how session left))
+    | inr (inr left) ↦ refused link.LinkFault how tt session left
+  ]
+  finished link.TooLong how session done = elim done [
+    | inl kept ↦ rw kept.end_is (inl (saved link.TooLong how session kept))
+    | inr (inl left) ↦ rw left.end_is (inr (unsaved link.TooLong how session left))
+    | inr (inr left) ↦ refused link.TooLong how tt session left
+  ]
+
+-- the run of a session over a loaded database
+pub communicated : (path lang : List ℕ) (old new : Surroundings) (mid : Told) (database : Database) (kept : List ℕ) (start state : State) (ended : LinkEnd) (how : End) (code : ℕ)
+    → LoadsDatabase old.files mid path (Ok database) → kept ≡ lang → start ≡ loaded database.questions database.templates kept
+    → HasRun old.talk new.talk old.input new.input start ended state code → Finishes path state ended mid new.files how → HasCommunicated path lang old new how code
+communicated path lang old new mid database kept start state ended how code loads keeps starts run finishes =
+    finished path lang old new state code ended how
+    (record {
+      questions = database.questions;
+      questions_are = loads.questions_are;
+      templates = database.templates;
+      templates_are = loads.templates_are;
+      ran = subst (λ (s : State). HasRun old.talk new.talk old.input new.input s ended state code) (starts ∙ ap (λ (l : List ℕ). loaded database.questions database.templates l) keeps) run;
+    })
+    (subst (λ (f : Told). Finishes path state ended f new.files how) loads.files_are finishes)

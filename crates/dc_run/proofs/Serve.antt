@@ -1,15 +1,20 @@
 -- Serving goes on.
-use Rattle.std.proofs.Common.{◌≡◌, ◌≢◌, inl, inr, ℕ, List, [], ◌∷◌, ◌++◌, refl, ap, sym, ◌∙◌, Option, Some, None, append_assoc}
+use Rattle.std.proofs.Common.{◌≡◌, ◌≢◌, inl, inr, ℕ, false, List, [], ◌∷◌, ◌++◌, refl, ap, sym, ◌∙◌, Option, Some, None, append_assoc}
 use Rattle.std.proofs.lemmas.List.{append-nil, map-append}
 use Rattle.dc_text.specs.declared.stream.Line.{Line}
+use Rattle.dc_text.specs.declared.stream.Line.TheVariants.{Whole, TooLong}
 use Rattle.dc_outside.specs.declared.link.Piece.{Piece}
 use Rattle.dc_outside.specs.declared.link.Piece.TheVariants.{Cut}
 use Rattle.dc_outside.specs.Talk.{told}
-use Rattle.dc_run.specs.declared.reply.Reply.{Reply}
+use Rattle.dc_proto.specs.declared.reply.Reply.{Reply}
 use Rattle.dc_run.specs.declared.session.Stepped.TheVariants.{Replied, Stopped as StoppedHere}
 use Rattle.dc_run.specs.declared.outcome.Served.{Served}
 use Rattle.dc_run.specs.declared.outcome.Served.TheVariants.{On, Stopped, Failed, OutOfMemory}
-use Rattle.dc_run.specs.Machine.{State, answer, next, after}
+use Rattle.dc_run.specs.State.{State}
+use Rattle.dc_run.specs.Machine.{answer, answer_heard, next, after}
+use Rattle.dc_proto.specs.Commands.{heard}
+use Rattle.dc_proto.specs.declared.command.Heard.{Heard}
+use Rattle.dc_proto.specs.declared.command.Heard.TheVariants.{Nothing, Known, Refused}
 use Rattle.dc_run.specs.Serving.{sent, Goes, BreaksOff, IsWithin, Serves, HasServed, Sends}
 use Rattle.dc_run.proofs.Courses.{after-append, last_code_from-append, stops-append, stops_stopped, replies-append, replies_stopped, after_stopped}
 
@@ -191,10 +196,20 @@ gone_more {talk = talk} {mid_talk = mid_talk} {new_talk = new_talk} {s = s} {mid
   has_served_more talk mid_talk new_talk s mid new gone (line ∷ []) On code mid_code new_code served here,
 )
 
--- the line that stops the session leaves it as it was
+-- no line stops a session
+heard_never_stops : (s : State) (said : Heard) → answer_heard s said ≡ StoppedHere → ⊥
+heard_never_stops s Nothing e = cc
+heard_never_stops s (Known command) e = cc
+heard_never_stops s (Refused reply) e = cc
+
+never_stops : (s : State) (line : Line) → answer s line ≡ StoppedHere → ⊥
+unfolding answer
+never_stops s TooLong e = cc
+never_stops s (Whole line) e = heard_never_stops s (heard false line) e
+
+-- so the line that stops the session leaves it as it was
 next_stopped : (s : State) (line : Line) → answer s line ≡ StoppedHere → next s line ≡ s
-unfolding next
-next_stopped s line e = refl
+next_stopped s line e = absurd (never_stops s line e)
 
 pub line_stopped : (talk : Option (List Piece)) (s new : State) (line : Line) (code : ℕ) → answer s line ≡ StoppedHere → new ≡ next s line → HasServed talk talk s (line ∷ []) Stopped code new code
 line_stopped talk s new line code e n = record {

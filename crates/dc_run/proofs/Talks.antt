@@ -5,8 +5,8 @@ use Rattle.std.specs.Io.KnownBytes.{prepend_known}
 use Rattle.dc_outside.specs.declared.link.Piece.{Piece}
 use Rattle.dc_outside.specs.declared.link.Piece.TheVariants.{Got, Sent, Cut, Lost}
 use Rattle.dc_outside.specs.Talk.{got}
-use Rattle.dc_run.specs.declared.reply.Reply.{Reply}
-use Rattle.dc_run.specs.Machine.{State}
+use Rattle.dc_proto.specs.declared.reply.Reply.{Reply}
+use Rattle.dc_run.specs.State.{State}
 use Rattle.dc_run.specs.Serving.{sent, said}
 use Rattle.dc_run.specs.Step.{IsRead, IsCaughtUp, InStep}
 

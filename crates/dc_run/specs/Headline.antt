@@ -1,48 +1,88 @@
--- What a run of the program says, by its end.
-use Rattle.std.specs.Prelude.{◌≡◌, ◌⊎◌, ℕ, List, Option}
-use Rattle.dc_outside.specs.Counts.{Rose}
-use Rattle.dc_outside.specs.Disk.{Disk}
+-- What a run of the program says and saves, by its end.
+use Rattle.std.specs.Prelude.{◌≡◌, ◌⊎◌, ℕ, List, Option, true, false}
 use Rattle.dc_outside.specs.declared.link.Piece.{Piece}
 use Rattle.dc_run.specs.declared.outcome.End.{End}
 use Rattle.dc_run.specs.declared.outcome.End.TheVariants as end
 use Rattle.dc_run.specs.declared.outcome.LinkEnd.{LinkEnd}
 use Rattle.dc_run.specs.declared.outcome.LinkEnd.TheVariants as link
-use Rattle.dc_run.specs.Loading.{HasLoaded, IsDamaged}
-use Rattle.dc_run.specs.Machine.{Table}
+use Rattle.dc_run.specs.Loading.{HasLoaded, files_of, templates_path, after_reads, IsDamagedFirst, IsUnread, AreReadInPart}
 use Rattle.dc_run.specs.Run.{HasRun}
+use Rattle.dc_run.specs.Saving.{Told, after_finish, file_of, HasFailed, HasRunOut}
+use Rattle.dc_run.specs.State.{Table, State, loaded}
 use Rattle.dc_run.specs.Tools.{IsToolWords, AreRefusedAt}
 
+-- what a run finds and leaves: what the files tell, the talk on the link, and the input that is left on it
+pub record Surroundings : Type 0 where
+  pub files : Told
+  pub talk : Option (List Piece)
+  pub input : Option (List ℕ)
+
 -- nothing was read from the link or said on it
-pub record IsSilent (talk new_talk : Option (List Piece)) (input left : Option (List ℕ)) (code : ℕ) : Type 0 where
-  pub talk_is : new_talk ≡ talk
-  pub left_is : left ≡ input
+pub record IsSilent (old new : Surroundings) (code : ℕ) : Type 0 where
+  pub talk : new.talk ≡ old.talk
+  pub input : new.input ≡ old.input
   pub code_is : code ≡ 0
 
--- a session was served over the table of the path
-pub record IsSession (path : List ℕ) (disk : Option Disk) (talk new_talk : Option (List Piece)) (input left : Option (List ℕ)) (end : LinkEnd) (code : ℕ) : Type 0 where
-  pub start : Table
-  pub loaded : HasLoaded disk path start
-  pub new : Table
-  pub ran : HasRun talk new_talk input left start end new code
+-- a session was served over the tables of the database, and left this state
+pub record IsSession (path lang : List ℕ) (old new : Surroundings) (end : LinkEnd) (state : State) (code : ℕ) : Type 0 where
+  pub questions : Table
+  pub questions_are : HasLoaded old.files.disk path questions
+  pub templates : Table
+  pub templates_are : HasLoaded old.files.disk (templates_path path) templates
+  pub ran : HasRun old.talk new.talk old.input new.input (loaded questions templates lang) end state code
+
+-- the files when the session began
+abbrev pub begun : Surroundings → List ℕ → Told
+begun old path = after_reads old.files (files_of path)
+
+-- a session that came to its end, after which the table of questions is saved where it changed
+pub record IsFinished (path lang : List ℕ) (old new : Surroundings) (end : LinkEnd) (code : ℕ) : Type 0 where
+  pub state : State
+  pub session : IsSession path lang old new end state code
+  pub files : new.files ≡ after_finish (begun old path) path state
+
+-- a session that came to its end, and a call of the save of its changed table failed
+pub record IsUnsaved (path lang : List ℕ) (old new : Surroundings) (end : LinkEnd) (code : ℕ) : Type 0 where
+  pub state : State
+  pub session : IsSession path lang old new end state code
+  pub changed : state.changed ≡ true
+  pub failed : HasFailed (begun old path) new.files path (file_of state.questions)
+
+-- the ends of the link after which a changed table is saved
+abbrev pub IsEnded : LinkEnd → Type 0
+IsEnded link.Done = Unit {0}
+IsEnded link.LinkFault = Unit {0}
+IsEnded link.TooLong = Unit {0}
+IsEnded link.OutOfMemory = ⊥
+
+-- a session that came to its end, and there was no memory to save its changed table
+pub record IsUnfinished (path lang : List ℕ) (old new : Surroundings) (code : ℕ) : Type 0 where
+  pub end : LinkEnd
+  pub ended : IsEnded end
+  pub state : State
+  pub session : IsSession path lang old new end state code
+  pub changed : state.changed ≡ true
+  pub ran_out : HasRunOut (begun old path) new.files path (file_of state.questions)
+
+-- want of memory before the save: no file was written
+pub record IsBrokenOff (path lang : List ℕ) (old new : Surroundings) (code : ℕ) : Type 0 where
+  pub state : State
+  pub session : IsSession path lang old new link.OutOfMemory state code
+  pub files : new.files ≡ begun old path
 
 -- a run of `communicate` over the database at the path
-abbrev pub HasCommunicated : List ℕ → Option Disk → Option (List Piece) → Option (List Piece) → Option (List ℕ) → Option (List ℕ) → End → ℕ → Type 0
-HasCommunicated path disk talk new_talk input left end.Done code = IsSession path disk talk new_talk input left link.Done code
-HasCommunicated path disk talk new_talk input left end.LinkFault code = IsSession path disk talk new_talk input left link.LinkFault code
-HasCommunicated path disk talk new_talk input left end.TooLong code = IsSession path disk talk new_talk input left link.TooLong code
-HasCommunicated path disk talk new_talk input left end.OutOfMemory code =
-    IsSilent talk new_talk input left code ⊎ IsSession path disk talk new_talk input left link.OutOfMemory code
-HasCommunicated path disk talk new_talk input left (end.Damaged damaged line) code =
-    (damaged ≡ path) × IsDamaged disk path line × IsSilent talk new_talk input left code
-HasCommunicated path disk talk new_talk input left (end.FilesFault failed) code = (failed ≡ path) × IsSilent talk new_talk input left code
-HasCommunicated path disk talk new_talk input left (end.Usage word) code = ⊥
+abbrev pub HasCommunicated : List ℕ → List ℕ → Surroundings → Surroundings → End → ℕ → Type 0
+HasCommunicated path lang old new end.Done code = IsFinished path lang old new link.Done code
+HasCommunicated path lang old new end.LinkFault code = IsFinished path lang old new link.LinkFault code ⊎ IsUnsaved path lang old new link.LinkFault code
+HasCommunicated path lang old new end.TooLong code = IsFinished path lang old new link.TooLong code ⊎ IsUnsaved path lang old new link.TooLong code
+HasCommunicated path lang old new (end.Damaged damaged line) code = IsSilent old new code × IsDamagedFirst old.files new.files path damaged line
+HasCommunicated path lang old new (end.FilesFault failed) code =
+    (IsSilent old new code × IsUnread old.files new.files path failed) ⊎ ((failed ≡ path) × IsUnsaved path lang old new link.Done code)
+HasCommunicated path lang old new end.OutOfMemory code =
+    (IsSilent old new code × AreReadInPart old.files new.files path) ⊎ IsBrokenOff path lang old new code ⊎ IsUnfinished path lang old new code
+HasCommunicated path lang old new (end.Usage word) code = ⊥
 
 -- what the program does with its words
-abbrev pub HasRunWords : List (List ℕ) → List ℕ → Option Disk → Option (List Piece) → Option (List Piece) → Option (List ℕ) → Option (List ℕ) → End → ℕ → Type 0
-HasRunWords words path disk talk new_talk input left (end.Usage word) code = AreRefusedAt words word × IsSilent talk new_talk input left code
-HasRunWords words path disk talk new_talk input left end code = IsToolWords words × HasCommunicated path disk talk new_talk input left end code
-
--- the link's count of faults rose at a fault of the link, and at every other end it stays
-abbrev pub LinkCounts : End → ℕ → ℕ → Type 0
-LinkCounts end.LinkFault before now = Rose before now
-LinkCounts end before now = now ≡ before
+abbrev pub HasRunWords : List (List ℕ) → List ℕ → List ℕ → Surroundings → Surroundings → End → ℕ → Type 0
+HasRunWords words path lang old new (end.Usage word) code = AreRefusedAt words word × IsSilent old new code × (new.files ≡ old.files)
+HasRunWords words path lang old new end code = IsToolWords words × HasCommunicated path lang old new end code

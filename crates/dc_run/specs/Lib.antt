@@ -1,10 +1,12 @@
-pub mod Commands
 pub mod Ends
+pub mod Finishing
 pub mod Headline
 pub mod Loading
 pub mod Machine
-pub mod Replies
 pub mod Run
+pub mod Saving
 pub mod Serving
+pub mod State
 pub mod Step
 pub mod Tools
+pub mod Writes

@@ -1,60 +1,133 @@
 -- The plain machine: what a line is answered, and what it leaves.
-use Rattle.std.specs.Prelude.{ℕ, List, [], ◌∷◌, Bool, true, false, ◌||◌, if◌then◌else◌, codes, unwrap_or}
+use Rattle.std.specs.Prelude.{◌≡◌, ℕ, List, [], ◌∷◌, ◌++◌, map as each, Bool, true, false, ◌||◌, Option, Some, None, if◌then◌else◌, codes}
 use Rattle.std.specs.Option.{option_map_or}
+use Rattle.std.specs.Str.{bytes_eq}
 use Rattle.std.specs.FinMap as map
-use Rattle.dc_text.specs.Maps.{Texts}
+use Rattle.dc_text.specs.Bytes.{lower}
+use Rattle.dc_text.specs.Names.{is_field_key}
+use Rattle.dc_text.specs.Settled.{settled}
 use Rattle.dc_text.specs.declared.stream.Line.{Line}
 use Rattle.dc_text.specs.declared.stream.Line.TheVariants.{Whole, TooLong}
 use Rattle.dc_item.specs.Item.{Parts}
-use Rattle.dc_run.specs.declared.command.Command.{Command}
-use Rattle.dc_run.specs.declared.command.Command.TheVariants.{Get, Fget}
-use Rattle.dc_run.specs.declared.command.Heard.{Heard}
-use Rattle.dc_run.specs.declared.command.Heard.TheVariants.{Nothing, Known, Refused}
-use Rattle.dc_run.specs.declared.reply.Reply.{Reply}
+use Rattle.dc_item.specs.declared.op.Op.{Op}
+use Rattle.dc_item.specs.declared.op.Op.TheVariants.{Put, SetField, SetFlag, SetVar}
+use Rattle.dc_proto.specs.Commands.{heard}
+use Rattle.dc_proto.specs.Replies.{reply, line_too_long}
+use Rattle.dc_proto.specs.declared.command.Command.{Command}
+use Rattle.dc_proto.specs.declared.command.Command.TheVariants.{Get, Set, Reset, Subst, Fget, Fset, Metaget}
+use Rattle.dc_proto.specs.declared.command.Heard.{Heard}
+use Rattle.dc_proto.specs.declared.command.Heard.TheVariants.{Nothing, Known, Refused}
+use Rattle.dc_proto.specs.declared.reply.Reply.{Reply}
+use Rattle.dc_question.specs.Readings.{template_of, value_of, field_of}
+use Rattle.dc_run.specs.declared.answers.Answer.{Answer}
 use Rattle.dc_run.specs.declared.session.Stepped.{Stepped}
 use Rattle.dc_run.specs.declared.session.Stepped.TheVariants.{Silent, Replied, Stopped}
-use Rattle.dc_run.specs.Commands.{heard}
-use Rattle.dc_run.specs.Replies.{reply, line_too_long, no_question}
-
--- a table: a finite map from names to items
-abbrev pub Table : Type 0
-Table = Texts Parts
-
--- what a session works on
-abbrev pub State : Type 0
-State = Table
+use Rattle.dc_run.specs.State.{Table, State}
+use Rattle.dc_run.specs.Writes.{written, changes}
 
 -- ---- one command
 
--- the value of a question: its field `value`, else the empty text
-abbrev pub value_of : Parts → List ℕ
-value_of item = unwrap_or (map.get item.fields (codes "value")) []
+abbrev pub only : Reply → Answer
+only reply = record { reply = reply; op = None }
+
+abbrev pub doing : Reply → Op → Answer
+doing reply op = record { reply = reply; op = Some op }
+
+-- no question has this name, which is told as it was typed
+abbrev pub no_question : List ℕ → Reply
+no_question question = reply 10 (question ++ codes " doesn't exist")
+
+abbrev pub bad_flag_value : Reply
+bad_flag_value = reply 10 (codes "bad flag value")
+
+-- the templates have no item of the name that the question's template has
+abbrev pub no_template : List ℕ → Reply
+no_template question = reply 10 (codes "no template for " ++ question)
+
+-- the template has no such field, which is told as it was typed
+abbrev pub no_field : List ℕ → Reply
+no_field field = reply 10 (field ++ codes " doesn't exist")
+
+-- the item without a value of its own, and not seen
+abbrev pub without_value : Parts → Parts
+without_value item = record item { fields = map.remove item.fields (codes "value"); flags = map.remove item.flags (codes "seen") }
 
 abbrev pub truth : Bool → List ℕ
 truth is = if is then codes "true" else codes "false"
 
--- what a command on a question is answered, where the question is there
-abbrev pub on_question : Table → List ℕ → (Parts → Reply) → Reply
-on_question table question answer = option_map_or answer (map.get table question) (no_question question)
+abbrev pub is_truth : List ℕ → Bool
+is_truth value = bytes_eq value (codes "true") || bytes_eq value (codes "false")
 
--- what a command is answered
-abbrev pub answer_to : Table → Command → Reply
-answer_to table (Get question) = on_question table question (λ item. reply 0 (value_of item))
-answer_to table (Fget question flag) = on_question table question (λ item. reply 0 (truth (map.contains_key item.flags flag)))
+-- the question of a command
+abbrev pub question_of : Command → List ℕ
+question_of (Get question) = question
+question_of (Set question value) = question
+question_of (Reset question) = question
+question_of (Subst question key value) = question
+question_of (Fget question flag) = question
+question_of (Fset question flag value) = question
+question_of (Metaget question field) = question
 
-abbrev pub answer_heard : Table → Heard → Stepped
-answer_heard table Nothing = Silent
-answer_heard table (Known command) = Replied (answer_to table command)
-answer_heard table (Refused reply) = Replied reply
+-- a field of the template, in the user's language and with the question's variables put in
+abbrev pub field_read : List ℕ → Parts → Parts → List ℕ → Reply
+field_read lang item template field =
+    if is_field_key (each lower field) then option_map_or (reply 0) (field_of lang item template (each lower field)) (no_field field) else no_field field
+
+-- what FSET is answered: the value is told where it is the word of a truth
+abbrev pub fset_answer : List ℕ → List ℕ → Answer
+fset_answer flag value = if is_truth value then doing (reply 0 value) (SetFlag flag (bytes_eq value (codes "true"))) else only bad_flag_value
+
+-- what METAGET is answered, on the template of the question
+abbrev pub metaget_answer : List ℕ → List ℕ → List ℕ → Parts → Option Parts → Answer
+metaget_answer lang question field item None = only (no_template question)
+metaget_answer lang question field item (Some template) = only (field_read lang item template field)
+
+-- What a command is answered, and the operation that it asks for, where its question is there: in the user's language, and
+-- by the table of templates.
+abbrev pub answer_on : List ℕ → Table → Command → Parts → Answer
+answer_on lang templates (Get question) item = only (reply 0 (value_of lang item (template_of templates item)))
+answer_on lang templates (Set question value) item = doing (reply 0 (codes "value set")) (SetField (codes "value") (settled value))
+answer_on lang templates (Reset question) item = doing (reply 0 []) (Put (without_value item))
+answer_on lang templates (Subst question key value) item = doing (reply 0 []) (SetVar key (settled value))
+answer_on lang templates (Fget question flag) item = only (reply 0 (truth (map.contains_key item.flags flag)))
+answer_on lang templates (Fset question flag value) item = fset_answer flag value
+answer_on lang templates (Metaget question field) item = metaget_answer lang question field item (template_of templates item)
+
+-- what a command is answered: the first refusal is that of a question that isn't there
+abbrev pub answer_to : State → Command → Answer
+answer_to state command =
+    option_map_or (answer_on state.lang state.templates command) (map.get state.questions (question_of command)) (only (no_question (question_of command)))
+
+-- the state after the operation, if there is one, on the question
+abbrev pub after_op : State → List ℕ → Option Op → State
+after_op state question None = state
+after_op state question (Some op) =
+    record state { questions = written state.questions question op; changed = state.changed || changes state.questions question op }
+
+abbrev pub after_command : State → Command → State
+after_command state command = after_op state (question_of command) (answer_to state command).op
+
+-- ---- one line
+
+abbrev pub answer_heard : State → Heard → Stepped
+answer_heard state Nothing = Silent
+answer_heard state (Known command) = Replied (answer_to state command).reply
+answer_heard state (Refused reply) = Replied reply
+
+abbrev pub after_heard : State → Heard → State
+after_heard state Nothing = state
+after_heard state (Known command) = after_command state command
+after_heard state (Refused reply) = state
 
 -- what a line is answered
-unfoldable pub answer : Table → Line → Stepped
-answer table TooLong = Replied line_too_long
-answer table (Whole line) = answer_heard table (heard line)
+unfoldable pub answer : State → Line → Stepped
+answer state TooLong = Replied line_too_long
+answer state (Whole line) = answer_heard state (heard false line)
 
--- the table that a line leaves: no command changes it yet
-unfoldable pub next : Table → Line → Table
-next table line = table
+-- the state that a line leaves
+unfoldable pub next : State → Line → State
+next state TooLong = state
+next state (Whole line) = after_heard state (heard false line)
 
 -- ---- lines, one after another
 
@@ -64,9 +137,9 @@ add_reply (Replied reply) later = reply ∷ later
 add_reply Stopped later = []
 
 -- the replies to these lines, up to the first that stops the session
-abbrev pub replies : Table → List Line → List Reply
-replies table [] = []
-replies table (line ∷ lines) = add_reply (answer table line) (replies (next table line) lines)
+abbrev pub replies : State → List Line → List Reply
+replies state [] = []
+replies state (line ∷ lines) = add_reply (answer state line) (replies (next state line) lines)
 
 abbrev pub is_stop : Stepped → Bool
 is_stop Silent = false
@@ -74,19 +147,19 @@ is_stop (Replied reply) = false
 is_stop Stopped = true
 
 -- whether one of these lines stops it
-abbrev pub stops : Table → List Line → Bool
-stops table [] = false
-stops table (line ∷ lines) = is_stop (answer table line) || stops (next table line) lines
+abbrev pub stops : State → List Line → Bool
+stops state [] = false
+stops state (line ∷ lines) = is_stop (answer state line) || stops (next state line) lines
 
-abbrev pub unless_stopped : Stepped → Table → Table → Table
+abbrev pub unless_stopped : Stepped → State → State → State
 unless_stopped Silent here later = later
 unless_stopped (Replied reply) here later = later
 unless_stopped Stopped here later = here
 
--- the table that these lines leave, up to the first that stops the session
-abbrev pub after : Table → List Line → Table
-after table [] = table
-after table (line ∷ lines) = unless_stopped (answer table line) table (after (next table line) lines)
+-- the state that these lines leave, up to the first that stops the session
+abbrev pub after : State → List Line → State
+after state [] = state
+after state (line ∷ lines) = unless_stopped (answer state line) state (after (next state line) lines)
 
 -- the code of the last reply, and the one before where there is none
 abbrev pub last_code_from : ℕ → List Reply → ℕ

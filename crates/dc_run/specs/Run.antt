@@ -8,7 +8,8 @@ use Rattle.dc_outside.specs.declared.link.Piece.TheVariants.{Cut, Lost}
 use Rattle.dc_outside.specs.Talk.{told, got}
 use Rattle.dc_run.specs.declared.outcome.LinkEnd.{LinkEnd}
 use Rattle.dc_run.specs.declared.outcome.LinkEnd.TheVariants.{Done, OutOfMemory, LinkFault, TooLong}
-use Rattle.dc_run.specs.Machine.{State, replies, stops, after, last_code_from}
+use Rattle.dc_run.specs.State.{State}
+use Rattle.dc_run.specs.Machine.{replies, stops, after, last_code_from}
 use Rattle.dc_run.specs.Serving.{sent, said, Goes, CutsShort, BreaksOff}
 use Rattle.dc_run.specs.Step.{InStep}
 

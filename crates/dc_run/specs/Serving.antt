@@ -5,16 +5,17 @@ use Rattle.dc_outside.specs.declared.link.Piece.{Piece}
 use Rattle.dc_outside.specs.declared.link.Piece.TheVariants.{Got, Sent, Cut, Lost}
 use Rattle.dc_outside.specs.Counts.{Rose}
 use Rattle.dc_outside.specs.Talk.{told}
-use Rattle.dc_run.specs.declared.reply.Reply.{Reply}
+use Rattle.dc_proto.specs.declared.reply.Reply.{Reply}
 use Rattle.dc_run.specs.declared.session.Stepped.TheVariants.{Replied}
 use Rattle.dc_run.specs.declared.outcome.Served.{Served}
 use Rattle.dc_run.specs.declared.outcome.Served.TheVariants.{On, Stopped, Failed, OutOfMemory}
-use Rattle.dc_run.specs.Machine.{State, answer, next, replies, stops, after, last_code_from}
-use Rattle.dc_run.specs.Replies.{printed}
+use Rattle.dc_run.specs.State.{State}
+use Rattle.dc_run.specs.Machine.{answer, next, replies, stops, after, last_code_from}
+use Rattle.dc_proto.specs.Replies.{printed}
 
 -- the piece that a reply is sent as
 abbrev pub sent : Reply → Piece
-sent reply = Sent (printed reply)
+sent reply = Sent (printed false reply)
 
 -- what was written, whole or cut
 abbrev pub said : List Piece → List Piece
@@ -49,7 +50,7 @@ pub record CutsShort (state : State) (lines : List Line) (pieces : List Piece) (
   pub answer_is : answer (after state gone) line ≡ Replied reply
   pub front : List ℕ
   pub back : List ℕ
-  pub front_of : printed reply ≡ front ++ back
+  pub front_of : printed false reply ≡ front ++ back
   pub pieces_are : pieces ≡ map sent (replies state gone) ++ Cut front ∷ []
   pub state_is : new ≡ next (after state gone) line
   pub code_is : new_code ≡ reply.code
@@ -86,7 +87,7 @@ pub record HasServed (talk new_talk : Option (List Piece)) (state : State) (line
 abbrev pub Sends : Served → Option (List Piece) → Option (List Piece) → Reply → ℕ → ℕ → Type 0
 Sends On old new reply code new_code = (new ≡ told old (sent reply ∷ [])) × (new_code ≡ reply.code)
 Sends Stopped old new reply code new_code = ⊥
-Sends Failed old new reply code new_code = (front : List ℕ) × (back : List ℕ) × (printed reply ≡ front ++ back) × (new ≡ told old (Cut front ∷ [])) × (new_code ≡ reply.code)
+Sends Failed old new reply code new_code = (front : List ℕ) × (back : List ℕ) × (printed false reply ≡ front ++ back) × (new ≡ told old (Cut front ∷ [])) × (new_code ≡ reply.code)
 Sends OutOfMemory old new reply code new_code = (new ≡ old) × (new_code ≡ code)
 
 -- the count of faults rises only at a failure

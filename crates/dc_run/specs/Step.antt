@@ -4,7 +4,8 @@ use Rattle.dc_text.specs.Stream.{whole_lines}
 use Rattle.dc_outside.specs.declared.link.Piece.{Piece}
 use Rattle.dc_outside.specs.declared.link.Piece.TheVariants.{Got, Sent, Cut, Lost}
 use Rattle.dc_outside.specs.Talk.{got}
-use Rattle.dc_run.specs.Machine.{State, replies, stops}
+use Rattle.dc_run.specs.State.{State}
+use Rattle.dc_run.specs.Machine.{replies, stops}
 use Rattle.dc_run.specs.Serving.{sent, said}
 
 -- a read: bytes came, or it failed

@@ -6,9 +6,9 @@ ghost use Rattle.dc_run.specs.Ends.{LinkFaults};
 ghost use Rattle.dc_run.specs.Run.{HasRun};
 
 use crate::outcome::{Conversation, LinkEnd, Served, link_end};
-use crate::reply::{Reply, print_reply};
 use crate::session::{Session, Stepped};
 use dc_outside::{Link, LinkError};
+use dc_proto::{Reply, print_reply};
 use dc_text::{Line, Lines, MAX_PIECE, Mem};
 use std::alloc::Global;
 
@@ -22,7 +22,7 @@ fn send<L: Link>(alloc: Global, io: &mut L, reply: &Reply, last_code: &mut u8) -
     ensures faults { ServedFaults result (L.faults io.old) (L.faults io.new) }
     ensures refusals { L.refusals io.old ≤ L.refusals io.new }
 {
-    let text = match print_reply(alloc, reply) {
+    let text = match print_reply(alloc, reply, false) {
         Ok(text) => text,
         Err(_) => return Served::OutOfMemory,
     };

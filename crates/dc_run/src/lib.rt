@@ -3,11 +3,12 @@
 #![tactic(auto)]
 
 pub mod answering;
-pub mod command;
+pub mod answers;
+pub mod laws;
 pub mod loading;
 pub mod outcome;
-pub mod reply;
 pub mod running;
+pub mod saving;
 pub mod session;
 pub mod settings;
 pub mod tool;

@@ -1,7 +1,7 @@
 // Reading the database.
 ghost use Rattle.std.specs.Prelude.{◌≡◌, [], IfOk, unwrap_or};
 ghost use Rattle.dc_item.specs.Table.{table_of as table_of_records};
-ghost use Rattle.dc_run.specs.Loading.{Loads, LoadsBy, CallsFiles, FilesFaults, ReadsTable};
+ghost use Rattle.dc_run.specs.Loading.{Loads, LoadsFiles, LoadFaults, ReadsTable, LoadsDatabase, DatabaseFaults, templates_path as templates_path_of};
 
 use crate::outcome::End;
 use dc_item::{Entry, Item, RecordError, read_records};
@@ -9,12 +9,49 @@ use dc_outside::{Files, FilesError};
 use dc_text::{List, Mem, Text, TextMap};
 use std::alloc::Global;
 
+/// The tables of a database.
+#[derive(Drop)]
+pub struct Database {
+    pub questions: TextMap<Item>,
+    pub templates: TextMap<Item>,
+}
+
+/// The database at the path, or the end of the run: the questions stand at the path, and then the templates are read at the
+/// path followed by `.templates`.
+pub fn load_database<F: Files>(alloc: Global, path: &Text, files: &mut F) -> Result<Database, End>
+    ensures loads { LoadsDatabase (record { disk = F.disk files.old; calls = F.calls files.old }) (record { disk = F.disk files.new; calls = F.calls files.new }) path.now result }
+    ensures faults { DatabaseFaults result (F.faults files.old) (F.faults files.new) }
+{
+    let beside = match templates_path(path) {
+        Ok(beside) => beside,
+        Err(_) => return Err(End::OutOfMemory),
+    };
+    let questions = match load(alloc, path, files) {
+        Ok(questions) => questions,
+        Err(end) => return Err(end),
+    };
+    match load(alloc, &beside, files) {
+        Ok(templates) => Ok(Database {
+            questions,
+            templates,
+        }),
+        Err(end) => Err(end),
+    }
+}
+
+fn templates_path(path: &Text) -> Mem<Text>
+    ensures { IfOk result (λ beside. beside ≡ templates_path_of path.now) }
+{
+    let mut beside = path.copy()?;
+    beside.append(b".templates")?;
+    Ok(beside)
+}
+
 /// The table of the text of records at the path, or the end of the run. A file that isn't there is the empty table.
 pub fn load<F: Files>(alloc: Global, path: &Text, files: &mut F) -> Result<TextMap<Item>, End>
     ensures loads { Loads (F.disk files.old) path.now result }
-    ensures disk { F.disk files.new ≡ F.disk files.old }
-    ensures calls { LoadsBy (λ end. CallsFiles end (F.calls files.old) (F.calls files.new) path.now) result }
-    ensures faults { LoadsBy (λ end. FilesFaults end (F.faults files.old) (F.faults files.new)) result }
+    ensures files { LoadsFiles (record { disk = F.disk files.old; calls = F.calls files.old }) (record { disk = F.disk files.new; calls = F.calls files.new }) path.now result }
+    ensures faults { LoadFaults result (F.faults files.old) (F.faults files.new) }
 {
     let kept = match path.copy() {
         Ok(kept) => kept,

@@ -1,8 +1,16 @@
 // How a run ends.
 ghost use Rattle.std.specs.Prelude.{◌≡◌};
-ghost use Rattle.dc_run.specs.Ends.{status_of, link_end_of, end_of};
+ghost use Rattle.dc_run.specs.Ends.{status_of, link_end_of, end_of, end_unsaved};
 
 use dc_text::Text;
+
+/// Why a table wasn't saved.
+#[derive(Drop)]
+pub enum SaveError {
+    /// A call on the files failed. The path is that of the database.
+    Failed { path: Text },
+    OutOfMemory,
+}
 
 /// How a run ends. Only `Done` is a run that did all that it was to do.
 #[derive(Drop)]
@@ -13,7 +21,7 @@ pub enum End {
     Usage { word: usize },
     /// The file at the path has no reading, and the line is its first bad one, from 1.
     Damaged { path: Text, line: u64 },
-    /// The file at the path couldn't be read.
+    /// A call on files failed for the database at the path.
     FilesFault { path: Text },
     /// Reading from the link, or writing to it, failed.
     LinkFault,
@@ -78,6 +86,20 @@ pub fn end_at(end: LinkEnd) -> End
         LinkEnd::LinkFault => End::LinkFault,
         LinkEnd::TooLong => End::TooLong,
         LinkEnd::OutOfMemory => End::OutOfMemory,
+    }
+}
+
+/// The end of a run whose link ended so, and whose changed table wasn't saved. A fault of the link and too long an input
+/// came first and stay.
+pub fn end_at_unsaved(end: LinkEnd, error: SaveError) -> End
+    ensures { result ≡ end_unsaved end error }
+{
+    match error {
+        SaveError::OutOfMemory => End::OutOfMemory,
+        SaveError::Failed { path } => match end {
+            LinkEnd::Done => End::FilesFault { path },
+            LinkEnd::LinkFault | LinkEnd::TooLong | LinkEnd::OutOfMemory => end_at(end),
+        },
     }
 }
 

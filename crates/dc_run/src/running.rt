@@ -1,12 +1,14 @@
 // The call that the program makes.
 ghost use Rattle.std.specs.Prelude.{◌≡◌};
 ghost use Rattle.dc_run.specs.Ends.{status_of};
-ghost use Rattle.dc_run.specs.Loading.{CallsFiles, FilesFaults};
-ghost use Rattle.dc_run.specs.Headline.{HasRunWords, HasCommunicated, LinkCounts};
+ghost use Rattle.dc_run.specs.Ends.{LinkCounts, FilesFaults};
+ghost use Rattle.dc_run.specs.Finishing.{Finishes};
+ghost use Rattle.dc_run.specs.Headline.{HasRunWords, HasCommunicated};
 
 use crate::answering::serve_link;
-use crate::loading::load;
-use crate::outcome::{End, Outcome, end_at, outcome_at};
+use crate::loading::load_database;
+use crate::outcome::{End, LinkEnd, Outcome, end_at, end_at_unsaved, outcome_at};
+use crate::saving::save;
 use crate::session::Session;
 use crate::settings::Settings;
 use crate::tool::{Tool, read_tool};
@@ -14,10 +16,11 @@ use dc_outside::{Files, Link};
 use dc_text::{List, Text};
 use std::alloc::Global;
 
-/// Runs the tool that the words name, over the link `io` and the database at `settings.conf_path`.
+/// Runs the tool that the words name, over the link `io` and the database at `settings.conf_path`: the questions
+/// stand there, and the templates at that path followed by `.templates`.
 ///
 /// `communicate [OWNER]` serves the commands that come on the link, as debconf-communicate(1) does, and answers each line
-/// before it reads more. Nothing is written to a file or to `err`.
+/// before it reads more. At the end of the link a changed table is saved. Nothing is written to `err`.
 pub fn run_words<L: Link, E: Link, F: Files>(
     alloc: Global,
     words: &List<Text>,
@@ -26,13 +29,14 @@ pub fn run_words<L: Link, E: Link, F: Files>(
     err: &mut E,
     files: &mut F,
 ) -> Outcome
-    // What was said on the link is what the plain machine says, by the end of the run.
-    ensures ran { HasRunWords words.now settings.now.conf_path (F.disk files.old) (L.talk io.old) (L.talk io.new) (L.left io.old) (L.left io.new) result.end result.last_code }
+    // What was said on the link is what the plain machine says, and what was saved is its table, by the end of the run.
+    ensures ran { HasRunWords words.now settings.now.conf_path settings.now.lang
+        (record { files = record { disk = F.disk files.old; calls = F.calls files.old }; talk = L.talk io.old; input = L.left io.old })
+        (record { files = record { disk = F.disk files.new; calls = F.calls files.new }; talk = L.talk io.new; input = L.left io.new })
+        result.end result.last_code }
     ensures status { result.status ≡ status_of result.end result.last_code }
 
-    // The database was read once, and nothing else was done with files. Nothing was said on `err`.
-    ensures calls { CallsFiles result.end (F.calls files.old) (F.calls files.new) settings.now.conf_path }
-    ensures disk { F.disk files.new ≡ F.disk files.old }
+    // Nothing was said on `err`.
     ensures err { err.new ≡ err.old }
 
     // Each fault has its end, and no other end passes over one.
@@ -42,24 +46,63 @@ pub fn run_words<L: Link, E: Link, F: Files>(
     let _ = err;
     match read_tool(words) {
         Err(word) => outcome_at(End::Usage { word }, 0),
-        Ok(Tool::Communicate) => communicate(alloc, &settings.conf_path, io, files),
+        Ok(Tool::Communicate) => communicate(alloc, settings, io, files),
     }
 }
 
-fn communicate<L: Link, F: Files>(alloc: Global, path: &Text, io: &mut L, files: &mut F) -> Outcome
-    ensures ran { HasCommunicated path.now (F.disk files.old) (L.talk io.old) (L.talk io.new) (L.left io.old) (L.left io.new) result.end result.last_code }
+fn communicate<L: Link, F: Files>(
+    alloc: Global,
+    settings: &Settings,
+    io: &mut L,
+    files: &mut F,
+) -> Outcome
+    ensures ran { HasCommunicated settings.now.conf_path settings.now.lang
+        (record { files = record { disk = F.disk files.old; calls = F.calls files.old }; talk = L.talk io.old; input = L.left io.old })
+        (record { files = record { disk = F.disk files.new; calls = F.calls files.new }; talk = L.talk io.new; input = L.left io.new })
+        result.end result.last_code }
     ensures status { result.status ≡ status_of result.end result.last_code }
-    ensures calls { CallsFiles result.end (F.calls files.old) (F.calls files.new) path.now }
-    ensures disk { F.disk files.new ≡ F.disk files.old }
     ensures files_faults { FilesFaults result.end (F.faults files.old) (F.faults files.new) }
     ensures link_faults { LinkCounts result.end (L.faults io.old) (L.faults io.new) }
 {
-    match load(alloc, path, files) {
+    let lang = match settings.lang.copy() {
+        Ok(lang) => lang,
+        Err(_) => return outcome_at(End::OutOfMemory, 0),
+    };
+    match load_database(alloc, &settings.conf_path, files) {
         Err(end) => outcome_at(end, 0),
-        Ok(table) => {
-            let mut session = Session::new(alloc, table);
+        Ok(database) => {
+            let mut session = Session::new(alloc, database, lang);
             let served = serve_link(alloc, io, &mut session);
-            outcome_at(end_at(served.end), served.last_code)
+            let end = finish(alloc, &settings.conf_path, &session, served.end, files);
+            outcome_at(end, served.last_code)
+        }
+    }
+}
+
+// Saves the table of questions where it changed, unless memory ran out, and answers the end of the run.
+fn finish<F: Files>(
+    alloc: Global,
+    path: &Text,
+    session: &Session,
+    end: LinkEnd,
+    files: &mut F,
+) -> End
+    ensures finishes { Finishes path.now session.now end
+        (record { disk = F.disk files.old; calls = F.calls files.old })
+        (record { disk = F.disk files.new; calls = F.calls files.new })
+        result }
+    ensures faults { FilesFaults result (F.faults files.old) (F.faults files.new) }
+{
+    match end {
+        LinkEnd::OutOfMemory => End::OutOfMemory,
+        LinkEnd::Done | LinkEnd::LinkFault | LinkEnd::TooLong => {
+            if !session.is_changed() {
+                return end_at(end);
+            }
+            match save(alloc, path, session.questions(), files) {
+                Ok(()) => end_at(end),
+                Err(error) => end_at_unsaved(end, error),
+            }
         }
     }
 }

@@ -1,12 +1,13 @@
-// A session: the table of questions, and what a line does to it.
-ghost use Rattle.std.specs.Prelude.{◌≡◌, IfOk, OnOk, OnErr, codes, unwrap_or};
-ghost use Rattle.std.specs.FinMap as map;
-ghost use Rattle.dc_run.specs.Machine.{answer, next, answer_to, answer_heard, value_of, truth};
+// A session: the tables, and what a line does to them.
+ghost use Rattle.std.specs.Prelude.{◌≡◌, IfOk, OnOk, OnErr, Some};
+ghost use Rattle.dc_run.specs.State.{loaded};
+ghost use Rattle.dc_run.specs.Machine.{answer, next, answer_heard, after_heard, after_command, after_op, answer_to};
 
-use crate::command::{Command, Heard, read_command};
-use crate::reply::Reply;
-use dc_item::Item;
-use dc_text::{Line, Mem, TextMap};
+use crate::answers::{Answer, answer_on, missing, question};
+use crate::loading::Database;
+use dc_item::{After, Item, Op};
+use dc_proto::{Command, Heard, Reply, read_command};
+use dc_text::{Line, Mem, Text, TextMap};
 use std::alloc::Global;
 use std::marker::Model;
 
@@ -19,32 +20,56 @@ pub enum Stepped {
     Stopped,
 }
 
-/// A session over the table of questions.
+/// A session over the tables of a database, for a user of this language.
 #[derive(Drop)]
 pub struct Session {
     alloc: Global,
-    table: TextMap<Item>,
+    questions: TextMap<Item>,
+    changed: bool,
+    templates: TextMap<Item>,
+    lang: Text,
 }
 
 impl Model for Session {
-    ghost use Rattle.dc_text.specs.Maps.{Texts, text_cmp};
-    ghost use Rattle.std.specs.Coded.{coded_ℕ, coded_list};
-    ghost use Rattle.std.specs.FinMap as map;
-    ghost use Rattle.dc_item.specs.Item.{Parts, parts_code};
+    ghost use Rattle.dc_run.specs.State.{State, state_code};
 
-    ghost Value = { Texts Parts };
+    ghost Value = { State };
 
-    ghost coded = { map.code (coded_list coded_ℕ) parts_code };
+    ghost coded = { state_code };
 
-    ghost view = { λ s. s.table };
+    ghost view = { λ s. record { questions = s.questions; changed = s.changed; templates = s.templates; lang = s.lang } };
 }
 
 impl Session {
-    /// A session over the table.
-    pub fn new(alloc: Global, table: TextMap<Item>) -> Self
-        ensures { result ≡ table }
+    /// A session over a database as it was loaded.
+    pub fn new(alloc: Global, database: Database, lang: Text) -> Self
+        ensures { result ≡ loaded database.questions database.templates lang }
     {
-        Session { alloc, table }
+        let Database {
+            questions,
+            templates,
+        } = database;
+        Session {
+            alloc,
+            questions,
+            changed: false,
+            templates,
+            lang,
+        }
+    }
+
+    /// The table of questions.
+    pub fn questions(&self) -> &TextMap<Item>
+        ensures { result.now ≡ self.now.questions }
+    {
+        &self.questions
+    }
+
+    /// Whether the item of a question changed, came or went since the database was loaded.
+    pub fn is_changed(&self) -> bool
+        ensures { result ≡ self.now.changed }
+    {
+        self.changed
     }
 
     /// Takes one line. Where it can't be taken for want of memory, the session stays as it was.
@@ -54,51 +79,85 @@ impl Session {
         ensures err { OnErr result (self.new ≡ self.old) }
     {
         match line {
-            Line::TooLong => Ok(Stepped::Replied(Reply::new(self.alloc, 20, b"line too long")?)),
+            Line::TooLong => {
+                let reply = Reply::new(self.alloc, 20, b"line too long")?;
+                Ok(Stepped::Replied(reply))
+            }
             Line::Whole(text) => {
-                let heard = read_command(self.alloc, text.bytes())?;
-                self.answer(heard)
+                let heard = read_command(self.alloc, text.bytes(), false)?;
+                self.serve(heard)
             }
         }
     }
 
-    fn answer(&self, heard: Heard) -> Mem<Stepped>
-        ensures { IfOk result (λ stepped. stepped ≡ answer_heard self.now heard) }
+    fn serve(&mut self, heard: Heard) -> Mem<Stepped>
+        ensures answer { IfOk result (λ stepped. stepped ≡ answer_heard self.old heard) }
+        ensures next { OnOk result (self.new ≡ after_heard self.old heard) }
+        ensures err { OnErr result (self.new ≡ self.old) }
     {
         match heard {
             Heard::Nothing => Ok(Stepped::Silent),
             Heard::Refused(reply) => Ok(Stepped::Replied(reply)),
-            Heard::Known(command) => Ok(Stepped::Replied(self.answer_to(&command)?)),
+            Heard::Known(command) => {
+                let reply = self.run(&command)?;
+                Ok(Stepped::Replied(reply))
+            }
         }
     }
 
-    fn answer_to(&self, command: &Command) -> Mem<Reply>
-        ensures { IfOk result (λ reply. reply ≡ answer_to self.now command.now) }
+    fn run(&mut self, command: &Command) -> Mem<Reply>
+        ensures answer { IfOk result (λ reply. reply ≡ (answer_to self.old command.now).reply) }
+        ensures next { OnOk result (self.new ≡ after_command self.old command.now) }
+        ensures err { OnErr result (self.new ≡ self.old) }
     {
-        match command {
-            Command::Get(question) => match self.table.get(question.bytes()) {
-                None => Reply::no_question(self.alloc, question.bytes()),
-                Some(item) => Reply::new(self.alloc, 0, value(item)),
-            },
-            Command::Fget { question, flag } => match self.table.get(question.bytes()) {
-                None => Reply::no_question(self.alloc, question.bytes()),
-                Some(item) => Reply::new(self.alloc, 0, shown_truth(item.flag(flag.bytes()))),
-            },
+        let Answer { reply, op } = self.answer_to(command)?;
+        self.apply(question(command), &op)?;
+        Ok(reply)
+    }
+
+    fn apply(&mut self, question: &Text, op: &Option<Op>) -> Mem<()>
+        ensures ok { OnOk result (self.new ≡ after_op self.old question.now op.now) }
+        ensures err { OnErr result (self.new ≡ self.old) }
+    {
+        match op {
+            None => Ok(()),
+            Some(op) => self.write(question, op),
         }
     }
-}
 
-fn value(item: &Item) -> &[u8]
-    ensures { result.now ≡ value_of item.now }
-{
-    match item.field(b"value") {
-        None => b"",
-        Some(value) => value.bytes(),
+    // Does the operation on the item of the name.
+    fn write(&mut self, name: &Text, op: &Op) -> Mem<()>
+        ensures ok { OnOk result (self.new ≡ after_op self.old name.now (Some op.now)) }
+        ensures err { OnErr result (self.new ≡ self.old) }
+    {
+        match op.at(self.questions.get(name.bytes()))? {
+            After::Same => Ok(()),
+            After::Changed(item) => {
+                self.questions.insert(name.copy()?, item)?;
+                self.changed = true;
+                Ok(())
+            }
+            After::Gone => {
+                self.questions.remove(name.bytes());
+                self.changed = true;
+                Ok(())
+            }
+        }
     }
-}
 
-fn shown_truth(is: bool) -> &'static [u8]
-    ensures { result.now ≡ truth is }
-{
-    if is { b"true" } else { b"false" }
+    fn answer_to(&self, command: &Command) -> Mem<Answer>
+        ensures { IfOk result (λ made. made ≡ answer_to self.now command.now) }
+    {
+        let question = question(command);
+        match self.questions.get(question.bytes()) {
+            None => missing(self.alloc, question),
+            Some(item) => answer_on(
+                self.alloc,
+                self.lang.bytes(),
+                &self.templates,
+                command,
+                item,
+            ),
+        }
+    }
 }
