@@ -3,6 +3,7 @@
 
 mod host_err;
 mod host_files;
+mod host_folders;
 mod host_io;
 mod host_link;
 mod surroundings;

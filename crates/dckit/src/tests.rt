@@ -2,10 +2,11 @@
 use crate::host_err::HostErr;
 use crate::host_files::{HostFiles, MAX_FILE};
 use crate::host_link::HostLink;
-use dc_outside::{Files, FilesError, Link, LinkError};
-use dc_text::{Mem, Text};
+use dc_outside::{Files, FilesError, FilesOp, Link, LinkError};
+use dc_text::{List, Mem, Text};
 use std::alloc::Global;
 use std::fs::OpenFile;
+use std::os::unix::fs::{MetadataExt, symlink};
 use std::test::Fail;
 use std::{env, fs, io};
 
@@ -18,14 +19,19 @@ fn a_link_reads_and_writes(rt: HostRuntime) -> Result<(), Fail> {
     assert_eq!(rt; link.read_some(&mut buf), Ok(3));
     assert_eq!(rt; buf.as_slice(), b"abc".as_slice());
     assert_eq!(rt; link.read_some(&mut buf), Ok(1));
-    let (input, _) = io::pipe(&rt)?;
+    Ok(())
+}
+
+#[test]
+fn a_link_ends_and_fails(rt: HostRuntime) -> Result<(), Fail> {
     let folder = make_folder(&rt, "link")?;
     let path = inside(&rt, &folder, "file")?;
     fs::write(&rt, path.as_str(), "")?;
-    let mut ended = HostLink::new(input, fs::open(&rt, path.as_str())?);
-    assert_eq!(rt; ended.read_some(&mut buf), Ok(0));
+    let (input, _) = io::pipe(&rt)?;
+    let mut link = HostLink::new(input, fs::open(&rt, path.as_str())?);
+    assert_eq!(rt; link.read_some(&mut [0u8; 3]), Ok(0));
     assert_eq!(rt;
-        ended.write(b"x"),
+        link.write(b"x"),
         Err(LinkError::Failed),
         "a file open for reading"
     );
@@ -34,11 +40,10 @@ fn a_link_reads_and_writes(rt: HostRuntime) -> Result<(), Fail> {
 }
 
 #[test]
-fn standard_error_is_written(rt: HostRuntime) -> Result<(), Fail> {
+fn standard_error_is_written(rt: HostRuntime) {
     let mut err = HostErr::new(rt.stderr());
     assert_eq!(rt; err.write(b"written to standard error\n"), Ok(()));
     assert_eq!(rt; err.read_some(&mut [0u8; 3]), Ok(0));
-    Ok(())
 }
 
 // An empty folder of this process.
@@ -54,20 +59,25 @@ fn inside(rt: &HostRuntime, folder: &str, name: &str) -> io::Result<String> {
     Ok(format!(in rt.alloc(); "{folder}/{name}")?)
 }
 
-fn text(alloc: Global, bytes: &str) -> Mem<Text> {
-    Text::from_bytes(alloc, bytes.as_bytes())
+// The same, as the files take it.
+fn text_inside(rt: &HostRuntime, folder: &str, name: &str) -> Result<Text, Fail> {
+    let path = inside(rt, folder, name)?;
+    Ok(Text::from_bytes(rt.alloc(), path.as_bytes())?)
 }
 
 // How many bytes a read gives.
 fn count_of(answer: Result<Option<Text>, FilesError>) -> Result<Option<usize>, FilesError> {
-    Ok(answer?.map(|bytes| bytes.bytes().len()))
+    match answer {
+        Ok(Some(bytes)) => Ok(Some(bytes.bytes().len())),
+        Ok(None) => Ok(None),
+        Err(error) => Err(error),
+    }
 }
 
 #[test]
-fn files_are_read(rt: HostRuntime) -> Result<(), Fail> {
-    let alloc = rt.alloc();
-    let folder = make_folder(&rt, "read")?;
-    let mut files = HostFiles::new(alloc, rt.clone()?);
+fn files_of_any_size_are_read(rt: HostRuntime) -> Result<(), Fail> {
+    let folder = make_folder(&rt, "size")?;
+    let mut files = HostFiles::new(rt.alloc(), rt.clone()?);
     for (name, size, answer) in [
         ("small", 3, Ok(Some(3))),
         ("pieces", 200_000, Ok(Some(200_000))),
@@ -76,32 +86,170 @@ fn files_are_read(rt: HostRuntime) -> Result<(), Fail> {
     ] {
         let path = inside(&rt, &folder, name)?;
         fs::create(&rt, path.as_str())?.set_len(size as u64)?;
-        assert_eq!(rt;
-            count_of(files.read(&text(alloc, &path)?)),
-            answer,
-            "{name:?}"
-        );
+        let found = files.read(&text_inside(&rt, &folder, name)?);
+        assert_eq!(rt; count_of(found), answer, "{name:?}");
     }
+    fs::remove_dir_all(&rt, folder.as_str())?;
+    Ok(())
+}
+
+#[test]
+fn missing_files_are_read(rt: HostRuntime) -> Result<(), Fail> {
+    let folder = make_folder(&rt, "missing")?;
+    let mut files = HostFiles::new(rt.alloc(), rt.clone()?);
     for (name, answer) in [
         ("missing", Ok(None)),
         ("missing/below", Ok(None)),
         (".", Err(FilesError::Failed)),
     ] {
-        let path = inside(&rt, &folder, name)?;
-        assert_eq!(rt;
-            count_of(files.read(&text(alloc, &path)?)),
-            answer,
-            "{name:?}"
-        );
+        let found = files.read(&text_inside(&rt, &folder, name)?);
+        assert_eq!(rt; count_of(found), answer, "{name:?}");
     }
-    let path = inside(&rt, &folder, "written")?;
-    fs::write(&rt, path.as_str(), "ab\nc")?;
-    match files.read(&text(alloc, &path)?) {
-        Ok(Some(bytes)) => assert_eq!(rt; bytes.bytes(), b"ab\nc".as_slice()),
-        Ok(None) | Err(_) => panic!(rt; "the file isn't read"),
-    }
-    let not_utf8 = Text::from_bytes(alloc, b"\xff")?;
+    let not_utf8 = Text::from_bytes(rt.alloc(), b"\xff")?;
     assert_eq!(rt; count_of(files.read(&not_utf8)), Err(FilesError::Failed));
+    fs::remove_dir_all(&rt, folder.as_str())?;
+    Ok(())
+}
+
+// What stands at the path, or no bytes where the read gives none.
+fn bytes_of(alloc: Global, answer: Result<Option<Text>, FilesError>) -> Text {
+    match answer {
+        Ok(Some(bytes)) => bytes,
+        Ok(None) | Err(_) => Text::new(alloc),
+    }
+}
+
+#[test]
+fn a_file_is_read(rt: HostRuntime) -> Result<(), Fail> {
+    let folder = make_folder(&rt, "read")?;
+    let mut files = HostFiles::new(rt.alloc(), rt.clone()?);
+    fs::write(&rt, inside(&rt, &folder, "written")?.as_str(), "ab\nc")?;
+    let found = files.read(&text_inside(&rt, &folder, "written")?);
+    assert_eq!(rt; bytes_of(rt.alloc(), found).bytes(), b"ab\nc".as_slice());
+    fs::remove_dir_all(&rt, folder.as_str())?;
+    Ok(())
+}
+
+// The paths below a folder, a bar after each.
+fn show_paths(alloc: Global, answer: Result<List<Text>, FilesError>) -> Mem<Text> {
+    let mut shown = Text::new(alloc);
+    match answer {
+        Ok(paths) => {
+            for path in paths.as_slice() {
+                shown.append(path.bytes())?;
+                shown.push(b'|')?;
+            }
+        }
+        Err(_) => shown.append(b"failed")?,
+    }
+    Ok(shown)
+}
+
+fn mode_of(rt: &HostRuntime, path: &str) -> io::Result<u32> {
+    Ok(fs::metadata(rt, path)?.mode() & 0o7777)
+}
+
+// Puts the bytes at the path as a file that is saved.
+fn save(
+    files: &mut HostFiles<HostRuntime>,
+    new: &Text,
+    path: &Text,
+    bytes: &str,
+    mode: u16,
+) -> Result<(), FilesError> {
+    files.write(new, bytes.as_bytes(), mode)?;
+    files.sync(new)?;
+    files.rename(new, path)?;
+    files.sync_names()
+}
+
+#[test]
+fn files_are_saved(rt: HostRuntime) -> Result<(), Fail> {
+    let folder = make_folder(&rt, "save")?;
+    let path = inside(&rt, &folder, "a/b/q")?;
+    let new = text_inside(&rt, &folder, "a/b/q-new")?;
+    let saved = text_inside(&rt, &folder, "a/b/q")?;
+    let mut files = HostFiles::new(rt.alloc(), rt.clone()?);
+    for (bytes, mode) in [("first", 0o666), ("second", 0o4755), ("", 0o600)] {
+        assert_eq!(rt; save(&mut files, &new, &saved, bytes, mode), Ok(()));
+        assert_eq!(rt; fs::read_to_string(&rt, path.as_str())?.as_str(), bytes);
+        assert_eq!(rt; mode_of(&rt, &path)?, u32::from(mode), "whatever the umask");
+    }
+    fs::remove_dir_all(&rt, folder.as_str())?;
+    Ok(())
+}
+
+// A call on the path. A write leaves "x" with mode 640, and a rename puts the file in its own place.
+fn call(files: &mut HostFiles<HostRuntime>, op: FilesOp, path: &Text) -> Result<(), FilesError> {
+    match op {
+        FilesOp::Read => files.read(path).map(|_| ()),
+        FilesOp::List => files.list(path).map(|_| ()),
+        FilesOp::Write => files.write(path, b"x", 0o640),
+        FilesOp::Sync => files.sync(path),
+        FilesOp::Rename => files.rename(path, path),
+        FilesOp::SyncNames => files.sync_names(),
+        FilesOp::Remove => files.remove(path),
+    }
+}
+
+#[test]
+fn files_are_changed(rt: HostRuntime) -> Result<(), Fail> {
+    let folder = make_folder(&rt, "change")?;
+    let mut files = HostFiles::new(rt.alloc(), rt.clone()?);
+    for (number, (op, name, answer)) in [
+        (FilesOp::Write, "a/q", Ok(())),
+        (FilesOp::Write, "a/q", Ok(())),
+        (FilesOp::Write, "a", Err(FilesError::Failed)),
+        (FilesOp::Write, "a/q/b/c", Err(FilesError::Failed)),
+        (FilesOp::SyncNames, "", Ok(())),
+        (FilesOp::Rename, "a/q", Ok(())),
+        (FilesOp::Rename, "a/r", Err(FilesError::Failed)),
+        (FilesOp::Sync, "a/r", Err(FilesError::Failed)),
+        (FilesOp::Remove, "a", Err(FilesError::Failed)),
+        (FilesOp::Remove, "a/q", Ok(())),
+        (FilesOp::Remove, "a/q", Ok(())),
+        (FilesOp::SyncNames, "", Ok(())),
+    ]
+    .into_iter()
+    .enumerate()
+    {
+        let given = call(&mut files, op, &text_inside(&rt, &folder, name)?);
+        assert_eq!(rt; given, answer, "call {number}");
+    }
+    fs::remove_dir_all(&rt, folder.as_str())?;
+    Ok(())
+}
+
+// Files at any depth, and links.
+fn fill(rt: &HostRuntime, files: &mut HostFiles<HostRuntime>, folder: &str) -> Result<(), Fail> {
+    for name in ["d/b", "d/a/c", "d/a.x", "da/x"] {
+        files.write(&text_inside(rt, folder, name)?, b"", 0o600)?;
+    }
+    for (name, target) in [
+        ("d/to_file", "a/c"),
+        ("d/to_folder", "a"),
+        ("d/nowhere", "x"),
+    ] {
+        symlink(rt, target, inside(rt, folder, name)?.as_str())?;
+    }
+    Ok(())
+}
+
+#[test]
+fn files_are_listed(rt: HostRuntime) -> Result<(), Fail> {
+    let folder = make_folder(&rt, "list")?;
+    let mut files = HostFiles::new(rt.alloc(), rt.clone()?);
+    fill(&rt, &mut files, &folder)?;
+    for (name, paths) in [
+        ("d", "a.x|a/c|b|to_file|"),
+        ("d/a", "c|"),
+        ("x", ""),
+        ("d/b", "failed"),
+    ] {
+        let answer = files.list(&text_inside(&rt, &folder, name)?);
+        let shown = show_paths(rt.alloc(), answer)?;
+        assert_eq!(rt; shown.bytes(), paths.as_bytes(), "{name:?}");
+    }
     fs::remove_dir_all(&rt, folder.as_str())?;
     Ok(())
 }

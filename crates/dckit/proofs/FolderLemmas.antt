@@ -1,0 +1,21 @@
+-- The folders that are kept.
+use Rattle.std.proofs.Common.{◌≡◌, ℕ, Bool, true, false, cond, List, Option, Some, refl, ap, ◌∙◌}
+use Rattle.std.specs.Ordering.{eq_by_cmp}
+use Rattle.std.specs.Cmp.{eq_by_cmp_equiv}
+use Rattle.std.specs.Cmp.Lexicographic.{nat_list_cmp_total}
+use Rattle.std.specs.FinMap as map
+use Rattle.std.specs.FinMap.{get-insert}
+use Rattle.dc_text.specs.Maps.{TextSet, text_cmp}
+use Rattle.dckit.specs.Folders.{folder_of, with_folder_of, IsKept, Keeps}
+
+kept_either : (b : Bool) (found : Option (Unit {0})) → found ≡ Some tt → cond b (Some tt) found ≡ Some tt
+kept_either true found kept = refl
+kept_either false found kept = kept
+
+pub is_kept-with : (folders : TextSet) (path : List ℕ) → IsKept (with_folder_of folders path) path
+is_kept-with folders path = get-insert nat_list_cmp_total folders (folder_of path) tt (folder_of path)
+    ∙ ap (λ b. cond b (Some tt) (map.get folders (folder_of path))) ((eq_by_cmp_equiv nat_list_cmp_total).refl (folder_of path))
+
+pub keeps-with : (folders : TextSet) (path : List ℕ) → Keeps folders (with_folder_of folders path)
+keeps-with folders path folder kept = get-insert nat_list_cmp_total folders (folder_of path) tt folder
+    ∙ kept_either (eq_by_cmp text_cmp folder (folder_of path)) (map.get folders folder) kept
