@@ -2,7 +2,8 @@
 use crate::host_err::HostErr;
 use crate::host_files::{HostFiles, MAX_FILE};
 use crate::host_link::HostLink;
-use dc_outside::{Files, FilesError, FilesOp, Link, LinkError};
+use dc_outside::{Files, FilesError, FilesOp, Link, LinkError, MemLink};
+use dc_run::{Settings, run_words};
 use dc_text::{List, Mem, Text};
 use std::alloc::Global;
 use std::fs::OpenFile;
@@ -250,6 +251,46 @@ fn files_are_listed(rt: HostRuntime) -> Result<(), Fail> {
         let shown = show_paths(rt.alloc(), answer)?;
         assert_eq!(rt; shown.bytes(), paths.as_bytes(), "{name:?}");
     }
+    fs::remove_dir_all(&rt, folder.as_str())?;
+    Ok(())
+}
+
+// What `communicate` answers to the input over the questions in the folder.
+fn answered(rt: &HostRuntime, folder: &str, input: &[u8]) -> Result<Text, Fail> {
+    let alloc = rt.alloc();
+    let settings = Settings {
+        conf_path: text_inside(rt, folder, "questions")?,
+        frontend: None,
+        priority: None,
+        lang: Text::new(alloc),
+        nonint_seen: false,
+    };
+    let mut words = List::new(alloc);
+    words.push(Text::from_bytes(alloc, b"communicate")?)?;
+    let mut io = MemLink::new(alloc, input, &[], &[])?;
+    let mut err = MemLink::new(alloc, b"", &[], &[])?;
+    let mut files = HostFiles::new(alloc, rt.clone()?);
+    let _ = run_words(alloc, &words, &settings, &mut io, &mut err, &mut files);
+    Ok(io.sent().copy()?)
+}
+
+#[test]
+fn a_run_saves_its_questions(rt: HostRuntime) -> Result<(), Fail> {
+    let folder = make_folder(&rt, "run")?;
+    let path = inside(&rt, &folder, "questions")?;
+    fs::write(&rt, path.as_str(), "Name: a/b\nValue: old\n")?;
+    let said = answered(&rt, &folder, b"SET a/b new\n")?;
+    assert_eq!(rt; said.bytes(), b"0 value set\n".as_slice());
+    let saved = fs::read_to_string(&rt, path.as_str())?;
+    assert_eq!(rt; saved.as_str(), "Name: a/b\nValue: new\n\n");
+    assert_eq!(rt; mode_of(&rt, &path)?, 0o600);
+    let mut files = HostFiles::new(rt.alloc(), rt.clone()?);
+    let left = files.list(&Text::from_bytes(rt.alloc(), folder.as_bytes())?);
+    assert_eq!(rt;
+        show_paths(rt.alloc(), left)?.bytes(),
+        b"questions|".as_slice(),
+        "nothing is left beside it"
+    );
     fs::remove_dir_all(&rt, folder.as_str())?;
     Ok(())
 }
