@@ -2,25 +2,30 @@
 use crate::{choice_pair, field, kind, template_of, value};
 use dc_item::{Item, read_records};
 use dc_template::Kind;
-use dc_text::{FieldKey, List, Mem, Text, TextMap};
+use dc_text::{FieldKey, List, Text, TextMap};
 use std::alloc::Global;
-use std::test::Fail;
 
 const TEMPLATE: &str =
     "Default: Bob\nDefault-de: Robert\nDescription: Name of ${who}?\nDescription-de: Wer ist ${who}?\nExtended_description: First line goes on.\\n\\n  kept\nNote: ${who}\nType: string\nType-de: text\n";
 
 // The item of a record of these lines.
-fn item(alloc: Global, lines: &str) -> Result<Item, Fail> {
-    let text = format!(in alloc; "Name: x/name\n{lines}")?;
-    let mut read = read_records(alloc, text.as_bytes())?;
-    let entry = read.pop().ok_or("no record")?;
-    Ok(entry.item)
+fn item(alloc: Global, lines: &str) -> Option<Item> {
+    let mut text = Text::from_bytes(alloc, b"Name: x/name\n").ok()?;
+    text.append(lines.as_bytes()).ok()?;
+    let mut read = read_records(alloc, text.bytes()).ok()?;
+    let entry = read.pop()?;
+    Some(entry.item)
+}
+
+// The value of a question of these lines, in a language.
+fn value_in(alloc: Global, lang: &str, question: &str) -> Option<Text> {
+    let question = item(alloc, question)?;
+    let template = item(alloc, TEMPLATE)?;
+    value(alloc, lang.as_bytes(), &question, Some(&template)).ok()
 }
 
 #[test]
-fn a_value_is_its_own_or_the_default_in_a_language(rt: HostRuntime) -> Result<(), Fail> {
-    let alloc = rt.alloc();
-    let template = item(alloc, TEMPLATE)?;
+fn a_value_is_its_own_or_the_default_in_a_language(rt: HostRuntime) {
     for (question, lang, expected) in [
         ("", "", "Bob"),
         ("", "de_DE.UTF-8", "Robert"),
@@ -33,28 +38,32 @@ fn a_value_is_its_own_or_the_default_in_a_language(rt: HostRuntime) -> Result<()
         ("Value: own\n", "de", "own"),
         ("Value:\n", "de", ""),
     ] {
-        let question = item(alloc, question)?;
-        let read = value(alloc, lang.as_bytes(), &question, Some(&template))?;
+        let read = value_in(rt.alloc(), lang, question).expect(&rt, "a value");
         assert_eq!(rt; read.bytes(), expected.as_bytes(), "{lang:?}");
-    }
-    let read = value(alloc, b"de", &item(alloc, "")?, None)?;
-    assert_eq!(rt; read.bytes(), b"".as_slice());
-    Ok(())
-}
-
-// A field as it is read, or `none`.
-fn shown(alloc: Global, found: Option<Text>) -> Mem<Text> {
-    match found {
-        Some(text) => Ok(text),
-        None => Text::from_bytes(alloc, b"none"),
     }
 }
 
 #[test]
-fn fields_are_read_in_a_language_with_variables_put_in(rt: HostRuntime) -> Result<(), Fail> {
-    let alloc = rt.alloc();
-    let template = item(alloc, TEMPLATE)?;
+fn a_question_without_a_template_has_the_empty_value(rt: HostRuntime) {
+    let question = item(rt.alloc(), "").expect(&rt, "a question");
+    let read = value(rt.alloc(), b"de", &question, None).expect(&rt, "a value");
+    assert_eq!(rt; read.bytes(), b"".as_slice());
+}
+
+// A field of the template in a language, or `none`.
+fn field_in(alloc: Global, lang: &str, key: &str) -> Option<Text> {
     let question = item(alloc, "Variables:\n who = Al\n")?;
+    let template = item(alloc, TEMPLATE)?;
+    let key = FieldKey::read(alloc, key.as_bytes()).ok()?;
+    let found = field(alloc, lang.as_bytes(), &question, &template, &key).ok()?;
+    match found {
+        Some(text) => Some(text),
+        None => Text::from_bytes(alloc, b"none").ok(),
+    }
+}
+
+#[test]
+fn fields_are_read_in_a_language_with_variables_put_in(rt: HostRuntime) {
     for (key, lang, expected) in [
         ("description", "", "Name of Al?"),
         ("Description", "de_AT.UTF-8", "Wer ist Al?"),
@@ -69,68 +78,72 @@ fn fields_are_read_in_a_language_with_variables_put_in(rt: HostRuntime) -> Resul
         ("type", "de", "string"),
         ("colour", "de", "none"),
     ] {
-        let key = FieldKey::read(alloc, key.as_bytes())?;
-        let found = field(alloc, lang.as_bytes(), &question, &template, &key)?;
-        assert_eq!(rt; shown(alloc, found)?.bytes(), expected.as_bytes());
+        let found = field_in(rt.alloc(), lang, key).expect(&rt, "a field");
+        assert_eq!(rt; found.bytes(), expected.as_bytes(), "{key:?}");
     }
-    Ok(())
 }
 
-// The choices with a bar after each.
-fn barred(alloc: Global, choices: &List<Text>) -> Mem<Text> {
+// The choices, with a bar after each.
+fn barred(alloc: Global, choices: &List<Text>) -> Option<Text> {
     let mut text = Text::new(alloc);
     for choice in choices.as_slice() {
-        text.append(choice.bytes())?;
-        text.push(b'|')?;
+        text.append(choice.bytes()).ok()?;
+        text.push(b'|').ok()?;
     }
-    Ok(text)
+    Some(text)
+}
+
+// The plain choices of a template of these lines, and the labels after a slash.
+fn choices_in(alloc: Global, lang: &str, template: &str) -> Option<Text> {
+    let question = item(alloc, "Variables:\n more = d, e\n")?;
+    let template = item(alloc, template)?;
+    let pair = choice_pair(alloc, lang.as_bytes(), &question, &template).ok()?;
+    let mut text = barred(alloc, &pair.plain)?;
+    text.push(b'/').ok()?;
+    text.append(barred(alloc, &pair.labels)?.bytes()).ok()?;
+    Some(text)
 }
 
 #[test]
-fn choices_have_labels(rt: HostRuntime) -> Result<(), Fail> {
-    let alloc = rt.alloc();
-    let question = item(alloc, "Variables:\n more = d, e\n")?;
-    for (template, plain, labels) in [
+fn choices_have_labels(rt: HostRuntime) {
+    for (template, expected) in [
         (
             "Choices: a\\, b, c\nChoices-de: eins, zwei\n",
-            "a, b|c|",
-            "eins|zwei|",
+            "a, b|c|/eins|zwei|",
         ),
-        ("Choices: a, b\nChoices-de: eins\n", "a|b|", "a|b|"),
+        ("Choices: a, b\nChoices-de: eins\n", "a|b|/a|b|"),
         (
             "Choices: a, ${more}\nChoices-de: x, y\\ , z\n",
-            "a|d|e|",
-            "x|y |z|",
+            "a|d|e|/x|y |z|",
         ),
-        ("Choices: a, b\n", "a|b|", "a|b|"),
-        ("Choices-de: eins\n", "", ""),
-        ("", "", ""),
+        ("Choices: a, b\n", "a|b|/a|b|"),
+        ("Choices-de: eins\n", "/"),
+        ("", "/"),
     ] {
-        let template = item(alloc, template)?;
-        let pair = choice_pair(alloc, b"de_AT.UTF-8", &question, &template)?;
-        assert_eq!(rt; barred(alloc, &pair.plain)?.bytes(), plain.as_bytes());
-        assert_eq!(rt; barred(alloc, &pair.labels)?.bytes(), labels.as_bytes());
+        let found = choices_in(rt.alloc(), "de_AT.UTF-8", template).expect(&rt, "choices");
+        assert_eq!(rt; found.bytes(), expected.as_bytes(), "{template:?}");
     }
-    Ok(())
+}
+
+// The kind of a question of these lines, among templates of two types.
+fn kind_in(alloc: Global, question: &str) -> Option<Kind> {
+    let question = item(alloc, question)?;
+    let mut templates = TextMap::new(alloc);
+    for (name, lines) in [("x/name", TEMPLATE), ("x/odd", "Type: colour\n")] {
+        let name = Text::from_bytes(alloc, name.as_bytes()).ok()?;
+        templates.insert(name, item(alloc, lines)?).ok()?;
+    }
+    kind(template_of(&templates, &question))
 }
 
 #[test]
-fn a_question_has_its_template_and_kind(rt: HostRuntime) -> Result<(), Fail> {
-    let alloc = rt.alloc();
-    let mut templates = TextMap::new(alloc);
-    templates.insert(Text::from_bytes(alloc, b"x/name")?, item(alloc, TEMPLATE)?)?;
-    templates.insert(
-        Text::from_bytes(alloc, b"x/odd")?,
-        item(alloc, "Type: colour\n")?,
-    )?;
+fn a_question_has_the_kind_of_its_template(rt: HostRuntime) {
     for (question, expected) in [
         ("Template: x/name\n", Some(Kind::Str)),
         ("Template: x/odd\n", None),
         ("Template: x/none\n", None),
         ("", None),
     ] {
-        let question = item(alloc, question)?;
-        assert_eq!(rt; kind(template_of(&templates, &question)), expected);
+        assert_eq!(rt; kind_in(rt.alloc(), question), expected, "{question:?}");
     }
-    Ok(())
 }
