@@ -1,265 +1,320 @@
-// The examples, over a link and files in memory.
+// The examples, over a link and files in memory. What a run says and leaves is compared as one text.
 use crate::{End, Outcome, Settings, run_words};
 use dc_outside::{Files, FilesOp, MemFiles, MemLink, Piece};
-use dc_text::{List, Mem, Text};
+use dc_text::{List, Text};
 use std::alloc::Global;
-use std::test::Fail;
 
-const QUESTIONS: &[u8] =
-    b"Name: debconf/frontend\nTemplate: debconf/frontend\nValue: Dialog\nOwners: debconf\nFlags: seen\n\nName: a/b\nValue: x\\ny\n";
+fn text(alloc: Global, bytes: &[u8]) -> Option<Text> {
+    Text::from_bytes(alloc, bytes).ok()
+}
 
-fn settings(alloc: Global, lang: &str) -> Mem<Settings> {
-    Ok(Settings {
-        conf_path: Text::from_bytes(alloc, b"q.dat")?,
+fn settings(alloc: Global, lang: &str) -> Option<Settings> {
+    let conf_path = text(alloc, b"q.dat")?;
+    let lang = text(alloc, lang.as_bytes())?;
+    Some(Settings {
+        conf_path,
         frontend: None,
         priority: None,
-        lang: Text::from_bytes(alloc, lang.as_bytes())?,
+        lang,
         nonint_seen: false,
     })
 }
 
-fn files(alloc: Global, text: Option<&[u8]>, failing: &[u64]) -> Mem<MemFiles> {
-    match text {
-        None => MemFiles::new(alloc, &[], failing),
-        Some(bytes) => {
-            let path = Text::from_bytes(alloc, b"q.dat")?;
-            let text = Text::from_bytes(alloc, bytes)?;
-            MemFiles::new(alloc, &[(path, text)], failing)
+// Files of questions and of templates, each where its text isn't empty.
+fn make_files(
+    alloc: Global,
+    questions: &[u8],
+    templates: &[u8],
+    failing: &[u64],
+) -> Option<MemFiles> {
+    let mut entries = Vec::new(alloc);
+    for (path, bytes) in [("q.dat", questions), ("q.dat.templates", templates)] {
+        if !bytes.is_empty() {
+            let path = text(alloc, path.as_bytes())?;
+            entries.push((path, text(alloc, bytes)?)).ok()?;
         }
     }
+    MemFiles::new(alloc, &entries, failing).ok()
 }
 
-fn words(alloc: Global, list: &[&str]) -> Mem<List<Text>> {
+fn make_words(alloc: Global, list: &[&str]) -> Option<List<Text>> {
     let mut words = List::new(alloc);
     for word in list {
-        words.push(Text::from_bytes(alloc, word.as_bytes())?)?;
+        words.push(text(alloc, word.as_bytes())?).ok()?;
     }
-    Ok(words)
+    Some(words)
 }
 
-// Runs the words over the link and the files.
-fn run(alloc: Global, list: &[&str], io: &mut MemLink, files: &mut MemFiles) -> Mem<Outcome> {
-    run_in(alloc, "", list, io, files)
-}
-
-// The same for a user of the language.
-fn run_in(
+// Runs the words for a user of the language.
+fn run(
     alloc: Global,
     lang: &str,
     list: &[&str],
     io: &mut MemLink,
     files: &mut MemFiles,
-) -> Mem<Outcome> {
-    let mut err = MemLink::new(alloc, b"", &[], &[])?;
-    Ok(run_words(
-        alloc,
-        &words(alloc, list)?,
-        &settings(alloc, lang)?,
-        io,
-        &mut err,
-        files,
-    ))
+) -> Option<Outcome> {
+    let words = make_words(alloc, list)?;
+    let settings = settings(alloc, lang)?;
+    let mut err = MemLink::new(alloc, b"", &[], &[]).ok()?;
+    Some(run_words(alloc, &words, &settings, io, &mut err, files))
 }
 
-// What `communicate p` answers to the input over the text.
-fn answer(
+// An end as a word, the number that it carries, and the path.
+fn end_parts(end: &End) -> (&'static str, u64, &[u8]) {
+    match end {
+        End::Done => ("done", 0, b""),
+        End::Usage { word } => ("usage", *word as u64, b""),
+        End::Damaged { path, line } => ("damaged", *line, path.bytes()),
+        End::FilesFault { path } => ("files", 0, path.bytes()),
+        End::LinkFault => ("link", 0, b""),
+        End::TooLong => ("too long", 0, b""),
+        End::OutOfMemory => ("memory", 0, b""),
+    }
+}
+
+// The status, and the end with what it carries.
+fn shown_end(alloc: Global, outcome: &Outcome) -> Option<Text> {
+    let (word, number, path) = end_parts(&outcome.end);
+    let head = format!(in alloc; "{} {word} {number} ", outcome.status).ok()?;
+    let mut shown = text(alloc, head.as_bytes())?;
+    shown.append(path).ok()?;
+    Some(shown)
+}
+
+// What `communicate p` says to the input, and then its end.
+fn answered(
     alloc: Global,
-    text: Option<&[u8]>,
+    lang: &str,
+    questions: &[u8],
+    templates: &[u8],
     input: &[u8],
     cuts: &[usize],
-) -> Mem<(Outcome, Text)> {
-    let mut io = MemLink::new(alloc, input, cuts, &[])?;
-    let mut files = files(alloc, text, &[])?;
-    let outcome = run(alloc, &["communicate", "p"], &mut io, &mut files)?;
-    Ok((outcome, io.sent().copy()?))
+) -> Option<Text> {
+    let mut io = MemLink::new(alloc, input, cuts, &[]).ok()?;
+    let mut files = make_files(alloc, questions, templates, &[])?;
+    let outcome = run(alloc, lang, &["communicate", "p"], &mut io, &mut files)?;
+    let mut said = io.sent().copy().ok()?;
+    said.append(shown_end(alloc, &outcome)?.bytes()).ok()?;
+    Some(said)
 }
 
+const QUESTIONS: &[u8] =
+    b"Name: debconf/frontend\nTemplate: debconf/frontend\nValue: Dialog\nOwners: debconf\nFlags: seen\n\nName: a/b\nValue: x\\ny\n";
+
 #[test]
-fn questions_and_flags_are_answered(rt: HostRuntime) -> Result<(), Fail> {
-    let alloc = rt.alloc();
-    for (input, sent, status) in [
+fn questions_and_flags_are_answered(rt: HostRuntime) {
+    for (input, said) in [
         (
             "get debconf/frontend\nFGET debconf/frontend seen\nGET no/such\nFROB\n",
-            "0 Dialog\n0 true\n10 no/such doesn't exist\n20 unsupported command\n",
-            20,
+            "0 Dialog\n0 true\n10 no/such doesn't exist\n20 unsupported command\n20 done 0 ",
         ),
-        ("GET a/b", "0 x\\ny\n", 0),
-        ("", "", 0),
-        ("# x\n\n \t\nGET a/b\n", "0 x\\ny\n", 0),
+        ("GET a/b", "0 x\\ny\n0 done 0 "),
+        ("", "0 done 0 "),
+        ("# x\n\n \t\nGET a/b\n", "0 x\\ny\n0 done 0 "),
         (
             "FGET a/b seen\nFGET a/b a,b\nFGET no/such a,b\n",
-            "0 false\n20 bad name\n20 bad name\n",
-            20,
+            "0 false\n20 bad name\n20 bad name\n20 done 0 ",
         ),
         (
             "GET\nGET a b\nFGET a/b\nGET a//b\n",
-            "20 wrong number of arguments\n20 wrong number of arguments\n20 wrong number of arguments\n10 a//b doesn't exist\n",
-            10,
+            "20 wrong number of arguments\n20 wrong number of arguments\n20 wrong number of arguments\n10 a//b doesn't exist\n10 done 0 ",
         ),
         (
             "STOP\nINPUT high a/b\nGET a/b\n",
-            "20 unsupported command\n20 unsupported command\n0 x\\ny\n",
-            0,
+            "20 unsupported command\n20 unsupported command\n0 x\\ny\n0 done 0 ",
         ),
-        ("\0\n", "20 unsupported command\n", 20),
+        ("\0\n", "20 unsupported command\n20 done 0 "),
     ] {
-        let (outcome, said) = answer(alloc, Some(QUESTIONS), input.as_bytes(), &[])?;
-        assert_eq!(rt; said.bytes(), sent.as_bytes(), "{input:?}");
-        assert_eq!(rt; outcome.status, status, "{input:?}");
-        assert_eq!(rt; matches!(outcome.end, End::Done), true, "{input:?}");
+        let found = answered(rt.alloc(), "", QUESTIONS, b"", input.as_bytes(), &[]).expect(
+            &rt,
+            "ample memory",
+        );
+        assert_eq!(rt; found.bytes(), said.as_bytes(), "{input:?}");
     }
-    Ok(())
 }
 
 #[test]
-fn a_file_that_is_not_there_is_the_empty_table(rt: HostRuntime) -> Result<(), Fail> {
-    let (outcome, said) = answer(rt.alloc(), None, b"GET a/b", &[])?;
-    assert_eq!(rt; said.bytes(), b"10 a/b doesn't exist\n".as_slice());
-    assert_eq!(rt; outcome.status, 10);
-    assert_eq!(rt; outcome.last_code, 10);
-    Ok(())
+fn odd_files_and_bytes_are_answered(rt: HostRuntime) {
+    for (questions, input, said) in [
+        (
+            b"".as_slice(),
+            b"GET a/b".as_slice(),
+            b"10 a/b doesn't exist\n10 done 0 ".as_slice(),
+        ),
+        (b"", b"GET \xff\n", b"10 \xff doesn't exist\n10 done 0 "),
+        (b"oops\n", b"GET a/b\n", b"121 damaged 1 q.dat"),
+    ] {
+        let found = answered(rt.alloc(), "", questions, b"", input, &[]).expect(
+            &rt,
+            "ample memory",
+        );
+        assert_eq!(rt; found.bytes(), said);
+    }
 }
 
 #[test]
-fn bytes_that_are_no_text_are_told_as_they_came(rt: HostRuntime) -> Result<(), Fail> {
-    let (outcome, said) = answer(rt.alloc(), None, b"GET \xff\n", &[])?;
-    assert_eq!(rt; said.bytes(), b"10 \xff doesn't exist\n".as_slice());
-    assert_eq!(rt; outcome.status, 10);
-    Ok(())
-}
-
-#[test]
-fn cuts_change_nothing(rt: HostRuntime) -> Result<(), Fail> {
-    let alloc = rt.alloc();
+fn cuts_change_nothing(rt: HostRuntime) {
+    let input = b"GET a/b\nGET a/b";
     for cut in 1..12usize {
-        let (outcome, said) = answer(
-            alloc,
-            Some(QUESTIONS),
-            b"GET a/b\nGET a/b",
-            &[cut, 1, 1, 1, 1],
-        )?;
-        assert_eq!(rt; said.bytes(), b"0 x\\ny\n0 x\\ny\n".as_slice());
-        assert_eq!(rt; outcome.status, 0);
-    }
-    Ok(())
-}
-
-#[test]
-fn a_line_has_a_limit(rt: HostRuntime) -> Result<(), Fail> {
-    let alloc = rt.alloc();
-    for (more, sent) in [(0usize, 1_048_590usize), (1, 17)] {
-        let mut input = Text::from_bytes(alloc, b"GET ")?;
-        for _ in 0..1_048_572 + more {
-            input.push(b'x')?;
-        }
-        let (outcome, said) = answer(alloc, None, input.bytes(), &[])?;
-        assert_eq!(rt; said.bytes().len(), sent);
-        assert_eq!(rt; outcome.status, if more == 0 { 10 } else { 20 });
-    }
-    Ok(())
-}
-
-fn is_damaged(end: &End, at: &[u8], bad: u64) -> bool {
-    match end {
-        End::Damaged { path, line } => path.bytes() == at && *line == bad,
-        _ => false,
+        let found = answered(rt.alloc(), "", QUESTIONS, b"", input, &[cut, 1, 1, 1, 1]).expect(
+            &rt,
+            "ample memory",
+        );
+        assert_eq!(rt; found.bytes(), b"0 x\\ny\n0 x\\ny\n0 done 0 ".as_slice());
     }
 }
 
-#[test]
-fn a_damaged_file_ends_the_run(rt: HostRuntime) -> Result<(), Fail> {
-    let (outcome, said) = answer(rt.alloc(), Some(b"oops\n"), b"GET a/b\n", &[])?;
-    assert_eq!(rt; said.bytes(), b"".as_slice());
-    assert_eq!(rt; outcome.status, 121);
-    assert_eq!(rt; is_damaged(&outcome.end, b"q.dat", 1), true);
-    Ok(())
+// How many bytes the answer to a line of the limit and so many more has.
+fn answer_to_long(alloc: Global, more: usize) -> Option<usize> {
+    let mut input = text(alloc, b"GET ")?;
+    for _ in 0..1_048_572 {
+        input.push(b'x').ok()?;
+    }
+    for _ in 0..more {
+        input.push(b'x').ok()?;
+    }
+    let found = answered(alloc, "", b"", b"", input.bytes(), &[])?;
+    Some(found.bytes().len())
 }
 
 #[test]
-fn wrong_words_are_named(rt: HostRuntime) -> Result<(), Fail> {
-    let alloc = rt.alloc();
-    for (list, place) in [
-        (["communicate", "p", "x"].as_slice(), 2usize),
-        (["communicate", "a b"].as_slice(), 1),
-        (["communicate", ""].as_slice(), 1),
-        (["show"].as_slice(), 0),
-        (["--help"].as_slice(), 0),
-        ([].as_slice(), 0),
+fn a_line_has_a_limit(rt: HostRuntime) {
+    for (more, length) in [(0usize, 1_048_600usize), (1, 27)] {
+        let found = answer_to_long(rt.alloc(), more).expect(&rt, "ample memory");
+        assert_eq!(rt; found, length);
+    }
+}
+
+// The end of these words, and the calls of the files.
+fn refused(alloc: Global, list: &[&str]) -> Option<Text> {
+    let mut io = MemLink::new(alloc, b"GET a/b\n", &[], &[]).ok()?;
+    let mut files = make_files(alloc, b"", b"", &[])?;
+    let outcome = run(alloc, "", list, &mut io, &mut files)?;
+    let mut shown = shown_end(alloc, &outcome)?;
+    shown.append(io.sent().bytes()).ok()?;
+    shown.append(called(alloc, &files)?.bytes()).ok()?;
+    Some(shown)
+}
+
+#[test]
+fn wrong_words_are_named(rt: HostRuntime) {
+    for (list, end) in [
+        (["communicate", "p", "x"].as_slice(), "120 usage 2 "),
+        (["communicate", "a b"].as_slice(), "120 usage 1 "),
+        (["communicate", ""].as_slice(), "120 usage 1 "),
+        (["show"].as_slice(), "120 usage 0 "),
+        (["--help"].as_slice(), "120 usage 0 "),
+        ([].as_slice(), "120 usage 0 "),
     ] {
-        let mut io = MemLink::new(alloc, b"GET a/b\n", &[], &[])?;
-        let mut files = files(alloc, None, &[])?;
-        let outcome = run(alloc, list, &mut io, &mut files)?;
-        assert_eq!(rt; outcome.status, 120);
-        assert_eq!(rt; files.calls().len(), 0);
-        match outcome.end {
-            End::Usage { word } => assert_eq!(rt; word, place),
-            _ => assert!(rt; false, "another end"),
-        }
+        let found = refused(rt.alloc(), list).expect(&rt, "ample memory");
+        assert_eq!(rt; found.bytes(), end.as_bytes());
     }
-    Ok(())
 }
 
-// The talk as text: `<` what came, `>` what was sent, `x` what was cut, `!` a read that failed.
-fn spoken(alloc: Global, link: &MemLink) -> Mem<Text> {
+// A piece with a letter before it: `<` what came, `>` what was sent, `x` what was cut, `!` a read that failed.
+fn append_piece(all: &mut Text, piece: &Piece) -> Option<()> {
+    let (letter, bytes) = match piece {
+        Piece::Got(bytes) => (b'<', bytes.bytes()),
+        Piece::Sent(bytes) => (b'>', bytes.bytes()),
+        Piece::Cut(bytes) => (b'x', bytes.bytes()),
+        Piece::Lost => (b'!', b"".as_slice()),
+    };
+    all.push(letter).ok()?;
+    all.append(bytes).ok()
+}
+
+// The talk over the link with these cuts and failing calls, and then the end.
+fn spoken(alloc: Global, input: &str, cuts: &[usize], failing: &[u64]) -> Option<Text> {
+    let mut io = MemLink::new(alloc, input.as_bytes(), cuts, failing).ok()?;
+    let mut files = make_files(alloc, QUESTIONS, b"", &[])?;
+    let outcome = run(alloc, "", &["communicate"], &mut io, &mut files)?;
     let mut all = Text::new(alloc);
-    for piece in link.talk().as_slice() {
-        match piece {
-            Piece::Got(bytes) => {
-                all.push(b'<')?;
-                all.append(bytes.bytes())?;
-            }
-            Piece::Sent(bytes) => {
-                all.push(b'>')?;
-                all.append(bytes.bytes())?;
-            }
-            Piece::Cut(bytes) => {
-                all.push(b'x')?;
-                all.append(bytes.bytes())?;
-            }
-            Piece::Lost => all.push(b'!')?,
-        }
+    for piece in io.talk().as_slice() {
+        append_piece(&mut all, piece)?;
     }
-    Ok(all)
+    all.append(shown_end(alloc, &outcome)?.bytes()).ok()?;
+    Some(all)
 }
 
 #[test]
-fn each_line_is_answered_before_more_is_read(rt: HostRuntime) -> Result<(), Fail> {
-    let alloc = rt.alloc();
-    for (cuts, failing, talk, status) in [
+fn each_line_is_answered_before_more_is_read(rt: HostRuntime) {
+    for (cuts, failing, talk) in [
         (
             [4usize, 10].as_slice(),
             [].as_slice(),
-            "<FROB<\nGET a/b\nG>20 unsupported command\n>0 x\\ny\n<ET a/b>0 x\\ny\n",
-            0u8,
+            "<FROB<\nGET a/b\nG>20 unsupported command\n>0 x\\ny\n<ET a/b>0 x\\ny\n0 done 0 ",
         ),
-        ([].as_slice(), [0u64].as_slice(), "!", 124),
+        ([].as_slice(), [0u64].as_slice(), "!124 link 0 "),
         (
             [5].as_slice(),
             [2].as_slice(),
-            "<FROB\n>20 unsupported command\n!",
-            124,
+            "<FROB\n>20 unsupported command\n!124 link 0 ",
         ),
         (
             [].as_slice(),
             [2].as_slice(),
-            "<FROB\nGET a/b\nGET a/b>20 unsupported command\nx",
-            124,
+            "<FROB\nGET a/b\nGET a/b>20 unsupported command\nx124 link 0 ",
         ),
         (
             [9].as_slice(),
             [2].as_slice(),
-            "<FROB\nGET >20 unsupported command\n!",
-            124,
+            "<FROB\nGET >20 unsupported command\n!124 link 0 ",
         ),
     ] {
-        let mut io = MemLink::new(alloc, b"FROB\nGET a/b\nGET a/b", cuts, failing)?;
-        let mut files = files(alloc, Some(QUESTIONS), &[])?;
-        let outcome = run(alloc, &["communicate"], &mut io, &mut files)?;
-        assert_eq!(rt; spoken(alloc, &io)?.bytes(), talk.as_bytes());
-        assert_eq!(rt; outcome.status, status);
-        assert_eq!(rt; matches!(outcome.end, End::LinkFault), status == 124);
+        let found = spoken(rt.alloc(), "FROB\nGET a/b\nGET a/b", cuts, failing).expect(
+            &rt,
+            "ample memory",
+        );
+        assert_eq!(rt; found.bytes(), talk.as_bytes());
     }
-    Ok(())
+}
+
+// A letter for what a call does.
+fn letter(op: FilesOp) -> u8 {
+    match op {
+        FilesOp::Read => b'r',
+        FilesOp::List => b'l',
+        FilesOp::Write => b'w',
+        FilesOp::Sync => b's',
+        FilesOp::Rename => b'm',
+        FilesOp::SyncNames => b'n',
+        FilesOp::Remove => b'd',
+    }
+}
+
+// The calls of the files: a letter, the path, and `!` where it failed.
+fn called(alloc: Global, files: &MemFiles) -> Option<Text> {
+    let mut all = Text::new(alloc);
+    for call in files.calls().as_slice() {
+        all.push(letter(call.op)).ok()?;
+        all.append(call.path.bytes()).ok()?;
+        all.push(if call.ok { b' ' } else { b'!' }).ok()?;
+    }
+    Some(all)
+}
+
+// What stands at the path, empty where there is no file.
+fn text_at(alloc: Global, files: &mut MemFiles, path: &[u8]) -> Option<Text> {
+    let path = text(alloc, path)?;
+    match files.read(&path) {
+        Ok(Some(text)) => Some(text),
+        Ok(None) => Some(Text::new(alloc)),
+        Err(_) => None,
+    }
+}
+
+fn append_barred(shown: &mut Text, more: &[u8]) -> Option<()> {
+    shown.push(b'|').ok()?;
+    shown.append(more).ok()
+}
+
+// Texts with a bar before each.
+fn barred(alloc: Global, parts: &[&str]) -> Option<Text> {
+    let mut shown = Text::new(alloc);
+    for part in parts {
+        append_barred(&mut shown, part.as_bytes())?;
+    }
+    Some(shown)
 }
 
 const OLD: &str =
@@ -268,44 +323,27 @@ const OLD: &str =
 const NEW: &str =
     "Name: a/b\nTemplate: a/b\nValue: new\nOwners: p\nFlags: seen\nVariables:\n k = v\n\n";
 
-// The calls of the files as text: a letter for what a call does, the path, and `!` where it failed.
-fn called(alloc: Global, files: &MemFiles) -> Mem<Text> {
-    let mut all = Text::new(alloc);
-    for call in files.calls().as_slice() {
-        let letter = match call.op {
-            FilesOp::Read => b'r',
-            FilesOp::List => b'l',
-            FilesOp::Write => b'w',
-            FilesOp::Sync => b's',
-            FilesOp::Rename => b'm',
-            FilesOp::SyncNames => b'n',
-            FilesOp::Remove => b'd',
-        };
-        all.push(letter)?;
-        all.append(call.path.bytes())?;
-        all.push(if call.ok { b' ' } else { b'!' })?;
-    }
-    Ok(all)
-}
-
-// What stands at the path, empty where there is no file.
-fn text_at(alloc: Global, files: &mut MemFiles, path: &[u8]) -> Result<Text, Fail> {
-    match files.read(&Text::from_bytes(alloc, path)?) {
-        Ok(Some(text)) => Ok(text),
-        Ok(None) => Ok(Text::new(alloc)),
-        Err(_) => Err(Fail::from("the file can't be read")),
-    }
-}
-
 // The two files of the database are read.
 const READS: &str = "rq.dat rq.dat.templates ";
 
 const SAVE: &str = "rq.dat rq.dat.templates wq.dat-new sq.dat-new mq.dat n ";
 
+// What a run over the old question says, its end, the calls of the files, and the questions that it leaves.
+fn saved(alloc: Global, input: &str, link: &[u64], failing: &[u64]) -> Option<Text> {
+    let mut io = MemLink::new(alloc, input.as_bytes(), &[], link).ok()?;
+    let mut files = make_files(alloc, OLD.as_bytes(), b"", failing)?;
+    let outcome = run(alloc, "", &["communicate"], &mut io, &mut files)?;
+    let mut shown = Text::new(alloc);
+    append_barred(&mut shown, io.sent().bytes())?;
+    append_barred(&mut shown, shown_end(alloc, &outcome)?.bytes())?;
+    append_barred(&mut shown, called(alloc, &files)?.bytes())?;
+    append_barred(&mut shown, text_at(alloc, &mut files, b"q.dat")?.bytes())?;
+    Some(shown)
+}
+
 #[test]
-fn commands_write_and_the_table_is_saved(rt: HostRuntime) -> Result<(), Fail> {
-    let alloc = rt.alloc();
-    for (input, sent, calls, saved) in [
+fn commands_write_and_the_table_is_saved(rt: HostRuntime) {
+    for (input, said, calls, left) in [
         (
             "SET a/b x  y\nGET a/b\nFSET a/b seen maybe\nSUBST a/b j=k v\nRESET a/b\nGET a/b\n",
             "0 value set\n0 x y\n10 bad flag value\n20 bad name\n0\n0\n",
@@ -332,85 +370,68 @@ fn commands_write_and_the_table_is_saved(rt: HostRuntime) -> Result<(), Fail> {
             OLD,
         ),
     ] {
-        let mut io = MemLink::new(alloc, input.as_bytes(), &[], &[])?;
-        let mut files = files(alloc, Some(OLD.as_bytes()), &[])?;
-        let outcome = run(alloc, &["communicate", "p"], &mut io, &mut files)?;
-        assert_eq!(rt; matches!(outcome.end, End::Done), true, "{input:?}");
-        assert_eq!(rt; io.sent().bytes(), sent.as_bytes(), "{input:?}");
-        assert_eq!(rt;
-            called(alloc, &files)?.bytes(),
-            calls.as_bytes(),
-            "{input:?}"
+        let found = saved(rt.alloc(), input, &[], &[]).expect(&rt, "ample memory");
+        let expected = barred(rt.alloc(), &[said, "0 done 0 ", calls, left]).expect(
+            &rt,
+            "ample memory",
         );
-        let left = text_at(alloc, &mut files, b"q.dat")?;
-        assert_eq!(rt; left.bytes(), saved.as_bytes(), "{input:?}");
+        assert_eq!(rt; found.bytes(), expected.bytes(), "{input:?}");
     }
-    Ok(())
 }
 
 #[test]
-fn what_is_saved_has_its_mode_and_nothing_is_left_beside_it(rt: HostRuntime) -> Result<(), Fail> {
-    let alloc = rt.alloc();
-    let mut io = MemLink::new(alloc, b"SET a/b new\n", &[], &[])?;
-    let mut files = files(alloc, Some(OLD.as_bytes()), &[])?;
-    let _ = run(alloc, &["communicate"], &mut io, &mut files)?;
-    let path = Text::from_bytes(alloc, b"q.dat")?;
-    let beside = Text::from_bytes(alloc, b"q.dat-new")?;
-    assert_eq!(rt; files.mode(&path), Some(0o600));
-    assert_eq!(rt; files.mode(&beside), None);
-    Ok(())
-}
-
-#[test]
-fn refused_commands_change_nothing(rt: HostRuntime) -> Result<(), Fail> {
-    let alloc = rt.alloc();
-    for (input, sent) in [
-        ("SET\n", "20 wrong number of arguments\n"),
-        ("SET no/such x\n", "10 no/such doesn't exist\n"),
-        ("RESET a/b x\n", "20 wrong number of arguments\n"),
-        ("RESET no/such\n", "10 no/such doesn't exist\n"),
-        ("SUBST a/b\n", "20 wrong number of arguments\n"),
-        ("SUBST no/such j=k v\n", "20 bad name\n"),
-        ("SUBST no/such k v\n", "10 no/such doesn't exist\n"),
-        ("FSET a/b seen\n", "20 wrong number of arguments\n"),
-        ("FSET no/such a,b maybe\n", "20 bad name\n"),
-        ("FSET no/such seen maybe\n", "10 no/such doesn't exist\n"),
-        ("FSET a/b seen TRUE\n", "10 bad flag value\n"),
-        ("FROB a/b x\n", "20 unsupported command\n"),
+fn refused_commands_change_nothing(rt: HostRuntime) {
+    for (input, said, end) in [
+        ("SET\n", "20 wrong number of arguments\n", "20 done 0 "),
+        (
+            "SET no/such x\n",
+            "10 no/such doesn't exist\n",
+            "10 done 0 ",
+        ),
+        (
+            "RESET a/b x\n",
+            "20 wrong number of arguments\n",
+            "20 done 0 ",
+        ),
+        (
+            "RESET no/such\n",
+            "10 no/such doesn't exist\n",
+            "10 done 0 ",
+        ),
+        (
+            "SUBST a/b\n",
+            "20 wrong number of arguments\n",
+            "20 done 0 ",
+        ),
+        ("SUBST no/such j=k v\n", "20 bad name\n", "20 done 0 "),
+        (
+            "SUBST no/such k v\n",
+            "10 no/such doesn't exist\n",
+            "10 done 0 ",
+        ),
+        (
+            "FSET a/b seen\n",
+            "20 wrong number of arguments\n",
+            "20 done 0 ",
+        ),
+        ("FSET no/such a,b maybe\n", "20 bad name\n", "20 done 0 "),
+        (
+            "FSET no/such seen maybe\n",
+            "10 no/such doesn't exist\n",
+            "10 done 0 ",
+        ),
+        ("FSET a/b seen TRUE\n", "10 bad flag value\n", "10 done 0 "),
+        ("FROB a/b x\n", "20 unsupported command\n", "20 done 0 "),
     ] {
-        let mut io = MemLink::new(alloc, input.as_bytes(), &[], &[])?;
-        let mut files = files(alloc, Some(OLD.as_bytes()), &[])?;
-        let _ = run(alloc, &["communicate"], &mut io, &mut files)?;
-        assert_eq!(rt; io.sent().bytes(), sent.as_bytes(), "{input:?}");
-        assert_eq!(rt;
-            called(alloc, &files)?.bytes(),
-            READS.as_bytes(),
-            "{input:?}"
-        );
+        let found = saved(rt.alloc(), input, &[], &[]).expect(&rt, "ample memory");
+        let expected = barred(rt.alloc(), &[said, end, READS, OLD]).expect(&rt, "ample memory");
+        assert_eq!(rt; found.bytes(), expected.bytes(), "{input:?}");
     }
-    Ok(())
 }
 
 #[test]
-fn a_second_run_reads_what_the_first_saved(rt: HostRuntime) -> Result<(), Fail> {
-    let alloc = rt.alloc();
-    let mut files = files(alloc, Some(OLD.as_bytes()), &[])?;
-    for (input, sent) in [
-        ("SET a/b x\\ny\\\\n\n", "0 value set\n"),
-        ("GET a/b\nRESET a/b\n", "0 x\\ny\\\\n\n0\n"),
-        ("GET a/b\nFGET a/b seen\n", "0\n0 false\n"),
-    ] {
-        let mut io = MemLink::new(alloc, input.as_bytes(), &[], &[])?;
-        let _ = run(alloc, &["communicate"], &mut io, &mut files)?;
-        assert_eq!(rt; io.sent().bytes(), sent.as_bytes(), "{input:?}");
-    }
-    Ok(())
-}
-
-#[test]
-fn each_call_of_a_save_may_fail(rt: HostRuntime) -> Result<(), Fail> {
-    let alloc = rt.alloc();
-    for (number, calls, saved) in [
+fn each_call_of_a_save_may_fail(rt: HostRuntime) {
+    for (number, calls, left) in [
         (2u64, "rq.dat rq.dat.templates wq.dat-new!", OLD),
         (3, "rq.dat rq.dat.templates wq.dat-new sq.dat-new!", OLD),
         (
@@ -424,134 +445,139 @@ fn each_call_of_a_save_may_fail(rt: HostRuntime) -> Result<(), Fail> {
             NEW,
         ),
     ] {
-        let mut io = MemLink::new(alloc, b"SET a/b new\n", &[], &[])?;
-        let mut files = files(alloc, Some(OLD.as_bytes()), &[number])?;
-        let outcome = run(alloc, &["communicate"], &mut io, &mut files)?;
-        assert_eq!(rt; matches!(outcome.end, End::FilesFault { path: _ }), true);
-        assert_eq!(rt; outcome.status, 123);
-        assert_eq!(rt; io.sent().bytes(), b"0 value set\n".as_slice());
-        assert_eq!(rt; called(alloc, &files)?.bytes(), calls.as_bytes());
-        let left = text_at(alloc, &mut files, b"q.dat")?;
-        assert_eq!(rt; left.bytes(), saved.as_bytes());
+        let found = saved(rt.alloc(), "SET a/b new\n", &[], &[number]).expect(&rt, "ample memory");
+        let expected = barred(
+            rt.alloc(),
+            &["0 value set\n", "123 files 0 q.dat", calls, left],
+        )
+        .expect(&rt, "ample memory");
+        assert_eq!(rt; found.bytes(), expected.bytes());
     }
-    Ok(())
 }
 
 #[test]
-fn a_fault_of_the_link_comes_before_the_save(rt: HostRuntime) -> Result<(), Fail> {
-    let alloc = rt.alloc();
-    for (link, file, calls, saved) in [
-        (0u64, 9u64, READS, OLD),
-        (1, 9, SAVE, NEW),
-        (2, 9, SAVE, NEW),
+fn a_fault_of_the_link_comes_before_the_save(rt: HostRuntime) {
+    for (link, failing, said, calls, left) in [
+        (0u64, 9u64, "", READS, OLD),
+        (1, 9, "", SAVE, NEW),
+        (2, 9, "0 value set\n", SAVE, NEW),
         (
             2,
             4,
+            "0 value set\n",
             "rq.dat rq.dat.templates wq.dat-new sq.dat-new mq.dat!",
             OLD,
         ),
     ] {
-        let mut io = MemLink::new(alloc, b"SET a/b new\nGET a/b\n", &[], &[link])?;
-        let mut files = files(alloc, Some(OLD.as_bytes()), &[file])?;
-        let outcome = run(alloc, &["communicate"], &mut io, &mut files)?;
-        assert_eq!(rt; matches!(outcome.end, End::LinkFault), true);
-        assert_eq!(rt; outcome.status, 124);
-        assert_eq!(rt; called(alloc, &files)?.bytes(), calls.as_bytes());
-        let left = text_at(alloc, &mut files, b"q.dat")?;
-        assert_eq!(rt; left.bytes(), saved.as_bytes());
+        let found = saved(rt.alloc(), "SET a/b new\nGET a/b\n", &[link], &[failing]).expect(
+            &rt,
+            "ample memory",
+        );
+        let expected = barred(rt.alloc(), &[said, "124 link 0 ", calls, left]).expect(
+            &rt,
+            "ample memory",
+        );
+        assert_eq!(rt; found.bytes(), expected.bytes());
     }
-    Ok(())
+}
+
+// What is answered to the inputs by a run after another over the same files, and the mode of the questions then.
+fn answered_in_turn(alloc: Global, inputs: &[&str]) -> Option<Text> {
+    let mut files = make_files(alloc, OLD.as_bytes(), b"", &[])?;
+    let mut said = Text::new(alloc);
+    for input in inputs {
+        let mut io = MemLink::new(alloc, input.as_bytes(), &[], &[]).ok()?;
+        let _ = run(alloc, "", &["communicate"], &mut io, &mut files)?;
+        append_barred(&mut said, io.sent().bytes())?;
+    }
+    let beside = text(alloc, b"q.dat-new")?;
+    let path = text(alloc, b"q.dat")?;
+    let modes = format!(in alloc; "{:?} {:?}", files.mode(&path), files.mode(&beside)).ok()?;
+    append_barred(&mut said, modes.as_bytes())?;
+    Some(said)
+}
+
+#[test]
+fn a_second_run_reads_what_the_first_saved(rt: HostRuntime) {
+    let inputs = [
+        "SET a/b x\\ny\\\\n\n",
+        "GET a/b\nRESET a/b\n",
+        "GET a/b\nFGET a/b seen\n",
+    ];
+    let found = answered_in_turn(rt.alloc(), &inputs).expect(&rt, "ample memory");
+    assert_eq!(rt;
+        found.bytes(),
+        b"|0 value set\n|0 x\\ny\\\\n\n0\n|0\n0 false\n|Some(384) None".as_slice(),
+        "mode 600, and nothing is left beside it"
+    );
 }
 
 const TEMPLATES: &str =
     "Name: x/name\nDefault: Bob\nDefault-de: Robert\nDescription: Name of ${who}?\nExtended_description: First line goes on.\\n\\n  kept\nType: string\nOwners: x/name\n\n";
 
-// Files of questions and of templates.
-fn both_files(alloc: Global, questions: &str, templates: &str, failing: &[u64]) -> Mem<MemFiles> {
-    let entries = [
-        (
-            Text::from_bytes(alloc, b"q.dat")?,
-            Text::from_bytes(alloc, questions.as_bytes())?,
-        ),
-        (
-            Text::from_bytes(alloc, b"q.dat.templates")?,
-            Text::from_bytes(alloc, templates.as_bytes())?,
-        ),
-    ];
-    MemFiles::new(alloc, entries.as_slice(), failing)
-}
+const BOUND: &str =
+    "Name: x/name\nTemplate: x/name\nOwners: x\n\nName: x/other\nTemplate: x/none\n\n";
 
 #[test]
-fn templates_are_read(rt: HostRuntime) -> Result<(), Fail> {
-    let alloc = rt.alloc();
-    for (lang, input, sent) in [
+fn templates_are_read(rt: HostRuntime) {
+    for (lang, input, said) in [
         (
             "",
             "SUBST x/name who Al\nMETAGET x/name description\nMETAGET x/name extended_description\nMETAGET x/name colour\nGET x/name\n",
-            "0\n0 Name of Al?\n0 First line goes on.\\n\\n  kept\n10 colour doesn't exist\n0 Bob\n",
+            "0\n0 Name of Al?\n0 First line goes on.\\n\\n  kept\n10 colour doesn't exist\n0 Bob\n0 done 0 ",
         ),
-        ("de_DE.UTF-8", "GET x/name\n", "0 Robert\n"),
+        ("de_DE.UTF-8", "GET x/name\n", "0 Robert\n0 done 0 "),
         (
             "de",
             "SET x/name own\nGET x/name\nRESET x/name\nGET x/name\n",
-            "0 value set\n0 own\n0\n0 Robert\n",
+            "0 value set\n0 own\n0\n0 Robert\n0 done 0 ",
         ),
         (
             "",
             "METAGET no/such type\nMETAGET x/other type\nMETAGET x/name Owners\nMETAGET x/name Type\nMETAGET x/name\nGET x/other\n",
-            "10 no/such doesn't exist\n10 no template for x/other\n10 Owners doesn't exist\n0 string\n20 wrong number of arguments\n0\n",
+            "10 no/such doesn't exist\n10 no template for x/other\n10 Owners doesn't exist\n0 string\n20 wrong number of arguments\n0\n0 done 0 ",
         ),
     ] {
-        let mut io = MemLink::new(alloc, input.as_bytes(), &[], &[])?;
-        let questions =
-            "Name: x/name\nTemplate: x/name\nOwners: x\n\nName: x/other\nTemplate: x/none\n\n";
-        let mut files = both_files(alloc, questions, TEMPLATES, &[])?;
-        let outcome = run_in(alloc, lang, &["communicate", "x"], &mut io, &mut files)?;
-        assert_eq!(rt; io.sent().bytes(), sent.as_bytes(), "{lang:?}");
-        assert_eq!(rt; matches!(outcome.end, End::Done), true);
-        let left = text_at(alloc, &mut files, b"q.dat.templates")?;
-        assert_eq!(rt; left.bytes(), TEMPLATES.as_bytes());
-    }
-    Ok(())
-}
-
-#[test]
-fn the_first_file_without_a_reading_is_named(rt: HostRuntime) -> Result<(), Fail> {
-    let alloc = rt.alloc();
-    for (questions, templates, path, line) in [
-        (OLD, "Name: x\n\noops\n", "q.dat.templates", 3u64),
-        ("Name: a/b\nValue\n", "oops\n", "q.dat", 2),
-    ] {
-        let mut io = MemLink::new(alloc, b"GET a/b\n", &[], &[])?;
-        let mut files = both_files(alloc, questions, templates, &[])?;
-        let outcome = run(alloc, &["communicate"], &mut io, &mut files)?;
-        assert_eq!(rt; is_damaged(&outcome.end, path.as_bytes(), line), true);
-        assert_eq!(rt; io.talk().len(), 0);
-    }
-    Ok(())
-}
-
-fn is_unread(end: &End, at: &[u8]) -> bool {
-    match end {
-        End::FilesFault { path } => path.bytes() == at,
-        _ => false,
+        let found = answered(
+            rt.alloc(),
+            lang,
+            BOUND.as_bytes(),
+            TEMPLATES.as_bytes(),
+            input.as_bytes(),
+            &[],
+        )
+        .expect(&rt, "ample memory");
+        assert_eq!(rt; found.bytes(), said.as_bytes(), "{lang:?}");
     }
 }
 
 #[test]
-fn the_file_that_cannot_be_read_is_named(rt: HostRuntime) -> Result<(), Fail> {
-    let alloc = rt.alloc();
-    for (failing, path, calls) in [
-        (0u64, "q.dat", "rq.dat!"),
-        (1, "q.dat.templates", "rq.dat rq.dat.templates!"),
+fn the_first_file_without_a_reading_is_named(rt: HostRuntime) {
+    for (questions, templates, end) in [
+        (OLD, "Name: x\n\noops\n", "121 damaged 3 q.dat.templates"),
+        ("Name: a/b\nValue\n", "oops\n", "121 damaged 2 q.dat"),
     ] {
-        let mut io = MemLink::new(alloc, b"GET a/b\n", &[], &[])?;
-        let mut files = both_files(alloc, OLD, TEMPLATES, &[failing])?;
-        let outcome = run(alloc, &["communicate"], &mut io, &mut files)?;
-        assert_eq!(rt; is_unread(&outcome.end, path.as_bytes()), true);
-        assert_eq!(rt; outcome.status, 123);
-        assert_eq!(rt; io.talk().len(), 0);
-        assert_eq!(rt; called(alloc, &files)?.bytes(), calls.as_bytes());
+        let found = answered(
+            rt.alloc(),
+            "",
+            questions.as_bytes(),
+            templates.as_bytes(),
+            b"GET a/b\n",
+            &[],
+        )
+        .expect(&rt, "ample memory");
+        assert_eq!(rt; found.bytes(), end.as_bytes());
     }
-    Ok(())
+}
+
+#[test]
+fn the_file_that_cannot_be_read_is_named(rt: HostRuntime) {
+    for (failing, end, calls) in [
+        (0u64, "123 files 0 q.dat", "rq.dat!"),
+        (1, "123 files 0 q.dat.templates", "rq.dat rq.dat.templates!"),
+    ] {
+        let found = saved(rt.alloc(), "GET a/b\n", &[], &[failing]).expect(&rt, "ample memory");
+        let expected = barred(rt.alloc(), &["", end, calls, OLD]).expect(&rt, "ample memory");
+        assert_eq!(rt; found.bytes(), expected.bytes());
+    }
 }
