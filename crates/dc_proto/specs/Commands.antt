@@ -3,9 +3,9 @@ use Rattle.std.specs.Prelude.{ℕ, Bool, false, ◌==◌, List, [], ◌∷◌, �
 use Rattle.std.specs.List.{flat_map}
 use Rattle.std.specs.Str.{bytes_eq}
 use Rattle.dc_text.specs.Bytes.{lower}
-use Rattle.dc_text.specs.Escaped.{escaped_words_of}
+use Rattle.dc_words.specs.Escaped.{escaped_words_of}
 use Rattle.dc_text.specs.Names.{is_flag_name, is_variable_key}
-use Rattle.dc_text.specs.Words.{plain_words_of}
+use Rattle.dc_words.specs.Words.{plain_words_of}
 use Rattle.dc_proto.specs.declared.command.Command.TheVariants.{Get, Set, Reset, Subst, Fget, Fset, Metaget}
 use Rattle.dc_proto.specs.declared.command.Heard.{Heard}
 use Rattle.dc_proto.specs.declared.command.Heard.TheVariants.{Nothing, Known, Refused}

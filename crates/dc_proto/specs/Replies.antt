@@ -1,7 +1,7 @@
 -- The replies of the confmodule protocol, version 2 (debconf-devel(7)): a code, and a text that may be empty.
 use Rattle.std.specs.Prelude.{ℕ, Bool, List, [], ◌∷◌, ◌++◌, if◌then◌else◌, codes, decimal}
 use Rattle.dc_text.specs.Settled.{newlines_shown}
-use Rattle.dc_text.specs.Escaped.{escaped}
+use Rattle.dc_words.specs.Escaped.{escaped}
 use Rattle.dc_proto.specs.declared.reply.Reply.{Reply}
 
 abbrev pub reply : ℕ → List ℕ → Reply

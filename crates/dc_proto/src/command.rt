@@ -8,7 +8,8 @@ use crate::arguments::{
 };
 use crate::reply::Reply;
 use dc_text::bytes::lowered;
-use dc_text::{FlagName, List, Mem, Text, VarKey, plain_words, unescape_words};
+use dc_text::{FlagName, List, Mem, Text, VarKey};
+use dc_words::{plain_words, unescape_words};
 use std::alloc::Global;
 
 /// A command (debconf-devel(7)). The word of a question need not be a name: one that isn't names no question.

@@ -2,8 +2,12 @@
 ghost use Rattle.std.specs.Prelude.{◌≡◌, ◌++◌, IfOk, OnOk};
 ghost use Rattle.dc_proto.specs.Replies.{printed, told_text, in_one_line};
 
-use dc_text::{Mem, Text, escape as escape_text, show_newlines};
+use dc_text::{Mem, Text, show_newlines};
+use dc_words::escape as escape_text;
 use std::alloc::Global;
+
+// Room for a code, the space behind it, and the newline.
+const ROOM: usize = 5;
 
 /// A reply: its code, and its text, which may be empty.
 #[derive(Drop)]
@@ -30,8 +34,10 @@ pub fn print_reply(alloc: Global, reply: &Reply, escape: bool) -> Mem<Text>
     ensures { IfOk result (λ line. line ≡ printed escape reply.now) }
 {
     let code = reply.code.to_string(alloc)?;
-    let mut line = Text::from_bytes(alloc, code.as_bytes())?;
-    append_told(alloc, &mut line, reply.text.bytes(), escape)?;
+    let text = reply.text.bytes();
+    let mut line = Text::with_capacity(alloc, text.len().saturating_add(ROOM))?;
+    line.append(code.as_bytes())?;
+    append_told(alloc, &mut line, text, escape)?;
     line.push(b'\n')?;
     Ok(line)
 }

@@ -1,9 +1,9 @@
 -- What a question says, from its own item and from its template (debconf-devel(7)).
-use Rattle.std.specs.Prelude.{ℕ, Bool, ◌||◌, nat_eq, List, [], ◌∷◌, length, Option, None, Some, option_map, option_and_then, unwrap_or, codes, if◌then◌else◌}
+use Rattle.std.specs.Prelude.{ℕ, Bool, ◌||◌, nat_eq, List, [], ◌∷◌, length, Option, None, option_map, option_and_then, unwrap_or, codes, if◌then◌else◌}
 use Rattle.std.specs.Option.{option_or}
 use Rattle.std.specs.Str.{bytes_eq}
 use Rattle.std.specs.FinMap as map
-use Rattle.dc_text.specs.Choices.{choices_of}
+use Rattle.dc_words.specs.Choices.{choices_of}
 use Rattle.dc_text.specs.Maps.{Texts}
 use Rattle.dc_item.specs.Item.{Parts}
 use Rattle.dc_template.specs.Expansion.{expanded}

@@ -4,7 +4,8 @@ ghost use Rattle.dc_question.specs.Readings.{plain_choices, shown_choices, choic
 
 use crate::fields::{field, fill_in, known_key};
 use dc_item::Item;
-use dc_text::{List, Mem, Text, split_choices};
+use dc_text::{List, Mem, Text};
+use dc_words::split_choices;
 use std::alloc::Global;
 
 /// The choices of a question. There are as many labels as plain choices, and each label stands for the plain choice at

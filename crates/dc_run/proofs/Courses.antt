@@ -1,6 +1,6 @@
 -- What the machine answers to lines that follow others.
 use Rattle.std.proofs.Common.{◌≡◌, ℕ, Bool, true, false, ◌||◌, List, [], ◌∷◌, ◌++◌, refl, ap, sym, ◌∙◌}
-use Rattle.dc_text.specs.declared.stream.Line.{Line}
+use Rattle.dc_words.specs.declared.stream.Line.{Line}
 use Rattle.dc_proto.specs.declared.reply.Reply.{Reply}
 use Rattle.dc_run.specs.declared.session.Stepped.{Stepped}
 use Rattle.dc_run.specs.declared.session.Stepped.TheVariants.{Silent, Replied, Stopped}

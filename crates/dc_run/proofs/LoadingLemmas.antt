@@ -1,11 +1,10 @@
 -- Both files of a database, from what loading each of them does.
-use Rattle.std.proofs.Common.{◌≡◌, inl, inr, ℕ, true, false, List, [], ◌∷◌, ◌++◌, Option, Result, Ok, Err, refl, sym, ap, subst, ◌∙◌}
-use Rattle.std.specs.List.{AllByRecursion}
+use Rattle.std.proofs.Common.{◌≡◌, inl, inr, ℕ, true, List, [], ◌∷◌, Option, Err, refl, ap, subst, ◌∙◌}
 use Rattle.dc_outside.specs.Disk.{Disk}
 use Rattle.dc_run.specs.declared.outcome.End.{End}
 use Rattle.dc_run.specs.declared.outcome.End.TheVariants as end
 use Rattle.dc_run.specs.Ends.{FilesFaults}
-use Rattle.dc_run.specs.Loading.{HasLoaded, Loads, LoadsFiles, LoadsDatabase, IsDatabase, AreReadInPart, templates_path, files_of, after_reads, HasTable}
+use Rattle.dc_run.specs.Loading.{HasLoaded, Loads, LoadsFiles, LoadsDatabase, IsDatabase, AreReadInPart, templates_path, files_of}
 use Rattle.dc_run.specs.Saving.{Told, after_read}
 use Rattle.dc_run.specs.State.{Table}
 

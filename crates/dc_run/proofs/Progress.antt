@@ -3,9 +3,9 @@ use Rattle.std.proofs.Common.{◌≡◌, ◌≢◌, inl, inr, ℕ, ◌+◌, ◌^
 use Rattle.std.proofs.lemmas.List.{append-nil}
 use Rattle.std.specs.Prelude.{⊤, IfSome}
 use Rattle.std.specs.Io.KnownBytes.{prepend_known, IsAtEnd}
-use Rattle.dc_text.specs.declared.stream.Line.{Line}
-use Rattle.dc_text.specs.Stream.{whole_lines, rest_of, line_of_rest, all_lines, StandsFor}
-use Rattle.dc_text.proofs.Parts.{whole_lines-append, rest_of-append}
+use Rattle.dc_words.specs.declared.stream.Line.{Line}
+use Rattle.dc_words.specs.Stream.{whole_lines, rest_of, line_of_rest, all_lines, StandsFor}
+use Rattle.dc_words.proofs.StreamLemmas.{whole_lines-append, rest_of-append}
 use Rattle.dc_outside.specs.declared.link.Piece.{Piece}
 use Rattle.dc_outside.specs.declared.link.Piece.TheVariants.{Got, Cut, Lost}
 use Rattle.dc_outside.specs.Talk.{told, got}

@@ -1,5 +1,5 @@
 -- The end of a run, from how it was loaded, served and saved.
-use Rattle.std.proofs.Common.{◌≡◌, inl, inr, ℕ, true, List, Option, Result, Ok, Err, refl, sym, ap, ◌∙◌, subst}
+use Rattle.std.proofs.Common.{◌≡◌, inl, inr, ℕ, List, Ok, Err, refl, ap, ◌∙◌, subst}
 use Rattle.dc_run.specs.declared.loading.Database.{Database}
 use Rattle.dc_run.specs.declared.outcome.End.{End}
 use Rattle.dc_run.specs.declared.outcome.End.TheVariants as end

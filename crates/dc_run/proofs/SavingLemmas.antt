@@ -1,11 +1,11 @@
 -- The four calls of a save, one after another.
-use Rattle.std.proofs.Common.{◌≡◌, inl, inr, ℕ, Bool, true, false, cond, List, [], ◌∷◌, ◌++◌, Option, None, Some, Result, Ok, Err, refl, sym, ap, subst, ◌∙◌, append_assoc}
+use Rattle.std.proofs.Common.{◌≡◌, inl, inr, ℕ, true, false, cond, List, [], ◌∷◌, ◌++◌, Option, None, Some, Result, Ok, Err, refl, sym, ap, subst, ◌∙◌, append_assoc}
 use Rattle.std.proofs.lemmas.List.{append-nil}
 use Rattle.std.specs.Option.{option_map}
 use Rattle.std.specs.Cmp.Lexicographic.{nat_list_cmp_total}
 use Rattle.std.specs.FinMap as map
 use Rattle.std.specs.FinMap.{get-insert, get-remove}
-use Rattle.dc_outside.specs.Disk.{Disk, File, file_at, with_entry, renamed, Writes, Renames}
+use Rattle.dc_outside.specs.Disk.{Disk, File, file_at, renamed, Writes, Renames}
 use Rattle.dc_outside.specs.Calls.{then_call, logged}
 use Rattle.dc_outside.specs.declared.files.FilesCall.{FilesCall}
 use Rattle.dc_outside.specs.declared.files.FilesOp.TheVariants.{Write, Sync, Rename, SyncNames}

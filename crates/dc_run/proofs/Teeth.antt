@@ -1,8 +1,8 @@
 -- What the definition of "in step" refuses.
-use Rattle.std.proofs.Common.{◌≡◌, ℕ, List, [], ◌∷◌, ◌++◌, map, refl, ap, ◌∙◌}
+use Rattle.std.proofs.Common.{◌≡◌, ℕ, List, [], ◌∷◌, map, refl, ap, ◌∙◌}
 use Rattle.std.proofs.lemmas.List.{append-nil}
-use Rattle.dc_text.specs.declared.stream.Line.{Line}
-use Rattle.dc_text.specs.Stream.{whole_lines}
+use Rattle.dc_words.specs.declared.stream.Line.{Line}
+use Rattle.dc_words.specs.Stream.{whole_lines}
 use Rattle.dc_outside.specs.declared.link.Piece.{Piece}
 use Rattle.dc_outside.specs.declared.link.Piece.TheVariants.{Got}
 use Rattle.dc_proto.specs.declared.reply.Reply.{Reply}

@@ -1,13 +1,13 @@
 -- The plain machine: what a line is answered, and what it leaves.
-use Rattle.std.specs.Prelude.{◌≡◌, ℕ, List, [], ◌∷◌, ◌++◌, map as each, Bool, true, false, ◌||◌, Option, Some, None, if◌then◌else◌, codes}
+use Rattle.std.specs.Prelude.{ℕ, List, [], ◌∷◌, ◌++◌, map as each, Bool, true, false, ◌||◌, Option, Some, None, if◌then◌else◌, codes}
 use Rattle.std.specs.Option.{option_map_or}
 use Rattle.std.specs.Str.{bytes_eq}
 use Rattle.std.specs.FinMap as map
 use Rattle.dc_text.specs.Bytes.{lower}
 use Rattle.dc_text.specs.Names.{is_field_key}
 use Rattle.dc_text.specs.Settled.{settled}
-use Rattle.dc_text.specs.declared.stream.Line.{Line}
-use Rattle.dc_text.specs.declared.stream.Line.TheVariants.{Whole, TooLong}
+use Rattle.dc_words.specs.declared.stream.Line.{Line}
+use Rattle.dc_words.specs.declared.stream.Line.TheVariants.{Whole, TooLong}
 use Rattle.dc_item.specs.Item.{Parts}
 use Rattle.dc_item.specs.declared.op.Op.{Op}
 use Rattle.dc_item.specs.declared.op.Op.TheVariants.{Put, SetField, SetFlag, SetVar}

@@ -1,8 +1,8 @@
 -- What a run says on its link, by its end.
 use Rattle.std.specs.Prelude.{◌≡◌, ◌⊎◌, ℕ, ◌^◌, ◌<◌, ◌≤◌, List, [], ◌∷◌, ◌++◌, map, true, length, Option, IfSome}
 use Rattle.std.specs.Io.KnownBytes.{prepend_known}
-use Rattle.dc_text.specs.declared.stream.Line.{Line}
-use Rattle.dc_text.specs.Stream.{whole_lines, all_lines}
+use Rattle.dc_words.specs.declared.stream.Line.{Line}
+use Rattle.dc_words.specs.Stream.{whole_lines, all_lines}
 use Rattle.dc_outside.specs.declared.link.Piece.{Piece}
 use Rattle.dc_outside.specs.declared.link.Piece.TheVariants.{Cut, Lost}
 use Rattle.dc_outside.specs.Talk.{told, got}

@@ -1,5 +1,5 @@
 -- The save: a changed table of questions is written beside its path, made to last there, and put in its place.
-use Rattle.std.specs.Prelude.{◌≡◌, ◌⊎◌, ℕ, ◌<◌, List, [], ◌∷◌, ◌++◌, Bool, true, false, Option, Some, None, option_map, take, if◌then◌else◌, codes, Result, Ok, Err}
+use Rattle.std.specs.Prelude.{◌≡◌, ◌⊎◌, ℕ, List, [], ◌∷◌, ◌++◌, Bool, true, false, Option, option_map, if◌then◌else◌, codes, Result, Ok, Err}
 use Rattle.std.specs.FinMap as map
 use Rattle.dc_outside.specs.Calls.{then_call}
 use Rattle.dc_outside.specs.Disk.{Disk, File, with_entry}

@@ -1,6 +1,6 @@
 -- What serving some lines does.
 use Rattle.std.specs.Prelude.{◌≡◌, ◌⊎◌, ℕ, List, [], ◌∷◌, ◌++◌, map, true, false, Option}
-use Rattle.dc_text.specs.declared.stream.Line.{Line}
+use Rattle.dc_words.specs.declared.stream.Line.{Line}
 use Rattle.dc_outside.specs.declared.link.Piece.{Piece}
 use Rattle.dc_outside.specs.declared.link.Piece.TheVariants.{Got, Sent, Cut, Lost}
 use Rattle.dc_outside.specs.Counts.{Rose}

@@ -1,6 +1,6 @@
 -- A run in step: what was said whenever more was read.
 use Rattle.std.specs.Prelude.{◌≡◌, List, ◌∷◌, ◌++◌, map, false, ⊤}
-use Rattle.dc_text.specs.Stream.{whole_lines}
+use Rattle.dc_words.specs.Stream.{whole_lines}
 use Rattle.dc_outside.specs.declared.link.Piece.{Piece}
 use Rattle.dc_outside.specs.declared.link.Piece.TheVariants.{Got, Sent, Cut, Lost}
 use Rattle.dc_outside.specs.Talk.{got}

@@ -1,6 +1,6 @@
 // Serves the lines of a link, each before more is read.
 ghost use Rattle.std.specs.Prelude.{◌≡◌, ◌<◌, ◌≤◌, [], ◌∷◌, length, IfOk};
-ghost use Rattle.dc_text.specs.Stream.{whole_lines, rest_of, line_of_rest};
+ghost use Rattle.dc_words.specs.Stream.{whole_lines, rest_of, line_of_rest};
 ghost use Rattle.dc_run.specs.Serving.{Sends, HasServed, ServedFaults};
 ghost use Rattle.dc_run.specs.Ends.{LinkFaults};
 ghost use Rattle.dc_run.specs.Run.{HasRun};
@@ -9,7 +9,8 @@ use crate::outcome::{Conversation, LinkEnd, Served, link_end};
 use crate::session::{Session, Stepped};
 use dc_outside::{Link, LinkError};
 use dc_proto::{Reply, print_reply};
-use dc_text::{Line, Lines, MAX_PIECE, Mem};
+use dc_text::Mem;
+use dc_words::{Line, Lines, MAX_PIECE};
 use std::alloc::Global;
 
 /// From so many bytes of input on, no more is read.

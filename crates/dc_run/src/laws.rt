@@ -1,8 +1,8 @@
 //! Laws of runs, over the definitions alone.
 ghost use Rattle.std.specs.Prelude.{◌≡◌, ◌≢◌, List, ℕ, [], ◌∷◌};
 ghost use Rattle.std.specs.FinMap as map;
-ghost use Rattle.dc_text.specs.declared.stream.Line.{Line};
-ghost use Rattle.dc_text.specs.Stream.{whole_lines};
+ghost use Rattle.dc_words.specs.declared.stream.Line.{Line};
+ghost use Rattle.dc_words.specs.Stream.{whole_lines};
 ghost use Rattle.dc_outside.specs.declared.link.Piece.{Piece};
 ghost use Rattle.dc_outside.specs.declared.link.Piece.TheVariants.{Got};
 ghost use Rattle.dc_proto.specs.declared.command.Command.{Command};

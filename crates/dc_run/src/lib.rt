@@ -16,6 +16,3 @@ pub mod tool;
 pub use outcome::{End, Outcome};
 pub use running::run_words;
 pub use settings::Settings;
-
-#[cfg(test)]
-mod tests;

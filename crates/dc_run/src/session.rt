@@ -7,7 +7,8 @@ use crate::answers::{Answer, answer_on, missing, question};
 use crate::loading::Database;
 use dc_item::{After, Item, Op};
 use dc_proto::{Command, Heard, Reply, read_command};
-use dc_text::{Line, Mem, Text, TextMap};
+use dc_text::{Mem, Text, TextMap};
+use dc_words::Line;
 use std::alloc::Global;
 use std::marker::Model;
 

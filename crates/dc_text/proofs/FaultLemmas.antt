@@ -1,5 +1,5 @@
 -- A reader that takes one line after another, as its grammar says, finds the first fault.
-use Rattle.std.proofs.Common.{◌≡◌, ℕ, ◌+◌, List, [], ◌∷◌, ◌++◌, Ok, Err, Result, refl, sym, ap, subst, append_assoc, inl, inr}
+use Rattle.std.proofs.Common.{◌≡◌, List, [], ◌∷◌, ◌++◌, Ok, Err, Result, refl, sym, subst, append_assoc, inl, inr}
 use Rattle.std.specs.Prelude.{◌⊎◌, MatchResult}
 use Rattle.std.proofs.lemmas.List.{append-nil}
 use Rattle.dc_text.specs.Faults.{AllStand, IsFirstFault, run, goes_on}

@@ -1,9 +1,6 @@
-pub mod ChoiceLemmas
-pub mod EscapedLemmas
 pub mod FaultLemmas
 pub mod LineLemmas
 pub mod MapLemmas
 pub mod Parts
 pub mod SettledLemmas
 pub mod SmallMapLemmas
-pub mod WordLemmas

@@ -1,6 +1,6 @@
 -- Lines of a text, trimming, and parting at a byte.
-use Rattle.std.proofs.Common.{◌≡◌, ℕ, zero, suc, ◌+◌, ◌-◌, ◌<◌, ◌≤◌, Bool, true, false, cond, ◌&&◌, List, [], ◌∷◌, ◌++◌, length, take, drop, refl, sym, ap, subst, ◌∙◌, arith}
-use Rattle.std.specs.Prelude.{◌==◌, ◌||◌, position, Some, None, Option, MatchOption, nat_lt, not, slice_index}
+use Rattle.std.proofs.Common.{◌≡◌, ℕ, zero, suc, ◌+◌, ◌-◌, ◌<◌, ◌≤◌, Bool, true, false, cond, ◌&&◌, List, [], ◌∷◌, ◌++◌, length, take, drop, refl, sym, ap, ◌∙◌, arith}
+use Rattle.std.specs.Prelude.{◌==◌, ◌||◌, position, Some, None, Option, nat_lt, not, slice_index}
 use Rattle.std.specs.List.{list_all, list_any, before_first, after_first, position_or_len, prefix_len}
 use Rattle.std.proofs.lemmas.Bool.{lt-ltb, le-ltb}
 use Rattle.std.proofs.lemmas.List.{take_more, take_all, drop_all}
@@ -8,7 +8,7 @@ use Rattle.std.proofs.lemmas.Slice.{between_to_end}
 use Rattle.std.proofs.Common.{get_or}
 use Rattle.std.proofs.Math.Nat.{le_refl}
 use Rattle.bstr.specs.Find.{IsFirstByte, is_byte}
-use Rattle.dc_text.specs.Lines.{Parts, parts, lines_of, unless_empty}
+use Rattle.dc_text.specs.Lines.{Parts, lines_of, unless_empty}
 use Rattle.dc_text.specs.Bytes.{drop_back}
 use Rattle.dc_text.proofs.Parts.{parts_at-position}
 
@@ -56,6 +56,11 @@ cond_is_none false x e = refl
 
 pub to_end : (n : ℕ) (text : List ℕ) → take (length text - n) (drop n text) ≡ drop n text
 to_end n text = between_to_end text n (length text) (le_refl (length text))
+
+-- a text is its first byte and the rest
+pub head_apart : (text : List ℕ) → 0 < length text → text ≡ get_or text 0 0 ∷ take (length text - 1) (drop 1 text)
+head_apart [] h = absurd (omega arith)
+head_apart (b ∷ bytes) h = ap (λ (t : List ℕ). b ∷ t) (sym (to_end 1 (b ∷ bytes)))
 
 unless_empty-some : (text : List ℕ) → 0 < length text → unless_empty text ≡ text ∷ []
 unless_empty-some [] h = absurd (omega arith)

@@ -1,6 +1,6 @@
 -- Grammars by lines. What a line says is one thing. Whether it stands where it does, or which fault it has there, is
 -- another: that depends on the lines before it and, in some formats, on those after it.
-use Rattle.std.specs.Prelude.{◌≡◌, ℕ, List, [], ◌∷◌, ◌++◌, Result, Ok, Err}
+use Rattle.std.specs.Prelude.{◌≡◌, List, [], ◌∷◌, ◌++◌, Result, Ok, Err}
 
 -- wherever the lines are parted into those before a line, the line, and those after it, the line stands there
 abbrev pub AllStand : {L : Type 0} → (List L → L → List L → Type 0) → List L → Type 0

@@ -1,11 +1,7 @@
 pub mod Bytes
-pub mod Choices
-pub mod Escaped
 pub mod Faults
 pub mod Lines
 pub mod Maps
 pub mod Names
 pub mod Places
 pub mod Settled
-pub mod Stream
-pub mod Words

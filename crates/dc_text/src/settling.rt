@@ -58,7 +58,7 @@ pub fn settle(alloc: Global, bytes: &[u8]) -> Mem<Settled>
 fn with_newlines(alloc: Global, bytes: &[u8]) -> Mem<Text>
     ensures { IfOk result (λ text. text ≡ settled bytes.now) }
 {
-    let mut text = Text::new(alloc);
+    let mut text = Text::with_capacity(alloc, bytes.len())?;
     let mut rest = bytes;
     loop {
         match rest {
@@ -79,7 +79,7 @@ fn with_newlines(alloc: Global, bytes: &[u8]) -> Mem<Text>
 pub fn show_newlines(alloc: Global, bytes: &[u8]) -> Mem<Text>
     ensures { IfOk result (λ text. text ≡ newlines_shown bytes.now) }
 {
-    let mut text = Text::new(alloc);
+    let mut text = Text::with_capacity(alloc, bytes.len())?;
     for byte in bytes {
         if *byte == b'\n' {
             text.append(b"\\n")?;

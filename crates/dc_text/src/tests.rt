@@ -1,7 +1,7 @@
 // The examples of the texts, as tables.
 use crate::{
-    FieldKey, FlagName, Line, Lines, List, Mem, Name, NameRefused, SmallMap, Text, TextMap, VarKey,
-    escape, plain_words, settle, show_newlines, unescape_words,
+    FieldKey, FlagName, List, Mem, Name, NameRefused, SmallMap, Text, TextMap, VarKey, settle,
+    show_newlines,
 };
 use std::alloc::Global;
 use std::test::Fail;
@@ -128,41 +128,6 @@ fn barred(alloc: Global, words: &List<Text>) -> Mem<Text> {
 }
 
 #[test]
-fn lines_have_words(rt: HostRuntime) -> Result<(), Fail> {
-    let alloc = rt.alloc();
-    for (line, words) in [
-        ("a\\ b c\\\\d", "a\\|b|c\\\\d|"),
-        ("  GET \t a/b\r", "GET|a/b|"),
-        ("\u{b}x\u{c}y", "x|y|"),
-        (" \t", ""),
-        ("", ""),
-    ] {
-        let read = plain_words(alloc, line.as_bytes())?;
-        assert_eq!(rt; barred(alloc, &read)?.bytes(), words.as_bytes(), "{line:?}");
-    }
-    Ok(())
-}
-
-#[test]
-fn escaped_lines_have_words(rt: HostRuntime) -> Result<(), Fail> {
-    let alloc = rt.alloc();
-    for (line, words) in [
-        ("a\\ b c\\\\d", "a b|c\\d|"),
-        (" x\\ny\tz\\", "x\ny|z\\|"),
-        ("\\\\ \\\n", "\\|\n|"),
-        ("a\\ ", "a |"),
-        (" \t", ""),
-        ("", ""),
-    ] {
-        let read = unescape_words(alloc, line.as_bytes())?;
-        assert_eq!(rt; barred(alloc, &read)?.bytes(), words.as_bytes(), "{line:?}");
-    }
-    assert_eq!(rt; escape(alloc, b"a\\\n")?.bytes(), b"a\\\\\\n".as_slice());
-    assert_eq!(rt; escape(alloc, b"x y")?.bytes(), b"x y".as_slice());
-    Ok(())
-}
-
-#[test]
 fn lists_and_maps_hold_what_is_put(rt: HostRuntime) -> Result<(), Fail> {
     let alloc = rt.alloc();
     let mut list = List::new(alloc);
@@ -183,30 +148,6 @@ fn lists_and_maps_hold_what_is_put(rt: HostRuntime) -> Result<(), Fail> {
     map.remove(b"b");
     assert_eq!(rt; map.contains(b"b"), false);
     assert_eq!(rt; map.iter().count(), 1);
-    Ok(())
-}
-
-// The line of a stream, with a bar after it.
-fn show(text: &mut Text, line: &Line) -> Mem<()> {
-    match line {
-        Line::Whole(bytes) => text.append(bytes.bytes())?,
-        Line::TooLong => text.append(b"too long")?,
-    }
-    text.push(b'|')
-}
-
-#[test]
-fn a_stream_has_lines(rt: HostRuntime) -> Result<(), Fail> {
-    let alloc = rt.alloc();
-    let mut text = Text::new(alloc);
-    let mut lines = Lines::new(alloc);
-    lines.feed(b"a\n\nb")?;
-    for _ in 0..2u8 {
-        if let Some(line) = lines.next()? {
-            show(&mut text, &line)?;
-        }
-    }
-    assert_eq!(rt; text.bytes(), b"a||".as_slice());
     Ok(())
 }
 
@@ -251,31 +192,5 @@ fn a_small_map_holds_what_is_put(rt: HostRuntime) -> Result<(), Fail> {
         copy.get(b"d").map(|value| value.bytes()),
         Some(b"4".as_slice())
     );
-    Ok(())
-}
-
-#[test]
-fn choices_are_split_and_joined(rt: HostRuntime) -> Result<(), Fail> {
-    let alloc = rt.alloc();
-    for (text, choices, joined) in [
-        ("a\\, b, c", "a, b|c|", "a\\, b, c"),
-        (" \n a,  \tb,c", "a|b,c|", "a, b\\,c"),
-        ("\\ a\\\\ , \\b,\n", " a\\ |\\b|", "\\ a\\\\ , \\b"),
-        ("a,", "a,|", "a\\,"),
-        (" , ", "", ""),
-        ("", "", ""),
-    ] {
-        let read = crate::split_choices(alloc, text.as_bytes())?;
-        assert_eq!(rt;
-            barred(alloc, &read)?.bytes(),
-            choices.as_bytes(),
-            "{text:?}"
-        );
-        assert_eq!(rt;
-            crate::join_choices(alloc, &read)?.bytes(),
-            joined.as_bytes(),
-            "{text:?}"
-        );
-    }
     Ok(())
 }

@@ -30,6 +30,14 @@ impl Text {
         }
     }
 
+    /// No bytes, with room for so many.
+    pub fn with_capacity(alloc: Global, count: usize) -> Mem<Self>
+        ensures { IfOk result (λ text. text ≡ []) }
+    {
+        let bytes = Vec::with_capacity(alloc, count)?;
+        Ok(Text { bytes })
+    }
+
     /// A copy of the bytes.
     pub fn from_bytes(alloc: Global, bytes: &[u8]) -> Mem<Self>
         ensures { IfOk result (λ text. text ≡ bytes.now) }

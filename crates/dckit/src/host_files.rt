@@ -1,7 +1,9 @@
 // The files of the host. They tell nothing of what they hold.
-ghost use Rattle.std.specs.Prelude.{◌≡◌, ◌↔◌, ◌≤◌, None, length, is_ok, IfErr, IfOk, IfSome, IsOk};
+ghost use Rattle.std.specs.Prelude.{◌≡◌, ◌↔◌, ◌≤◌, ◌<◌, None, length, is_ok, IfErr, IfOk, IfSome, IsOk, OnErr, OnOk};
+ghost use Rattle.std.specs.FinMap as map;
 ghost use Rattle.std.specs.Str.{IsUtf8};
 ghost use Rattle.dc_outside.specs.Counts.{CountsFilesFaults, CountsFilesRefusals};
+ghost use Rattle.dckit.specs.Folders.{IsKept, Keeps};
 
 use crate::host_folders::{ChangedFolders, files_below};
 use crate::host_io;
@@ -35,7 +37,12 @@ pub struct HostFiles<R> {
 }
 
 impl<R: SystemFiles> HostFiles<R> {
-    pub fn new(alloc: Global, rt: R) -> HostFiles<R> {
+    /// Files of which no call failed and no folder changed.
+    pub fn new(alloc: Global, rt: R) -> HostFiles<R>
+        ensures changed { result.changed ≡ map.empty }
+        ensures faults { result.faults ≡ 0 }
+        ensures refusals { result.refusals ≡ 0 }
+    {
         HostFiles {
             alloc,
             rt,
@@ -50,6 +57,7 @@ impl<R: SystemFiles> HostFiles<R> {
         ensures answer { result ≡ answer }
         ensures faults { CountsFilesFaults self.old.faults self.new.faults result }
         ensures refusals { CountsFilesRefusals self.old.refusals self.new.refusals result }
+        ensures changed { self.new.changed ≡ self.old.changed }
     {
         match &answer {
             Ok(_) => {}
@@ -69,7 +77,12 @@ impl<R: SystemFiles + Alloc + Clone + Drop> Files for HostFiles<R> {
 
     ghost refusals = { λ h. h.refusals };
 
-    fn read(&mut self, path: &Text) -> Result<Option<Text>, FilesError> {
+    fn read(&mut self, path: &Text) -> Result<Option<Text>, FilesError>
+        ensures small { IfOk result (λ found. IfSome found (λ bytes. length bytes ≤ MAX_FILE)) }
+        ensures changed { self.new.changed ≡ self.old.changed }
+        ensures faults { CountsFilesFaults self.old.faults self.new.faults result }
+        ensures refusals { CountsFilesRefusals self.old.refusals self.new.refusals result }
+    {
         let answer = read_file(self.alloc, &self.rt, path);
         self.count(answer)
     }
@@ -79,7 +92,12 @@ impl<R: SystemFiles + Alloc + Clone + Drop> Files for HostFiles<R> {
         self.count(answer)
     }
 
-    fn write(&mut self, path: &Text, bytes: &[u8], mode: u16) -> Result<(), FilesError> {
+    fn write(&mut self, path: &Text, bytes: &[u8], mode: u16) -> Result<(), FilesError>
+        ensures kept { OnOk result (IsKept self.new.changed path.now) }
+        ensures changed { Keeps self.old.changed self.new.changed }
+        ensures faults { CountsFilesFaults self.old.faults self.new.faults result }
+        ensures refusals { CountsFilesRefusals self.old.refusals self.new.refusals result }
+    {
         let answer = write_file(&self.rt, &mut self.changed, path, bytes, mode);
         self.count(answer)
     }
@@ -89,17 +107,33 @@ impl<R: SystemFiles + Alloc + Clone + Drop> Files for HostFiles<R> {
         self.count(answer)
     }
 
-    fn rename(&mut self, from: &Text, to: &Text) -> Result<(), FilesError> {
+    fn rename(&mut self, from: &Text, to: &Text) -> Result<(), FilesError>
+        ensures from { OnOk result (IsKept self.new.changed from.now) }
+        ensures to { OnOk result (IsKept self.new.changed to.now) }
+        ensures changed { Keeps self.old.changed self.new.changed }
+        ensures faults { CountsFilesFaults self.old.faults self.new.faults result }
+        ensures refusals { CountsFilesRefusals self.old.refusals self.new.refusals result }
+    {
         let answer = rename_file(&self.rt, &mut self.changed, from, to);
         self.count(answer)
     }
 
-    fn sync_names(&mut self) -> Result<(), FilesError> {
+    fn sync_names(&mut self) -> Result<(), FilesError>
+        ensures none { OnOk result (self.new.changed ≡ map.empty) }
+        ensures err { OnErr result (self.new.changed ≡ self.old.changed) }
+        ensures faults { CountsFilesFaults self.old.faults self.new.faults result }
+        ensures refusals { CountsFilesRefusals self.old.refusals self.new.refusals result }
+    {
         let answer = self.changed.sync(&self.rt);
         self.count(answer)
     }
 
-    fn remove(&mut self, path: &Text) -> Result<(), FilesError> {
+    fn remove(&mut self, path: &Text) -> Result<(), FilesError>
+        ensures kept { OnOk result (IsKept self.new.changed path.now) }
+        ensures changed { Keeps self.old.changed self.new.changed }
+        ensures faults { CountsFilesFaults self.old.faults self.new.faults result }
+        ensures refusals { CountsFilesRefusals self.old.refusals self.new.refusals result }
+    {
         let answer = remove_file(&self.rt, &mut self.changed, path);
         self.count(answer)
     }
@@ -138,21 +172,31 @@ fn read_file<R: SystemFiles>(alloc: Global, rt: &R, path: &Text) -> Result<Optio
     }
 }
 
-fn make_buffer(alloc: Global) -> Result<Vec<u8>, AllocError> {
+fn make_buffer(alloc: Global) -> Result<Vec<u8>, AllocError>
+    ensures { IfOk result (λ piece. length piece.items ≡ PIECE) }
+{
     vec![in alloc; 0u8; PIECE]
 }
 
 // The bytes of the file, unless there are too many.
 fn read_all<F: Read>(alloc: Global, file: &mut F) -> Result<Text, FilesError>
-    ensures { IfOk result (λ bytes. length bytes ≤ MAX_FILE) }
+    ensures small { IfOk result (λ bytes. length bytes ≤ MAX_FILE) }
+    ensures whole { IfOk result (λ bytes. IfSome (F.remaining file.old) (λ all. bytes ≡ all)) }
+{
+    match make_buffer(alloc) {
+        Ok(mut piece) => read_pieces(alloc, file, piece.as_mut_slice()),
+        Err(_) => Err(FilesError::OutOfMemory),
+    }
+}
+
+fn read_pieces<F: Read>(alloc: Global, file: &mut F, piece: &mut [u8]) -> Result<Text, FilesError>
+    requires { 0 < length piece.old }
+    ensures small { IfOk result (λ bytes. length bytes ≤ MAX_FILE) }
+    ensures whole { IfOk result (λ bytes. IfSome (F.remaining file.old) (λ all. bytes ≡ all)) }
 {
     let mut bytes = Text::new(alloc);
-    let mut piece = match make_buffer(alloc) {
-        Ok(piece) => piece,
-        Err(_) => return Err(FilesError::OutOfMemory),
-    };
     for _ in 0..u64::MAX {
-        match host_io::read_some(file, &mut piece) {
+        match host_io::read_some(file, piece) {
             Ok(count) if count == 0 => return Ok(bytes),
             Ok(count) if count <= MAX_FILE.saturating_sub(bytes.bytes().len()) => {
                 bytes.append(&piece[..count])?;
@@ -176,16 +220,19 @@ fn list_files<R: SystemFiles + Alloc + Clone + Drop>(
     Ok(paths)
 }
 
+#[tactic(auto, using(crate::proofs::FolderLemmas::keeps_same, crate::proofs::FolderLemmas::keeps_on, crate::proofs::FolderLemmas::kept_on))]
 fn write_file<R: SystemFiles>(
     rt: &R,
     changed: &mut ChangedFolders,
     path: &Text,
     bytes: &[u8],
     mode: u16,
-) -> Result<(), FilesError> {
+) -> Result<(), FilesError>
+    ensures kept { OnOk result (IsKept changed.new path.now) }
+    ensures changed { Keeps changed.old changed.new }
+{
     let path = path_of(path)?;
-    changed.mark(path)?;
-    changed.make_folder(rt, path)?;
+    changed.prepare(rt, path)?;
     done(write_bytes(rt, path, bytes, mode))
 }
 
@@ -216,24 +263,32 @@ fn sync_file<R: SystemFiles>(rt: &R, path: &Text) -> Result<(), FilesError> {
     }
 }
 
+#[tactic(auto, using(crate::proofs::FolderLemmas::keeps_same, crate::proofs::FolderLemmas::keeps_on, crate::proofs::FolderLemmas::kept_on))]
 fn rename_file<R: SystemFiles>(
     rt: &R,
     changed: &mut ChangedFolders,
     from: &Text,
     to: &Text,
-) -> Result<(), FilesError> {
+) -> Result<(), FilesError>
+    ensures from { OnOk result (IsKept changed.new from.now) }
+    ensures to { OnOk result (IsKept changed.new to.now) }
+    ensures changed { Keeps changed.old changed.new }
+{
     let from = path_of(from)?;
     let to = path_of(to)?;
-    changed.mark(from)?;
-    changed.mark(to)?;
+    changed.mark_both(from, to)?;
     done(std::fs::rename(rt, from, to))
 }
 
+#[tactic(auto, using(crate::proofs::FolderLemmas::keeps_same, crate::proofs::FolderLemmas::keeps_on, crate::proofs::FolderLemmas::kept_on))]
 fn remove_file<R: SystemFiles>(
     rt: &R,
     changed: &mut ChangedFolders,
     path: &Text,
-) -> Result<(), FilesError> {
+) -> Result<(), FilesError>
+    ensures kept { OnOk result (IsKept changed.new path.now) }
+    ensures changed { Keeps changed.old changed.new }
+{
     let path = path_of(path)?;
     changed.mark(path)?;
     match std::fs::remove_file(rt, path) {

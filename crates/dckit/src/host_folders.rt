@@ -1,7 +1,7 @@
 // The folders of the host: those that changed, and the files below one.
 ghost use Rattle.std.specs.Prelude.{◌≡◌, OnErr, OnOk};
 ghost use Rattle.std.specs.FinMap as map;
-ghost use Rattle.dckit.specs.Folders.{folder_of, with_folder_of, Keeps};
+ghost use Rattle.dckit.specs.Folders.{folder_of, with_folder_of, IsKept, Keeps};
 
 use dc_outside::FilesError;
 use dc_text::{List, Mem, Text, TextMap};
@@ -42,12 +42,36 @@ impl ChangedFolders {
     }
 
     /// Keeps the folder of the path, which is to change.
+    #[tactic(auto, using(crate::proofs::FolderLemmas::is_kept_with, crate::proofs::FolderLemmas::keeps_with, crate::proofs::FolderLemmas::keeps_same, crate::proofs::FolderLemmas::keeps_on, crate::proofs::FolderLemmas::kept_on))]
     pub fn mark(&mut self, path: &str) -> Mem<()>
         ensures ok { OnOk result (self.new ≡ with_folder_of self.old path.now) }
         ensures err { OnErr result (self.new ≡ self.old) }
+        ensures kept { OnOk result (IsKept self.new path.now) }
+        ensures others { Keeps self.old self.new }
     {
         let folder = Text::from_bytes(self.alloc, folder_of(path).as_bytes())?;
         self.folders.insert(folder, ())
+    }
+
+    /// Keeps the folder of the path, and makes it where it is missing.
+    #[tactic(auto, using(crate::proofs::FolderLemmas::is_kept_with, crate::proofs::FolderLemmas::keeps_with, crate::proofs::FolderLemmas::keeps_same, crate::proofs::FolderLemmas::keeps_on, crate::proofs::FolderLemmas::kept_on))]
+    pub fn prepare<R: SystemFiles>(&mut self, rt: &R, path: &str) -> Result<(), FilesError>
+        ensures kept { OnOk result (IsKept self.new path.now) }
+        ensures others { Keeps self.old self.new }
+    {
+        self.mark(path)?;
+        self.make_folder(rt, path)
+    }
+
+    /// Keeps the folders of both paths.
+    #[tactic(auto, using(crate::proofs::FolderLemmas::is_kept_with, crate::proofs::FolderLemmas::keeps_with, crate::proofs::FolderLemmas::keeps_same, crate::proofs::FolderLemmas::keeps_on, crate::proofs::FolderLemmas::kept_on))]
+    pub fn mark_both(&mut self, path: &str, other: &str) -> Mem<()>
+        ensures kept { OnOk result (IsKept self.new path.now) }
+        ensures too { OnOk result (IsKept self.new other.now) }
+        ensures others { Keeps self.old self.new }
+    {
+        self.mark(path)?;
+        self.mark(other)
     }
 
     /// Makes the folder of the path, and those above it, where they are missing. The folders that they are made in are

@@ -1,5 +1,5 @@
 use Rattle.std.proofs.Common.{◌∙◌, arith}
-use Rattle.dc_text.specs.Stream.{whole_lines}
+use Rattle.dc_words.specs.Stream.{whole_lines}
 use Rattle.dc_run.proofs.Serve.{broken_off, ended_at, gone_more}
 use Rattle.dc_run.proofs.answering.serve_held.Goals as goal
 

@@ -1,6 +1,6 @@
 use Rattle.std.proofs.Common.{◌≡◌, ◌≤◌, ◌++◌, List, length}
-use Rattle.dc_text.specs.declared.stream.Line.{Line}
-use Rattle.dc_text.specs.Stream.{whole_lines, rest_of}
+use Rattle.dc_words.specs.declared.stream.Line.{Line}
+use Rattle.dc_words.specs.Stream.{whole_lines, rest_of}
 use Rattle.dc_run.specs.declared.outcome.Served.TheVariants.{On}
 use Rattle.dc_run.specs.Serving.{HasServed}
 use Rattle.dc_run.proofs.answering.serve_held.Given as goal

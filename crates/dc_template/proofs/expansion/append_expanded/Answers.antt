@@ -1,6 +1,6 @@
 use Rattle.std.proofs.Common.{◌∷◌, ◌++◌, ◌-◌, ◌<◌, [], length, take, drop, sym, ap, ◌∙◌, arith}
 use Rattle.std.proofs.lemmas.Result.{on_ok_weaker}
-use Rattle.dc_text.proofs.ChoiceLemmas.{head_apart}
+use Rattle.dc_text.proofs.LineLemmas.{head_apart}
 use Rattle.dc_template.specs.Expansion.{value_of}
 use Rattle.dc_template.proofs.ExpansionLemmas.{variable_end, quoted_end, empty_end, behind_is}
 use Rattle.dc_template.proofs.expansion.append_expanded.Goals as goal

@@ -1,4 +1,4 @@
-use Rattle.std.proofs.Common.{sym, ap, ◌∙◌}
+use Rattle.std.proofs.Common.{ap, ◌∙◌}
 use Rattle.dc_text.specs.Settled.{is_settled}
 use Rattle.dc_text.proofs.SettledLemmas.{is_settled-settled}
 use Rattle.dc_text.proofs.settling.settle.Goals as goal

@@ -1,4 +1,4 @@
-use Rattle.std.proofs.Common.{sym, ap, ◌∙◌, map as each}
+use Rattle.std.proofs.Common.{sym, ap, ◌∙◌}
 use Rattle.std.specs.FinMap as map
 use Rattle.dc_text.proofs.MapLemmas.{entries-in_order, rises, seen}
 use Rattle.dc_text.proofs.maps.TextMap.iter.Goals as goal

@@ -1,0 +1,12 @@
+//! The examples: what the program's call says and leaves, over a link and files in memory. What a run says and leaves is
+//! compared as one text.
+#![tactic(auto)]
+
+#[cfg(test)]
+mod saving;
+#[cfg(test)]
+mod serving;
+#[cfg(test)]
+mod support;
+#[cfg(test)]
+mod templates;

@@ -1,0 +1,171 @@
+// A run over a link and files in memory, and what it says and leaves as one text.
+use dc_outside::{Files, FilesOp, MemFiles, MemLink};
+use dc_run::{End, Outcome, Settings, run_words};
+use dc_text::{List, Text};
+use std::alloc::Global;
+
+pub fn text(alloc: Global, bytes: &[u8]) -> Option<Text> {
+    Text::from_bytes(alloc, bytes).ok()
+}
+
+pub fn settings(alloc: Global, lang: &str) -> Option<Settings> {
+    let conf_path = text(alloc, b"q.dat")?;
+    let lang = text(alloc, lang.as_bytes())?;
+    Some(Settings {
+        conf_path,
+        frontend: None,
+        priority: None,
+        lang,
+        nonint_seen: false,
+    })
+}
+
+/// Files of questions and of templates, each where its text isn't empty.
+pub fn make_files(
+    alloc: Global,
+    questions: &[u8],
+    templates: &[u8],
+    failing: &[u64],
+) -> Option<MemFiles> {
+    let mut entries = Vec::new(alloc);
+    for (path, bytes) in [("q.dat", questions), ("q.dat.templates", templates)] {
+        if !bytes.is_empty() {
+            let path = text(alloc, path.as_bytes())?;
+            entries.push((path, text(alloc, bytes)?)).ok()?;
+        }
+    }
+    MemFiles::new(alloc, &entries, failing).ok()
+}
+
+pub fn make_words(alloc: Global, list: &[&str]) -> Option<List<Text>> {
+    let mut words = List::new(alloc);
+    for word in list {
+        words.push(text(alloc, word.as_bytes())?).ok()?;
+    }
+    Some(words)
+}
+
+/// Runs the words for a user of the language.
+pub fn run(
+    alloc: Global,
+    lang: &str,
+    list: &[&str],
+    io: &mut MemLink,
+    files: &mut MemFiles,
+) -> Option<Outcome> {
+    let words = make_words(alloc, list)?;
+    let settings = settings(alloc, lang)?;
+    let mut err = MemLink::new(alloc, b"", &[], &[]).ok()?;
+    Some(run_words(alloc, &words, &settings, io, &mut err, files))
+}
+
+/// An end as a word, the number that it carries, and the path.
+pub fn end_parts(end: &End) -> (&'static str, u64, &[u8]) {
+    match end {
+        End::Done => ("done", 0, b""),
+        End::Usage { word } => ("usage", *word as u64, b""),
+        End::Damaged { path, line } => ("damaged", *line, path.bytes()),
+        End::FilesFault { path } => ("files", 0, path.bytes()),
+        End::LinkFault => ("link", 0, b""),
+        End::TooLong => ("too long", 0, b""),
+        End::OutOfMemory => ("memory", 0, b""),
+    }
+}
+
+/// The status, and the end with what it carries.
+pub fn shown_end(alloc: Global, outcome: &Outcome) -> Option<Text> {
+    let (word, number, path) = end_parts(&outcome.end);
+    let head = format!(in alloc; "{} {word} {number} ", outcome.status).ok()?;
+    let mut shown = text(alloc, head.as_bytes())?;
+    shown.append(path).ok()?;
+    Some(shown)
+}
+
+/// What `communicate p` says to the input, and then its end.
+pub fn answered(
+    alloc: Global,
+    lang: &str,
+    questions: &[u8],
+    templates: &[u8],
+    input: &[u8],
+    cuts: &[usize],
+) -> Option<Text> {
+    let mut io = MemLink::new(alloc, input, cuts, &[]).ok()?;
+    let mut files = make_files(alloc, questions, templates, &[])?;
+    let outcome = run(alloc, lang, &["communicate", "p"], &mut io, &mut files)?;
+    let mut said = io.sent().copy().ok()?;
+    said.append(shown_end(alloc, &outcome)?.bytes()).ok()?;
+    Some(said)
+}
+
+/// A letter for what a call does.
+pub fn letter(op: FilesOp) -> u8 {
+    match op {
+        FilesOp::Read => b'r',
+        FilesOp::List => b'l',
+        FilesOp::Write => b'w',
+        FilesOp::Sync => b's',
+        FilesOp::Rename => b'm',
+        FilesOp::SyncNames => b'n',
+        FilesOp::Remove => b'd',
+    }
+}
+
+/// The calls of the files: a letter, the path, and `!` where it failed.
+pub fn called(alloc: Global, files: &MemFiles) -> Option<Text> {
+    let mut all = Text::new(alloc);
+    for call in files.calls().as_slice() {
+        all.push(letter(call.op)).ok()?;
+        all.append(call.path.bytes()).ok()?;
+        all.push(if call.ok { b' ' } else { b'!' }).ok()?;
+    }
+    Some(all)
+}
+
+/// What stands at the path, empty where there is no file.
+pub fn text_at(alloc: Global, files: &mut MemFiles, path: &[u8]) -> Option<Text> {
+    let path = text(alloc, path)?;
+    match files.read(&path) {
+        Ok(Some(text)) => Some(text),
+        Ok(None) => Some(Text::new(alloc)),
+        Err(_) => None,
+    }
+}
+
+pub fn append_barred(shown: &mut Text, more: &[u8]) -> Option<()> {
+    shown.push(b'|').ok()?;
+    shown.append(more).ok()
+}
+
+/// Texts with a bar before each.
+pub fn barred(alloc: Global, parts: &[&str]) -> Option<Text> {
+    let mut shown = Text::new(alloc);
+    for part in parts {
+        append_barred(&mut shown, part.as_bytes())?;
+    }
+    Some(shown)
+}
+
+pub const OLD: &str =
+    "Name: a/b\nTemplate: a/b\nValue: old\nOwners: p\nFlags: seen\nVariables:\n k = v\n\n";
+
+pub const NEW: &str =
+    "Name: a/b\nTemplate: a/b\nValue: new\nOwners: p\nFlags: seen\nVariables:\n k = v\n\n";
+
+/// The two files of the database are read.
+pub const READS: &str = "rq.dat rq.dat.templates ";
+
+pub const SAVE: &str = "rq.dat rq.dat.templates wq.dat-new sq.dat-new mq.dat n ";
+
+/// What a run over the old question says, its end, the calls of the files, and the questions that it leaves.
+pub fn saved(alloc: Global, input: &str, link: &[u64], failing: &[u64]) -> Option<Text> {
+    let mut io = MemLink::new(alloc, input.as_bytes(), &[], link).ok()?;
+    let mut files = make_files(alloc, OLD.as_bytes(), b"", failing)?;
+    let outcome = run(alloc, "", &["communicate"], &mut io, &mut files)?;
+    let mut shown = Text::new(alloc);
+    append_barred(&mut shown, io.sent().bytes())?;
+    append_barred(&mut shown, shown_end(alloc, &outcome)?.bytes())?;
+    append_barred(&mut shown, called(alloc, &files)?.bytes())?;
+    append_barred(&mut shown, text_at(alloc, &mut files, b"q.dat")?.bytes())?;
+    Some(shown)
+}

@@ -1,5 +1,0 @@
-use Rattle.dc_text.proofs.EscapedLemmas.{words_of_one}
-use Rattle.dc_text.proofs.laws.escaped_words_are_one.Goals as goal
-
-pub returns : goal.returns
-returns c = words_of_one

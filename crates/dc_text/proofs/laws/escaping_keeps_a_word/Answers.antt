@@ -1,5 +1,0 @@
-use Rattle.dc_text.proofs.EscapedLemmas.{escaped_is_one}
-use Rattle.dc_text.proofs.laws.escaping_keeps_a_word.Goals as goal
-
-pub returns : goal.returns
-returns c = escaped_is_one

@@ -1,6 +1,0 @@
-use Rattle.std.proofs.Common.{◌∙◌}
-use Rattle.dc_text.proofs.Parts.{clip-take}
-use Rattle.dc_text.proofs.stream.clip_to.Goals as goal
-
-pub returns : goal.returns
-returns c = c.truncate.ensures.items ∙ clip-take c.args.bytes.now.items c.args.most

@@ -1,5 +1,0 @@
-use Rattle.dc_text.proofs.Parts.{parts_at-position}
-use Rattle.dc_text.proofs.stream.newline_at.Goals as goal
-
-pub returns : goal.returns
-returns c = parts_at-position c.args.bytes.now _ c.place_of.ensures

@@ -1,0 +1,4 @@
+pub mod ChoiceLemmas
+pub mod EscapedLemmas
+pub mod StreamLemmas
+pub mod WordLemmas

@@ -1,0 +1,4 @@
+pub mod Choices
+pub mod Escaped
+pub mod Stream
+pub mod Words
