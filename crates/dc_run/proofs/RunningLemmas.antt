@@ -5,7 +5,7 @@ use Rattle.dc_run.specs.declared.outcome.End.{End}
 use Rattle.dc_run.specs.declared.outcome.End.TheVariants as end
 use Rattle.dc_run.specs.declared.outcome.LinkEnd.{LinkEnd}
 use Rattle.dc_run.specs.declared.outcome.LinkEnd.TheVariants as link
-use Rattle.dc_run.specs.Finishing.{Finishes, IsSaved, IsUnwritten, IsWithoutMemory}
+use Rattle.dc_run.specs.Finishing.{Counts, Finishes, IsSaved, IsUnwritten, IsWithoutMemory}
 use Rattle.dc_run.specs.Headline.{Surroundings, begun, IsSession, IsEnded, IsFinished, IsUnsaved, IsSilent, HasCommunicated}
 use Rattle.dc_run.specs.Loading.{LoadsDatabase}
 use Rattle.dc_run.specs.Run.{HasRun}
@@ -24,20 +24,20 @@ not_loaded path lang old new end.TooLong loads silent = absurd loads
 not_loaded path lang old new end.OutOfMemory loads silent = inl (silent, loads)
 
 module _ (path lang : List ℕ) (old new : Surroundings) (state : State) (code : ℕ) where
-  refused : (ended : LinkEnd) (how : End) → IsEnded ended → IsSession path lang old new ended state code → IsWithoutMemory path state (begun old path) new.files how
+  refused : (ended : LinkEnd) (how : End) → IsEnded ended → IsSession path lang old new ended state code → IsWithoutMemory path state (begun old path) new.files old.counts new.counts how
       → HasCommunicated path lang old new how code
-  refused ended how at session left = rw left.end_is (inr (inr (record { end = ended; ended = at; state = state; session = session; changed = left.changed; ran_out = left.ran_out })))
+  refused ended how at session left = rw left.end_is (inr (inr (record { end = ended; ended = at; state = state; session = session; changed = left.changed; ran_out = left.ran_out; refused = left.refused })))
 
-  unsaved : (ended : LinkEnd) (how : End) → IsSession path lang old new ended state code → IsUnwritten path state (begun old path) new.files ended how
+  unsaved : (ended : LinkEnd) (how : End) → IsSession path lang old new ended state code → IsUnwritten path state (begun old path) new.files old.counts new.counts ended how
       → IsUnsaved path lang old new ended code
-  unsaved ended how session left = record { state = state; session = session; changed = left.changed; failed = left.failed }
+  unsaved ended how session left = record { state = state; session = session; changed = left.changed; failed = left.failed; rose = left.rose }
 
-  saved : (ended : LinkEnd) (how : End) → IsSession path lang old new ended state code → IsSaved path state (begun old path) new.files ended how
+  saved : (ended : LinkEnd) (how : End) → IsSession path lang old new ended state code → IsSaved path state (begun old path) new.files old.counts new.counts ended how
       → IsFinished path lang old new ended code
-  saved ended how session done = record { state = state; session = session; files = done.files_are }
+  saved ended how session done = record { state = state; session = session; files = done.files_are; stays = done.stays }
 
   -- the run ends after a session
-  pub finished : (ended : LinkEnd) (how : End) → IsSession path lang old new ended state code → Finishes path state ended (begun old path) new.files how
+  pub finished : (ended : LinkEnd) (how : End) → IsSession path lang old new ended state code → Finishes path state ended (begun old path) new.files old.counts new.counts how
       → HasCommunicated path lang old new how code
   finished link.OutOfMemory how session done = rw done.0 (inr (inl (record { state = state; session = session; files = done.1 })))
   finished link.Done how session done = elim done [
@@ -57,10 +57,10 @@ module _ (path lang : List ℕ) (old new : Surroundings) (state : State) (code :
   ]
 
 -- the run of a session over a loaded database
-pub communicated : (path lang : List ℕ) (old new : Surroundings) (mid : Told) (database : Database) (kept : List ℕ) (start state : State) (ended : LinkEnd) (how : End) (code : ℕ)
-    → LoadsDatabase old.files mid path (Ok database) → kept ≡ lang → start ≡ loaded database.questions database.templates kept
-    → HasRun old.talk new.talk old.input new.input start ended state code → Finishes path state ended mid new.files how → HasCommunicated path lang old new how code
-communicated path lang old new mid database kept start state ended how code loads keeps starts run finishes =
+pub communicated : (path lang : List ℕ) (old new : Surroundings) (mid : Told) (counts : Counts) (database : Database) (kept : List ℕ) (start state : State) (ended : LinkEnd) (how : End) (code : ℕ)
+    → counts ≡ old.counts → LoadsDatabase old.files mid path (Ok database) → kept ≡ lang → start ≡ loaded database.questions database.templates kept
+    → HasRun old.talk new.talk old.input new.input start ended state code → Finishes path state ended mid new.files counts new.counts how → HasCommunicated path lang old new how code
+communicated path lang old new mid counts database kept start state ended how code same loads keeps starts run finishes =
     finished path lang old new state code ended how
     (record {
       questions = database.questions;
@@ -69,4 +69,4 @@ communicated path lang old new mid database kept start state ended how code load
       templates_are = loads.templates_are;
       ran = subst (λ (s : State). HasRun old.talk new.talk old.input new.input s ended state code) (starts ∙ ap (λ (l : List ℕ). loaded database.questions database.templates l) keeps) run;
     })
-    (subst (λ (f : Told). Finishes path state ended f new.files how) loads.files_are finishes)
+    (subst (λ (c : Counts). Finishes path state ended (begun old path) new.files c new.counts how) same (subst (λ (f : Told). Finishes path state ended f new.files counts new.counts how) loads.files_are finishes))

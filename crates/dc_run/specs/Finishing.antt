@@ -1,5 +1,6 @@
 -- What a run does when its link has ended.
 use Rattle.std.specs.Prelude.{◌≡◌, ◌⊎◌, ℕ, List, true}
+use Rattle.dc_outside.specs.Counts.{Rose}
 use Rattle.dc_run.specs.declared.outcome.End.{End}
 use Rattle.dc_run.specs.declared.outcome.End.TheVariants as end
 use Rattle.dc_run.specs.declared.outcome.LinkEnd.{LinkEnd}
@@ -9,25 +10,33 @@ use Rattle.dc_run.specs.Ends.{end_of, end_unsaved}
 use Rattle.dc_run.specs.Saving.{Told, after_finish, file_of, HasFailed, HasRunOut}
 use Rattle.dc_run.specs.State.{State}
 
--- the table was saved, where it changed
-pub record IsSaved (path : List ℕ) (state : State) (files new : Told) (ended : LinkEnd) (how : End) : Type 0 where
+-- how often a call of the files failed, and how often one was refused for want of memory
+pub record Counts : Type 0 where
+  pub faults : ℕ
+  pub refusals : ℕ
+
+-- the table was saved, where it changed, and no call failed
+pub record IsSaved (path : List ℕ) (state : State) (files new : Told) (before now : Counts) (ended : LinkEnd) (how : End) : Type 0 where
   pub end_is : how ≡ end_of ended
   pub files_are : new ≡ after_finish files path state
+  pub stays : now.faults ≡ before.faults
 
 -- the table changed, and a call of the save failed
-pub record IsUnwritten (path : List ℕ) (state : State) (files new : Told) (ended : LinkEnd) (how : End) : Type 0 where
+pub record IsUnwritten (path : List ℕ) (state : State) (files new : Told) (before now : Counts) (ended : LinkEnd) (how : End) : Type 0 where
   pub end_is : how ≡ end_unsaved ended (save.Failed path)
   pub changed : state.changed ≡ true
   pub failed : HasFailed files new path (file_of state.questions)
+  pub rose : Rose before.faults now.faults
 
--- the table changed, and there was no memory to save it
-pub record IsWithoutMemory (path : List ℕ) (state : State) (files new : Told) (how : End) : Type 0 where
+-- the table changed, and there was no memory to save it: the files refused a call, or none was made
+pub record IsWithoutMemory (path : List ℕ) (state : State) (files new : Told) (before now : Counts) (how : End) : Type 0 where
   pub end_is : how ≡ end.OutOfMemory
   pub changed : state.changed ≡ true
   pub ran_out : HasRunOut files new path (file_of state.questions)
+  pub refused : Rose before.refusals now.refusals ⊎ (new ≡ files)
 
 -- what finishing does, by the end of the link, and the end of the run
-abbrev pub Finishes : List ℕ → State → LinkEnd → Told → Told → End → Type 0
-Finishes path state link.OutOfMemory files new how = (how ≡ end.OutOfMemory) × (new ≡ files)
-Finishes path state ended files new how =
-    IsSaved path state files new ended how ⊎ IsUnwritten path state files new ended how ⊎ IsWithoutMemory path state files new how
+abbrev pub Finishes : List ℕ → State → LinkEnd → Told → Told → Counts → Counts → End → Type 0
+Finishes path state link.OutOfMemory files new before now how = (how ≡ end.OutOfMemory) × (new ≡ files)
+Finishes path state ended files new before now how =
+    IsSaved path state files new before now ended how ⊎ IsUnwritten path state files new before now ended how ⊎ IsWithoutMemory path state files new before now how

@@ -5,15 +5,19 @@ use Rattle.dc_run.specs.declared.outcome.End.{End}
 use Rattle.dc_run.specs.declared.outcome.End.TheVariants as end
 use Rattle.dc_run.specs.declared.outcome.LinkEnd.{LinkEnd}
 use Rattle.dc_run.specs.declared.outcome.LinkEnd.TheVariants as link
+use Rattle.dc_outside.specs.Counts.{Rose}
+use Rattle.dc_run.specs.Finishing.{Counts}
 use Rattle.dc_run.specs.Loading.{HasLoaded, files_of, templates_path, after_reads, IsDamagedFirst, IsUnread, AreReadInPart}
 use Rattle.dc_run.specs.Run.{HasRun}
 use Rattle.dc_run.specs.Saving.{Told, after_finish, file_of, HasFailed, HasRunOut}
 use Rattle.dc_run.specs.State.{Table, State, loaded}
 use Rattle.dc_run.specs.Tools.{IsToolWords, AreRefusedAt}
 
--- what a run finds and leaves: what the files tell, the talk on the link, and the input that is left on it
+-- what a run finds and leaves: what the files tell, how often they failed and refused, the talk on the link, and the input
+-- that is left on it
 pub record Surroundings : Type 0 where
   pub files : Told
+  pub counts : Counts
   pub talk : Option (List Piece)
   pub input : Option (List ℕ)
 
@@ -35,11 +39,12 @@ pub record IsSession (path lang : List ℕ) (old new : Surroundings) (end : Link
 abbrev pub begun : Surroundings → List ℕ → Told
 begun old path = after_reads old.files (files_of path)
 
--- a session that came to its end, after which the table of questions is saved where it changed
+-- a session that came to its end, after which the table of questions is saved where it changed; no call of the files failed
 pub record IsFinished (path lang : List ℕ) (old new : Surroundings) (end : LinkEnd) (code : ℕ) : Type 0 where
   pub state : State
   pub session : IsSession path lang old new end state code
   pub files : new.files ≡ after_finish (begun old path) path state
+  pub stays : new.counts.faults ≡ old.counts.faults
 
 -- a session that came to its end, and a call of the save of its changed table failed
 pub record IsUnsaved (path lang : List ℕ) (old new : Surroundings) (end : LinkEnd) (code : ℕ) : Type 0 where
@@ -47,6 +52,7 @@ pub record IsUnsaved (path lang : List ℕ) (old new : Surroundings) (end : Link
   pub session : IsSession path lang old new end state code
   pub changed : state.changed ≡ true
   pub failed : HasFailed (begun old path) new.files path (file_of state.questions)
+  pub rose : Rose old.counts.faults new.counts.faults
 
 -- the ends of the link after which a changed table is saved
 abbrev pub IsEnded : LinkEnd → Type 0
@@ -55,7 +61,8 @@ IsEnded link.LinkFault = Unit {0}
 IsEnded link.TooLong = Unit {0}
 IsEnded link.OutOfMemory = ⊥
 
--- a session that came to its end, and there was no memory to save its changed table
+-- A session that came to its end, and there was no memory to save its changed table: the files refused a call, or the program's
+-- own memory ran out before the first one.
 pub record IsUnfinished (path lang : List ℕ) (old new : Surroundings) (code : ℕ) : Type 0 where
   pub end : LinkEnd
   pub ended : IsEnded end
@@ -63,6 +70,7 @@ pub record IsUnfinished (path lang : List ℕ) (old new : Surroundings) (code : 
   pub session : IsSession path lang old new end state code
   pub changed : state.changed ≡ true
   pub ran_out : HasRunOut (begun old path) new.files path (file_of state.questions)
+  pub refused : Rose old.counts.refusals new.counts.refusals ⊎ (new.files ≡ begun old path)
 
 -- want of memory before the save: no file was written
 pub record IsBrokenOff (path lang : List ℕ) (old new : Surroundings) (code : ℕ) : Type 0 where

@@ -1,5 +1,5 @@
 -- The save: a changed table of questions is written beside its path, made to last there, and put in its place.
-use Rattle.std.specs.Prelude.{◌≡◌, ◌⊎◌, ℕ, List, [], ◌∷◌, ◌++◌, Bool, true, false, Option, option_map, if◌then◌else◌, codes, Result, Ok, Err}
+use Rattle.std.specs.Prelude.{◌≡◌, ◌⊎◌, ℕ, List, [], ◌∷◌, ◌++◌, Bool, true, false, Option, option_map, if◌then◌else◌, codes, Result, Ok, Err, ⊤}
 use Rattle.std.specs.FinMap as map
 use Rattle.dc_outside.specs.Calls.{then_call}
 use Rattle.dc_outside.specs.Disk.{Disk, File, with_entry}
@@ -92,6 +92,19 @@ abbrev pub Saves : Told → Told → List ℕ → Table → Result (Unit {0}) Sa
 Saves files new path table (Ok done) = new ≡ after_save files path (file_of table)
 Saves files new path table (Err (save.Failed failed)) = (failed ≡ path) × HasFailed files new path (file_of table)
 Saves files new path table (Err save.OutOfMemory) = HasRunOut files new path (file_of table)
+
+-- where the files had no memory for one of the calls, their count of refusals rose
+abbrev pub PutsRefused : Result (Unit {0}) FilesError → ℕ → ℕ → Type 0
+PutsRefused (Ok done) before now = ⊤
+PutsRefused (Err Failed) before now = ⊤
+PutsRefused (Err OutOfMemory) before now = Rose before now
+
+-- where there was no memory for the save, the files' count of refusals rose, or the program's own memory ran out before the
+-- first call
+abbrev pub SaveRefused : Told → Told → Result (Unit {0}) SaveError → ℕ → ℕ → Type 0
+SaveRefused files new (Ok done) before now = ⊤
+SaveRefused files new (Err (save.Failed failed)) before now = ⊤
+SaveRefused files new (Err save.OutOfMemory) before now = Rose before now ⊎ (new ≡ files)
 
 -- the files' count of faults rose where a call failed, and else it stays
 abbrev pub SaveFaults : Result (Unit {0}) SaveError → ℕ → ℕ → Type 0

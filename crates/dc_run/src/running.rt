@@ -31,8 +31,8 @@ pub fn run_words<L: Link, E: Link, F: Files>(
 ) -> Outcome
     // What was said on the link is what the plain machine says, and what was saved is its table, by the end of the run.
     ensures ran { HasRunWords words.now settings.now.conf_path settings.now.lang
-        (record { files = record { disk = F.disk files.old; calls = F.calls files.old }; talk = L.talk io.old; input = L.left io.old })
-        (record { files = record { disk = F.disk files.new; calls = F.calls files.new }; talk = L.talk io.new; input = L.left io.new })
+        (record { files = record { disk = F.disk files.old; calls = F.calls files.old }; counts = record { faults = F.faults files.old; refusals = F.refusals files.old }; talk = L.talk io.old; input = L.left io.old })
+        (record { files = record { disk = F.disk files.new; calls = F.calls files.new }; counts = record { faults = F.faults files.new; refusals = F.refusals files.new }; talk = L.talk io.new; input = L.left io.new })
         result.end result.last_code }
     ensures status { result.status ≡ status_of result.end result.last_code }
 
@@ -57,8 +57,8 @@ fn communicate<L: Link, F: Files>(
     files: &mut F,
 ) -> Outcome
     ensures ran { HasCommunicated settings.now.conf_path settings.now.lang
-        (record { files = record { disk = F.disk files.old; calls = F.calls files.old }; talk = L.talk io.old; input = L.left io.old })
-        (record { files = record { disk = F.disk files.new; calls = F.calls files.new }; talk = L.talk io.new; input = L.left io.new })
+        (record { files = record { disk = F.disk files.old; calls = F.calls files.old }; counts = record { faults = F.faults files.old; refusals = F.refusals files.old }; talk = L.talk io.old; input = L.left io.old })
+        (record { files = record { disk = F.disk files.new; calls = F.calls files.new }; counts = record { faults = F.faults files.new; refusals = F.refusals files.new }; talk = L.talk io.new; input = L.left io.new })
         result.end result.last_code }
     ensures status { result.status ≡ status_of result.end result.last_code }
     ensures files_faults { FilesFaults result.end (F.faults files.old) (F.faults files.new) }
@@ -90,6 +90,8 @@ fn finish<F: Files>(
     ensures finishes { Finishes path.now session.now end
         (record { disk = F.disk files.old; calls = F.calls files.old })
         (record { disk = F.disk files.new; calls = F.calls files.new })
+        (record { faults = F.faults files.old; refusals = F.refusals files.old })
+        (record { faults = F.faults files.new; refusals = F.refusals files.new })
         result }
     ensures faults { FilesFaults result (F.faults files.old) (F.faults files.new) }
 {

@@ -2,7 +2,7 @@
 ghost use Rattle.std.specs.Prelude.{◌≡◌, IfOk};
 ghost use Rattle.dc_outside.specs.Counts.{CountsFilesFaults};
 ghost use Rattle.dc_item.specs.Printed.{table_text};
-ghost use Rattle.dc_run.specs.Saving.{Saves, SaveFaults, PutsInPlace, new_path};
+ghost use Rattle.dc_run.specs.Saving.{Saves, SaveFaults, SaveRefused, PutsInPlace, PutsRefused, new_path};
 
 use crate::outcome::SaveError;
 use dc_item::{Item, print_table};
@@ -25,6 +25,7 @@ pub fn save<F: Files>(
 ) -> Result<(), SaveError>
     ensures saves { Saves (record { disk = F.disk files.old; calls = F.calls files.old }) (record { disk = F.disk files.new; calls = F.calls files.new }) path.now table.now result }
     ensures faults { SaveFaults result (F.faults files.old) (F.faults files.new) }
+    ensures refused { SaveRefused (record { disk = F.disk files.old; calls = F.calls files.old }) (record { disk = F.disk files.new; calls = F.calls files.new }) result (F.refusals files.old) (F.refusals files.new) }
 {
     match prepare(alloc, path, table) {
         Ok(saving) => match put_in_place(path, &saving, files) {
@@ -60,6 +61,7 @@ fn put_in_place<F: Files>(path: &Text, saving: &Saving, files: &mut F) -> Result
     requires { saving.now.beside ≡ new_path path.now }
     ensures puts { PutsInPlace (record { disk = F.disk files.old; calls = F.calls files.old }) (record { disk = F.disk files.new; calls = F.calls files.new }) path.now (record { bytes = saving.now.text; mode = MODE }) result }
     ensures faults { CountsFilesFaults (F.faults files.old) (F.faults files.new) result }
+    ensures refused { PutsRefused result (F.refusals files.old) (F.refusals files.new) }
 {
     if let Err(error) = files.write(&saving.beside, saving.text.bytes(), MODE) {
         return Err(error);
