@@ -5,6 +5,5 @@ pub mod Progress
 pub mod Teeth
 pub mod ToolLemmas
 pub mod RunningLemmas
-pub mod SavingLemmas
 pub mod MachineLaws
 pub mod LoadingLemmas

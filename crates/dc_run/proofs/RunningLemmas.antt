@@ -1,5 +1,12 @@
 -- The end of a run, from how it was loaded, served and saved.
-use Rattle.std.proofs.Common.{◌≡◌, inl, inr, ℕ, List, Ok, Err, refl, ap, ◌∙◌, subst}
+use Rattle.std.proofs.Common.{◌≡◌, ◌⊎◌, inl, inr, ℕ, true, List, [], ◌∷◌, Ok, Err, refl, ap, ◌∙◌, subst}
+use Rattle.dc_outside.specs.Counts.{Rose}
+use Rattle.dc_save.specs.declared.saving.SaveError.{SaveError}
+use Rattle.dc_save.specs.declared.saving.SaveError.TheVariants as save
+use Rattle.dc_save.specs.Saving.{FailsAmong, StopsAmong, Saves, SaveFaults, SaveRefused}
+use Rattle.dc_save.proofs.ImageLemmas.{one_failed, one_stopped}
+use Rattle.dc_run.specs.Ends.{end_unsaved}
+use Rattle.dc_run.specs.Saving.{image_of}
 use Rattle.dc_run.specs.declared.loading.Database.{Database}
 use Rattle.dc_run.specs.declared.outcome.End.{End}
 use Rattle.dc_run.specs.declared.outcome.End.TheVariants as end
@@ -9,7 +16,7 @@ use Rattle.dc_run.specs.Finishing.{Counts, Finishes, IsSaved, IsUnwritten, IsWit
 use Rattle.dc_run.specs.Headline.{Surroundings, begun, IsSession, IsEnded, IsFinished, IsUnsaved, IsSilent, HasCommunicated}
 use Rattle.dc_run.specs.Loading.{LoadsDatabase}
 use Rattle.dc_run.specs.Run.{HasRun}
-use Rattle.dc_run.specs.Saving.{Told}
+use Rattle.dc_save.specs.Told.{Told}
 use Rattle.dc_run.specs.State.{State, loaded}
 
 -- the run ends before a session
@@ -70,3 +77,25 @@ communicated path lang old new mid counts database kept start state ended how co
       ran = subst (λ (s : State). HasRun old.talk new.talk old.input new.input s ended state code) (starts ∙ ap (λ (l : List ℕ). loaded database.questions database.templates l) keeps) run;
     })
     (subst (λ (c : Counts). Finishes path state ended (begun old path) new.files c new.counts how) same (subst (λ (f : Told). Finishes path state ended f new.files counts new.counts how) loads.files_are finishes))
+
+-- ---- the end of a run whose changed table wasn't saved
+
+module _ (path : List ℕ) (state : State) (files new : Told) (before now : Counts) (how : End) (changed : state.changed ≡ true) where
+  unwritten : (ended : LinkEnd) (failed : List ℕ) → FailsAmong (image_of path state.questions ∷ []) failed files new → how ≡ end_unsaved ended (save.Failed failed) → Rose before.faults now.faults
+      → IsUnwritten path state files new before now ended how
+  unwritten ended failed fails is rose =
+      let one = one_failed files new (image_of path state.questions) failed fails in
+      record { end_is = is ∙ ap (λ (p : List ℕ). end_unsaved ended (save.Failed p)) one.0; changed = changed; failed = one.1; rose = rose }
+
+  without_memory : StopsAmong (image_of path state.questions ∷ []) files new → how ≡ end.OutOfMemory → Rose before.refusals now.refusals ⊎ (new ≡ files) → IsWithoutMemory path state files new before now how
+  without_memory stops is refused = record { end_is = is; changed = changed; ran_out = one_stopped files new (image_of path state.questions) stops; refused = refused }
+
+  pub not_saved : (ended : LinkEnd) (error : SaveError) → IsEnded ended → how ≡ end_unsaved ended error → Saves (image_of path state.questions ∷ []) files new (Err error) → SaveFaults (Err error) before.faults now.faults
+      → SaveRefused files new (Err error) before.refusals now.refusals → Finishes path state ended files new before now how
+  not_saved link.OutOfMemory error at is saves faults refused = absurd at
+  not_saved link.Done (save.Failed failed) at is saves faults refused = inr (inl (unwritten link.Done failed saves is faults))
+  not_saved link.LinkFault (save.Failed failed) at is saves faults refused = inr (inl (unwritten link.LinkFault failed saves is faults))
+  not_saved link.TooLong (save.Failed failed) at is saves faults refused = inr (inl (unwritten link.TooLong failed saves is faults))
+  not_saved link.Done save.OutOfMemory at is saves faults refused = inr (inr (without_memory saves is refused))
+  not_saved link.LinkFault save.OutOfMemory at is saves faults refused = inr (inr (without_memory saves is refused))
+  not_saved link.TooLong save.OutOfMemory at is saves faults refused = inr (inr (without_memory saves is refused))

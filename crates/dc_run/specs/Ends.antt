@@ -3,8 +3,8 @@ use Rattle.std.specs.Prelude.{◌≡◌, ◌≤◌, ℕ}
 use Rattle.dc_outside.specs.Counts.{Rose}
 use Rattle.dc_run.specs.declared.outcome.End.{End}
 use Rattle.dc_run.specs.declared.outcome.End.TheVariants as end
-use Rattle.dc_run.specs.declared.outcome.SaveError.{SaveError}
-use Rattle.dc_run.specs.declared.outcome.SaveError.TheVariants as save
+use Rattle.dc_save.specs.declared.saving.SaveError.{SaveError}
+use Rattle.dc_save.specs.declared.saving.SaveError.TheVariants as save
 use Rattle.dc_run.specs.declared.outcome.LinkEnd.{LinkEnd}
 use Rattle.dc_run.specs.declared.outcome.LinkEnd.TheVariants as link
 use Rattle.dc_run.specs.declared.outcome.Served.{Served}

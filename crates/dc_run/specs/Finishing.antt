@@ -1,13 +1,15 @@
 -- What a run does when its link has ended.
 use Rattle.std.specs.Prelude.{◌≡◌, ◌⊎◌, ℕ, List, true}
 use Rattle.dc_outside.specs.Counts.{Rose}
+use Rattle.dc_save.specs.Saving.{HasFailed, HasRunOut}
+use Rattle.dc_save.specs.Told.{Told}
+use Rattle.dc_save.specs.declared.saving.SaveError.TheVariants as save
 use Rattle.dc_run.specs.declared.outcome.End.{End}
 use Rattle.dc_run.specs.declared.outcome.End.TheVariants as end
 use Rattle.dc_run.specs.declared.outcome.LinkEnd.{LinkEnd}
 use Rattle.dc_run.specs.declared.outcome.LinkEnd.TheVariants as link
-use Rattle.dc_run.specs.declared.outcome.SaveError.TheVariants as save
 use Rattle.dc_run.specs.Ends.{end_of, end_unsaved}
-use Rattle.dc_run.specs.Saving.{Told, after_finish, file_of, HasFailed, HasRunOut}
+use Rattle.dc_run.specs.Saving.{after_finish, image_of}
 use Rattle.dc_run.specs.State.{State}
 
 -- how often a call of the files failed, and how often one was refused for want of memory
@@ -25,14 +27,14 @@ pub record IsSaved (path : List ℕ) (state : State) (files new : Told) (before 
 pub record IsUnwritten (path : List ℕ) (state : State) (files new : Told) (before now : Counts) (ended : LinkEnd) (how : End) : Type 0 where
   pub end_is : how ≡ end_unsaved ended (save.Failed path)
   pub changed : state.changed ≡ true
-  pub failed : HasFailed files new path (file_of state.questions)
+  pub failed : HasFailed files new (image_of path state.questions)
   pub rose : Rose before.faults now.faults
 
 -- the table changed, and there was no memory to save it: the files refused a call, or none was made
 pub record IsWithoutMemory (path : List ℕ) (state : State) (files new : Told) (before now : Counts) (how : End) : Type 0 where
   pub end_is : how ≡ end.OutOfMemory
   pub changed : state.changed ≡ true
-  pub ran_out : HasRunOut files new path (file_of state.questions)
+  pub ran_out : HasRunOut files new (image_of path state.questions)
   pub refused : Rose before.refusals now.refusals ⊎ (new ≡ files)
 
 -- what finishing does, by the end of the link, and the end of the run

@@ -1,15 +1,18 @@
 -- What a run of the program says and saves, by its end.
 use Rattle.std.specs.Prelude.{◌≡◌, ◌⊎◌, ℕ, List, Option, true}
 use Rattle.dc_outside.specs.declared.link.Piece.{Piece}
+use Rattle.dc_save.specs.Saving.{HasFailed, HasRunOut}
+use Rattle.dc_save.specs.Told.{Told}
 use Rattle.dc_run.specs.declared.outcome.End.{End}
 use Rattle.dc_run.specs.declared.outcome.End.TheVariants as end
 use Rattle.dc_run.specs.declared.outcome.LinkEnd.{LinkEnd}
 use Rattle.dc_run.specs.declared.outcome.LinkEnd.TheVariants as link
 use Rattle.dc_outside.specs.Counts.{Rose}
 use Rattle.dc_run.specs.Finishing.{Counts}
-use Rattle.dc_run.specs.Loading.{HasLoaded, files_of, templates_path, after_reads, IsDamagedFirst, IsUnread, AreReadInPart}
+use Rattle.dc_save.specs.Loading.{HasLoaded}
+use Rattle.dc_run.specs.Loading.{files_of, templates_path, after_reads, IsDamagedFirst, IsUnread, AreReadInPart}
 use Rattle.dc_run.specs.Run.{HasRun}
-use Rattle.dc_run.specs.Saving.{Told, after_finish, file_of, HasFailed, HasRunOut}
+use Rattle.dc_run.specs.Saving.{after_finish, image_of}
 use Rattle.dc_run.specs.State.{Table, State, loaded}
 use Rattle.dc_run.specs.Tools.{IsToolWords, AreRefusedAt}
 
@@ -51,7 +54,7 @@ pub record IsUnsaved (path lang : List ℕ) (old new : Surroundings) (end : Link
   pub state : State
   pub session : IsSession path lang old new end state code
   pub changed : state.changed ≡ true
-  pub failed : HasFailed (begun old path) new.files path (file_of state.questions)
+  pub failed : HasFailed (begun old path) new.files (image_of path state.questions)
   pub rose : Rose old.counts.faults new.counts.faults
 
 -- the ends of the link after which a changed table is saved
@@ -69,7 +72,7 @@ pub record IsUnfinished (path lang : List ℕ) (old new : Surroundings) (code : 
   pub state : State
   pub session : IsSession path lang old new end state code
   pub changed : state.changed ≡ true
-  pub ran_out : HasRunOut (begun old path) new.files path (file_of state.questions)
+  pub ran_out : HasRunOut (begun old path) new.files (image_of path state.questions)
   pub refused : Rose old.counts.refusals new.counts.refusals ⊎ (new.files ≡ begun old path)
 
 -- want of memory before the save: no file was written

@@ -2,15 +2,8 @@
 ghost use Rattle.std.specs.Prelude.{◌≡◌};
 ghost use Rattle.dc_run.specs.Ends.{status_of, link_end_of, end_of, end_unsaved};
 
+use dc_save::SaveError;
 use dc_text::Text;
-
-/// Why a table wasn't saved.
-#[derive(Drop)]
-pub enum SaveError {
-    /// A call on the files failed. The path is that of the database.
-    Failed { path: Text },
-    OutOfMemory,
-}
 
 /// How a run ends. Only `Done` is a run that did all that it was to do.
 #[derive(Drop)]

@@ -2,7 +2,7 @@ use Rattle.std.proofs.Common.{sym, subst}
 use Rattle.dc_run.specs.declared.outcome.Outcome.{Outcome}
 use Rattle.dc_run.specs.Headline.{Surroundings, HasCommunicated}
 use Rattle.dc_run.specs.Finishing.{Counts}
-use Rattle.dc_run.specs.Saving.{Told}
+use Rattle.dc_save.specs.Told.{Told}
 use Rattle.dc_run.proofs.RunningLemmas.{communicated}
 use Rattle.dc_run.proofs.running.communicate.Goals as goal
 

@@ -1,0 +1,10 @@
+pub mod AnswerLemmas
+pub mod ApartLemmas
+pub mod CleanLemmas
+pub mod GatherLemmas
+pub mod LeastLemmas
+pub mod OctalLemmas
+pub mod ReadLemmas
+pub mod ResolveLemmas
+pub mod RiseLemmas
+pub mod TestLemmas

@@ -1,0 +1,120 @@
+-- What the reader does, as functions: with one line after another, with the faults of stanzas, and with names. Only functions
+-- that are not public, and the proofs, speak of them.
+use Rattle.std.specs.Prelude.{◌≡◌, ◌≢◌, ◌≤◌, ℕ, ◌+◌, ⊤, true, nat_le, List, [], ◌∷◌, ◌++◌, Option, Some, None, Result, Ok, Err, codes, if◌then◌else◌}
+use Rattle.std.specs.List.{AllByRecursion}
+use Rattle.std.specs.Option.{option_map_or}
+use Rattle.std.specs.FinMap as map
+use Rattle.dc_text.specs.Bytes.{is_blank}
+use Rattle.dc_text.specs.Lines.{lines_of}
+use Rattle.dc_conf.specs.declared.faults.Fault.{Fault}
+use Rattle.dc_conf.specs.declared.faults.ConfKind.TheVariants.{NoColon, Twice}
+use Rattle.dc_conf.specs.declared.faults.ConfError.{ConfError}
+use Rattle.dc_conf.specs.declared.faults.ConfError.TheVariants.{Refused, OutOfMemory}
+use Rattle.dc_conf.specs.declared.fields.Field.{Field}
+use Rattle.dc_conf.specs.declared.reading.Gathered.{Gathered}
+use Rattle.dc_conf.specs.Stanzas.{Line, Stanza, numbered, is_comment, has_colon, field_in, field_at}
+use Rattle.dc_conf.specs.Values.{is_mode}
+use Rattle.dc_conf.specs.Configuration.{is_spec_of}
+use Rattle.dc_conf.specs.declared.spec.LayerSpec.{LayerSpec}
+use Rattle.dc_conf.specs.ConfFaults.{fault, second_pass, third_pass, fourth_pass}
+
+-- ---- the least fault
+
+-- the fault on the lesser line, at one line the first
+abbrev pub earlier_of : Option Fault → Option Fault → Option Fault
+earlier_of None other = other
+earlier_of (Some first) None = Some first
+earlier_of (Some first) (Some second) = if nat_le first.line second.line then Some first else Some second
+
+abbrev pub least_of : List Fault → Option Fault
+least_of [] = None
+least_of (first ∷ faults) = earlier_of (Some first) (least_of faults)
+
+-- the first, if it is there, and else the other
+abbrev pub or_else : Option Fault → Option Fault → Option Fault
+or_else None other = other
+or_else (Some first) other = Some first
+
+-- the fault that decides
+abbrev pub decided : List (List Fault) → Option Fault
+decided [] = None
+decided (pass ∷ passes) = or_else (least_of pass) (decided passes)
+
+-- the passes over stanzas
+abbrev pub later_passes : List Stanza → List (List Fault)
+later_passes stanzas = second_pass stanzas ∷ third_pass stanzas ∷ fourth_pass stanzas ∷ []
+
+-- ---- the lines
+
+-- a stanza, if it has a field
+abbrev pub kept : Stanza → List Stanza
+kept [] = []
+kept (field ∷ fields) = (field ∷ fields) ∷ []
+
+abbrev pub at_start : Gathered
+at_start = record { done = []; open_stanza = []; keys = map.empty }
+
+-- the stanzas, where no line comes
+abbrev pub finished : Gathered → List Stanza
+finished gathered = gathered.done ++ kept gathered.open_stanza
+
+abbrev pub ended : Gathered → Gathered
+ended gathered = record { done = finished gathered; open_stanza = []; keys = map.empty }
+
+abbrev pub with_field : Gathered → Field → Result Gathered Fault
+with_field gathered field =
+    if map.contains_key gathered.keys field.key then Err (fault field.line Twice)
+    else Ok (record gathered { open_stanza = gathered.open_stanza ++ field ∷ []; keys = map.insert gathered.keys field.key tt })
+
+abbrev pub step : Gathered → Line → Result Gathered Fault
+step gathered line =
+    if is_comment line.text then Ok gathered
+    else if is_blank line.text then Ok (ended gathered)
+    else if has_colon line.text then with_field gathered (field_in line)
+    else Err (fault line.number NoColon)
+
+abbrev pub goes_on : {S T : Type 0} → Result S Fault → (S → Result T Fault) → Result T Fault
+goes_on (Ok s) f = f s
+goes_on (Err fault) f = Err fault
+
+abbrev pub run : List Line → Gathered → Result Gathered Fault
+run [] gathered = Ok gathered
+run (line ∷ lines) gathered = goes_on (step gathered line) (run lines)
+
+abbrev pub stanzas_read : List ℕ → Result (List Stanza) Fault
+stanzas_read text = goes_on (run (numbered 1 (lines_of text)) at_start) (λ gathered. Ok (finished gathered))
+
+-- An error of the reader is this fault, unless memory ran out.
+abbrev pub IsRefusal : {T : Type 0} → Result T Fault → ConfError → Type 0
+IsRefusal found (Refused line kind) = found ≡ Err (fault line kind)
+IsRefusal found OutOfMemory = ⊤
+
+-- ---- the order of lines
+
+-- the stanza has a field, and its fields stand on lines from the first to the second
+pub record IsBetween (low high : ℕ) (stanza : Stanza) : Type 0 where
+  pub some : stanza ≢ []
+  pub within : AllByRecursion (λ field. (low ≤ field.line) × (field.line ≤ high)) stanza
+
+-- each stanza stands after the one before it
+abbrev pub Rise : ℕ → List Stanza → Type 0
+Rise low [] = ⊤
+Rise low (stanza ∷ stanzas) = (high : ℕ) × (low ≤ high) × IsBetween low high stanza × Rise high stanzas
+
+-- ---- what the values of stanzas without faults are
+
+-- the mode, if it is there, is one
+abbrev pub IsModeField : Stanza → Type 0
+IsModeField stanza = option_map_or (λ field. is_mode field.value) (field_at (codes "mode") stanza) true ≡ true
+
+-- so it is in each database
+abbrev pub AreModes : List Stanza → Type 0
+AreModes [] = ⊤
+AreModes (head ∷ databases) = AllByRecursion IsModeField databases
+
+-- ---- names that no database has
+
+-- the place of the first of these names that none of the databases has, where their places begin at this one
+abbrev pub unknown_from : List LayerSpec → ℕ → List (List ℕ) → Option ℕ
+unknown_from specs place [] = None
+unknown_from specs place (root ∷ roots) = if is_spec_of specs root then unknown_from specs (place + 1) roots else Some place

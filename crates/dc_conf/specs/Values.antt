@@ -1,0 +1,110 @@
+-- The values that fields of a configuration take (debconf.conf(5)), and the fields that each driver has.
+use Rattle.std.specs.Prelude.{ℕ, ◌+◌, ◌-◌, ◌*◌, Bool, true, false, not, ◌&&◌, ◌||◌, nat_le, List, [], ◌∷◌, ◌++◌, Option, map as each, length, codes, ◌==◌, if◌then◌else◌}
+use Rattle.std.specs.List.{list_all, list_any, find, slice_split}
+use Rattle.std.specs.Option.{option_map_or}
+use Rattle.std.specs.Str.{bytes_eq, is_utf8}
+use Rattle.dc_text.specs.Bytes.{lower, is_nil}
+use Rattle.dc_conf.specs.declared.drivers.Driver.{Driver}
+use Rattle.dc_conf.specs.declared.drivers.Driver.TheVariants.{File}
+
+-- `true`, read without regard to case
+abbrev pub is_true : List ℕ → Bool
+is_true value = bytes_eq (each lower value) (codes "true")
+
+-- `true` or `false`, read without regard to case
+abbrev pub is_boolean : List ℕ → Bool
+is_boolean value = is_true value || bytes_eq (each lower value) (codes "false")
+
+abbrev pub is_octal_digit : ℕ → Bool
+is_octal_digit byte = nat_le 48 byte && nat_le byte 55
+
+-- permission bits: three or four octal digits
+abbrev pub is_mode : List ℕ → Bool
+is_mode value = (length value == 3 || length value == 4) && list_all is_octal_digit value
+
+-- the number that octal digits spell, behind those that spell a first number
+abbrev pub octal_from : ℕ → List ℕ → ℕ
+octal_from first [] = first
+octal_from first (byte ∷ bytes) = octal_from (first * 8 + (byte - 48)) bytes
+
+abbrev pub octal : List ℕ → ℕ
+octal digits = octal_from 0 digits
+
+-- not empty, `.` or `..`
+abbrev pub is_path_part : List ℕ → Bool
+is_path_part part = not (is_nil part || (bytes_eq part (46 ∷ []) || bytes_eq part (46 ∷ 46 ∷ [])))
+
+-- without one slash at the front, if it is there
+abbrev pub without_slash : List ℕ → List ℕ
+without_slash [] = []
+without_slash (byte ∷ bytes) = if byte == 47 then bytes else byte ∷ bytes
+
+-- A path: 1 to 3,000 bytes of UTF-8 without 0. It may begin with a slash, and its parts between slashes are never empty, `.`
+-- or `..`.
+abbrev pub is_path : List ℕ → Bool
+is_path value =
+    nat_le 1 (length value) && (nat_le (length value) 3000 && (is_utf8 value && (not (list_any (λ byte. byte == 0) value)
+    && list_all is_path_part (slice_split (λ byte. byte == 47) (without_slash value)))))
+
+-- a letter, a digit, `-`, `_` or `.`
+abbrev pub is_database_byte : ℕ → Bool
+is_database_byte byte =
+    (nat_le 97 (lower byte) && nat_le (lower byte) 122) || ((nat_le 48 byte && nat_le byte 57) || (byte == 45 || (byte == 95 || byte == 46)))
+
+-- the name of a database: 1 to 64 letters, digits, `-`, `_` and `.`
+abbrev pub is_database_name : List ℕ → Bool
+is_database_name value = nat_le 1 (length value) && (nat_le (length value) 64 && list_all is_database_byte value)
+
+-- the one format that there is
+abbrev pub is_format : List ℕ → Bool
+is_format value = bytes_eq value (codes "822")
+
+-- ---- the fields of each driver
+
+-- a field: its key, whether it must be there, and the values that it takes
+pub record FieldRule : Type 0 where
+  pub key : List ℕ
+  pub needed : Bool
+  pub takes : List ℕ → Bool
+
+abbrev pub needed : List ℕ → (List ℕ → Bool) → FieldRule
+needed key takes = record { key = key; needed = true; takes = takes }
+
+abbrev pub optional : List ℕ → (List ℕ → Bool) → FieldRule
+optional key takes = record { key = key; needed = false; takes = takes }
+
+-- the fields that each database may have, whatever its driver
+abbrev pub database_rules : List FieldRule
+database_rules = optional (codes "name") is_database_name ∷ optional (codes "format") is_format ∷ []
+
+-- the fields that are `true` or `false` of each database that holds items itself
+abbrev pub switch_rules : List FieldRule
+switch_rules = optional (codes "required") is_boolean ∷ optional (codes "readonly") is_boolean ∷ []
+
+-- its fields that are patterns
+abbrev pub pattern_rules : List FieldRule
+pattern_rules =
+    optional (codes "accept-name") is_utf8 ∷ optional (codes "reject-name") is_utf8
+    ∷ optional (codes "accept-type") is_utf8 ∷ optional (codes "reject-type") is_utf8 ∷ []
+
+-- both
+abbrev pub layer_rules : List FieldRule
+layer_rules = switch_rules ++ pattern_rules
+
+abbrev pub driver_rules : Driver → List FieldRule
+driver_rules File = needed (codes "filename") is_path ∷ optional (codes "mode") is_mode ∷ optional (codes "backup") is_boolean ∷ layer_rules
+
+-- the fields that a database may have, by its driver, if it has one
+abbrev pub rules_of : Option Driver → List FieldRule
+rules_of driver = database_rules ++ option_map_or driver_rules driver []
+
+-- the word of each driver, in lower case
+abbrev pub driver_word : Driver → List ℕ
+driver_word File = codes "file"
+
+abbrev pub all_drivers : List Driver
+all_drivers = File ∷ []
+
+-- the driver that has this word, read without regard to case
+abbrev pub driver_of : List ℕ → Option Driver
+driver_of word = find (λ driver. bytes_eq (driver_word driver) (each lower word)) all_drivers

@@ -1,0 +1,221 @@
+// A configuration.
+ghost use Rattle.std.specs.Prelude.{◌≡◌, ◌∷◌, true, IfOk, codes, map as each};
+ghost use Rattle.std.specs.List.{AllByRecursion};
+ghost use Rattle.std.specs.Option.{option_copied};
+
+use crate::checking::find_fault;
+use crate::faults::ConfError;
+use crate::fields::{Field, field_at, value_at};
+use crate::reading::read_stanzas;
+use crate::spec::{LayerSort, LayerSpec};
+use crate::values::{is_true, octal};
+use dc_text::{List, Mem, Text};
+use std::alloc::Global;
+use std::marker::Model;
+
+/// A configuration (debconf.conf(5)). Only `read_conf` makes one.
+#[derive(Drop)]
+pub struct Conf {
+    config: Text,
+    templates: Text,
+    frontend: Option<Text>,
+    priority: Option<Text>,
+    databases: List<LayerSpec>,
+    // The names of the databases.
+    names: List<Text>,
+}
+
+impl Model for Conf {
+    ghost use Rattle.std.specs.Prelude.{◌≡◌, IsTrue, map as each};
+    ghost use Rattle.dc_conf.specs.Configuration.{Configuration, are_apart};
+
+    ghost Value = { Configuration };
+
+    ghost view = { λ c. record { config = c.config; templates = c.templates; frontend = c.frontend; priority = c.priority; databases = c.databases } };
+
+    ghost invariant = { λ c. (c.names ≡ each (λ spec. spec.name) c.databases) × IsTrue (are_apart c.databases) };
+}
+
+ghost use Rattle.dc_conf.specs.Configuration.{IsAnswer, configuration, database_of, text_at as text_at_of, truth_at as truth_at_of, mode_at as mode_at_of, are_apart};
+
+impl Conf {
+    /// The name of the database of questions.
+    pub fn config(&self) -> &Text
+        ensures { result.now ≡ self.now.config }
+    {
+        &self.config
+    }
+
+    /// The name of the database of templates.
+    pub fn templates(&self) -> &Text
+        ensures { result.now ≡ self.now.templates }
+    {
+        &self.templates
+    }
+
+    pub fn frontend(&self) -> Option<&Text>
+        ensures { option_copied result ≡ self.now.frontend }
+    {
+        self.frontend.as_ref()
+    }
+
+    pub fn priority(&self) -> Option<&Text>
+        ensures { option_copied result ≡ self.now.priority }
+    {
+        self.priority.as_ref()
+    }
+
+    /// The names of the databases, in the order of the file.
+    pub fn databases(&self) -> &List<Text>
+        ensures { result.now ≡ each (λ spec. spec.name) self.now.databases }
+    {
+        &self.names
+    }
+
+    /// The databases. The places of no two of them meet.
+    pub(crate) fn specs(&self) -> &[LayerSpec]
+        ensures value { result.now ≡ self.now.databases }
+        ensures apart { are_apart self.now.databases ≡ true }
+    {
+        self.databases.as_slice()
+    }
+}
+
+/// The configuration that the text is. Where the text has faults, the first pass with one decides: in it the least line, and
+/// there the first kind.
+pub fn read_conf(alloc: Global, bytes: &[u8]) -> Result<Conf, ConfError>
+    ensures { IsAnswer bytes.now result }
+{
+    let stanzas = read_stanzas(alloc, bytes)?;
+    if let Some(fault) = find_fault(alloc, stanzas.as_slice())? {
+        return Err(ConfError::Refused {
+            line: fault.line,
+            kind: fault.kind,
+        });
+    }
+    let conf = configure(alloc, stanzas.as_slice())?;
+    Ok(conf)
+}
+
+ghost use Rattle.dc_conf.specs.Machine.{AreModes, IsModeField};
+
+// The configuration of stanzas without faults.
+fn configure(alloc: Global, stanzas: &[List<Field>]) -> Mem<Conf>
+    requires modes { AreModes stanzas.now }
+    requires apart { are_apart (configuration stanzas.now).databases ≡ true }
+    ensures { IfOk result (λ conf. conf ≡ configuration stanzas.now) }
+{
+    match stanzas {
+        [] => Ok(Conf {
+            config: Text::new(alloc),
+            templates: Text::new(alloc),
+            frontend: None,
+            priority: None,
+            databases: List::new(alloc),
+            names: List::new(alloc),
+        }),
+        [head, databases @ ..] => configure_by(alloc, head.as_slice(), databases),
+    }
+}
+
+fn configure_by(alloc: Global, head: &[Field], stanzas: &[List<Field>]) -> Mem<Conf>
+    requires modes { AllByRecursion IsModeField stanzas.now }
+    requires apart { are_apart (each database_of stanzas.now) ≡ true }
+    ensures { IfOk result (λ conf. conf ≡ configuration (head.now ∷ stanzas.now)) }
+{
+    let databases = databases_of(alloc, stanzas)?;
+    let names = names_of(alloc, databases.as_slice())?;
+    let config = Text::from_bytes(alloc, value_at(head, b"config"))?;
+    let templates = Text::from_bytes(alloc, value_at(head, b"templates"))?;
+    let frontend = text_at(head, b"frontend")?;
+    let priority = text_at(head, b"priority")?;
+    Ok(Conf {
+        config,
+        templates,
+        frontend,
+        priority,
+        databases,
+        names,
+    })
+}
+
+fn names_of(alloc: Global, specs: &[LayerSpec]) -> Mem<List<Text>>
+    ensures { IfOk result (λ names. names ≡ each (λ spec. spec.name) specs.now) }
+{
+    let mut names = List::new(alloc);
+    let mut rest = specs;
+    while let [spec, tail @ ..] = rest {
+        names.push(spec.name.copy()?)?;
+        rest = tail;
+    }
+    Ok(names)
+}
+
+fn databases_of(alloc: Global, stanzas: &[List<Field>]) -> Mem<List<LayerSpec>>
+    requires { AllByRecursion IsModeField stanzas.now }
+    ensures { IfOk result (λ specs. specs ≡ each database_of stanzas.now) }
+{
+    let mut specs = List::new(alloc);
+    let mut rest = stanzas;
+    while let [stanza, tail @ ..] = rest {
+        specs.push(read_database(alloc, stanza.as_slice())?)?;
+        rest = tail;
+    }
+    Ok(specs)
+}
+
+fn read_database(alloc: Global, stanza: &[Field]) -> Mem<LayerSpec>
+    requires { IsModeField stanza.now }
+    ensures { IfOk result (λ spec. spec ≡ database_of stanza.now) }
+{
+    let name = Text::from_bytes(alloc, value_at(stanza, b"name"))?;
+    let place = Text::from_bytes(alloc, value_at(stanza, b"filename"))?;
+    let accept_name = text_at(stanza, b"accept-name")?;
+    let reject_name = text_at(stanza, b"reject-name")?;
+    let accept_type = text_at(stanza, b"accept-type")?;
+    let reject_type = text_at(stanza, b"reject-type")?;
+    Ok(LayerSpec {
+        name,
+        sort: LayerSort::File,
+        place,
+        extension: Text::new(alloc),
+        mode: mode_at(stanza),
+        backup: truth_at(stanza, b"backup", true),
+        readonly: truth_at(stanza, b"readonly", false),
+        required: truth_at(stanza, b"required", true),
+        accept_name,
+        reject_name,
+        accept_type,
+        reject_type,
+    })
+}
+
+fn text_at(stanza: &[Field], key: &[u8]) -> Mem<Option<Text>>
+    ensures { IfOk result (λ text. text ≡ text_at_of key.now stanza.now) }
+{
+    match field_at(stanza, key) {
+        Some(field) => Ok(Some(field.value.copy()?)),
+        None => Ok(None),
+    }
+}
+
+// Whether the field says `true`, and `default` where it isn't there.
+fn truth_at(stanza: &[Field], key: &[u8], default: bool) -> bool
+    ensures { result ≡ truth_at_of key.now stanza.now default }
+{
+    match field_at(stanza, key) {
+        Some(field) => is_true(field.value.bytes()),
+        None => default,
+    }
+}
+
+// The permission bits, 600 where the stanza says none.
+fn mode_at(stanza: &[Field]) -> u16
+    requires { IsModeField stanza.now }
+    ensures { result ≡ mode_at_of (codes "mode") stanza.now }
+{
+    match field_at(stanza, b"mode") {
+        Some(field) => octal(field.value.bytes()),
+        None => 0o600,
+    }
+}

@@ -1,0 +1,24 @@
+//! Laws of the definitions, which show that they mean what they say.
+ghost use Rattle.std.specs.Prelude.{◌≡◌, ◌⊎◌, ℕ, List, [], true};
+ghost use Rattle.std.specs.List.{AllByRecursion};
+ghost use Rattle.dc_conf.specs.ConfExamples.{Examples};
+ghost use Rattle.dc_conf.specs.ConfFaults.{Decides, passes};
+ghost use Rattle.dc_conf.specs.declared.faults.Fault.{Fault};
+ghost use Rattle.dc_conf.specs.Configuration.{Configuration, IsAnswer, are_apart};
+
+/// The faults of some texts, as they are worked out.
+pub fn faults_are_worked_out()
+    ensures { Examples }
+{}
+
+/// A text has no fault, or one that decides, and not both.
+pub fn texts_have_one_answer()
+    ensures one_fault { (text : List ℕ) (first other : Fault) → Decides (passes text) first → Decides (passes text) other → first ≡ other }
+    ensures not_both { (text : List ℕ) (first : Fault) → AllByRecursion (λ faults. faults ≡ []) (passes text) → Decides (passes text) first → ⊥ }
+    ensures some { (text : List ℕ) → AllByRecursion (λ faults. faults ≡ []) (passes text) ⊎ ((first : Fault) × Decides (passes text) first) }
+{}
+
+/// The places of the databases of a configuration don't meet.
+pub fn places_are_apart()
+    ensures { (text : List ℕ) (conf : Configuration) → IsAnswer text (Ok conf) → are_apart conf.databases ≡ true }
+{}

@@ -1,0 +1,124 @@
+// Where databases are kept.
+ghost use Rattle.std.specs.Prelude.{◌≡◌, ◌∷◌, ◌++◌, [], IfOk};
+ghost use Rattle.std.specs.List.{list_any};
+ghost use Rattle.dc_conf.specs.ConfFaults.{place_key as place_key_of, paths_of as paths_of_place, paths_in as paths_in_of, is_front, meet as meet_of, driver_in as driver_in_of};
+
+use crate::drivers::Driver;
+use crate::fields::{Field, field_at};
+use dc_text::{List, Mem, Text};
+use std::alloc::Global;
+
+/// The driver of a database, if it has one.
+pub fn driver_in(stanza: &[Field]) -> Option<Driver>
+    ensures { result ≡ driver_in_of stanza.now }
+{
+    match field_at(stanza, b"driver") {
+        Some(field) => Driver::read(field.value.bytes()),
+        None => None,
+    }
+}
+
+/// The key of the field that says where a driver keeps its database.
+pub fn place_key(driver: Driver) -> &'static [u8]
+    ensures { result.now ≡ place_key_of driver }
+{
+    match driver {
+        Driver::File => b"filename",
+    }
+}
+
+/// The paths of a database, none where it has no driver or no place.
+pub fn paths_in(alloc: Global, stanza: &[Field]) -> Mem<List<Text>>
+    ensures { IfOk result (λ paths. paths ≡ paths_in_of stanza.now) }
+{
+    let Some(driver) = driver_in(stanza) else {
+        return Ok(List::new(alloc));
+    };
+    match field_at(stanza, place_key(driver)) {
+        Some(field) => paths_of(alloc, driver, field.value.bytes()),
+        None => Ok(List::new(alloc)),
+    }
+}
+
+fn paths_of(alloc: Global, driver: Driver, place: &[u8]) -> Mem<List<Text>>
+    ensures { IfOk result (λ paths. paths ≡ paths_of_place driver place.now) }
+{
+    match driver {
+        Driver::File => {
+            let mut paths = List::new(alloc);
+            paths.push(Text::from_bytes(alloc, place)?)?;
+            paths.push(beside(alloc, place, b"-new")?)?;
+            paths.push(beside(alloc, place, b"-old")?)?;
+            Ok(paths)
+        }
+    }
+}
+
+fn beside(alloc: Global, place: &[u8], end: &[u8]) -> Mem<Text>
+    ensures { IfOk result (λ path. path ≡ place.now ++ end.now) }
+{
+    let mut path = Text::from_bytes(alloc, place)?;
+    path.append(end)?;
+    Ok(path)
+}
+
+/// Whether some path of the one meets some path of the other.
+pub fn some_meet(paths: &[Text], others: &[Text]) -> bool
+    ensures { result ≡ list_any (λ path. list_any (meet_of path) others.now) paths.now }
+{
+    let mut rest = paths;
+    while let [path, tail @ ..] = rest {
+        if meets_some(path.bytes(), others) {
+            return true;
+        }
+        rest = tail;
+    }
+    false
+}
+
+fn meets_some(path: &[u8], others: &[Text]) -> bool
+    ensures { result ≡ list_any (meet_of path.now) others.now }
+{
+    let mut rest = others;
+    while let [other, tail @ ..] = rest {
+        if meet(path, other.bytes()) {
+            return true;
+        }
+        rest = tail;
+    }
+    false
+}
+
+// Whether one path is the other, or lies below it.
+fn meet(path: &[u8], other: &[u8]) -> bool
+    ensures { result ≡ meet_of path.now other.now }
+{
+    path == other || lies_below(other, path) || lies_below(path, other)
+}
+
+// Whether the path lies below the folder.
+fn lies_below(path: &[u8], folder: &[u8]) -> bool
+    ensures { result ≡ is_front (folder.now ++ 47 ∷ []) path.now }
+{
+    let mut front = folder;
+    let mut rest = path;
+    while let [byte, bytes @ ..] = front {
+        match rest {
+            [first, tail @ ..] if *byte == *first => {
+                front = bytes;
+                rest = tail;
+            }
+            _ => return false,
+        }
+    }
+    begins_with_slash(rest)
+}
+
+fn begins_with_slash(path: &[u8]) -> bool
+    ensures { result ≡ is_front (47 ∷ []) path.now }
+{
+    match path {
+        [] => false,
+        [first, ..] => b'/' == *first,
+    }
+}

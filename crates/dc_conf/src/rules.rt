@@ -1,0 +1,79 @@
+// Which values the fields of a database take, and which fields it needs.
+ghost use Rattle.std.specs.Prelude.{◌≡◌, []};
+ghost use Rattle.std.specs.Option.{option_map_or};
+ghost use Rattle.dc_conf.specs.Values.{driver_rules, layer_rules, pattern_rules, rules_of, switch_rules};
+ghost use Rattle.dc_conf.specs.ConfFaults.{is_bad as is_bad_by, lacks_field as lacks_field_of};
+ghost use Rattle.dc_conf.specs.declared.drivers.Driver.TheVariants as driver;
+
+use crate::drivers::Driver;
+use crate::fields::{Field, is_there};
+use crate::values::{is_boolean, is_database_name, is_format, is_mode, is_path, is_utf8};
+
+/// Whether a field that the driver needs is missing.
+pub fn lacks_field(driver: Option<Driver>, stanza: &[Field]) -> bool
+    ensures { result ≡ lacks_field_of (rules_of driver) stanza.now }
+{
+    match driver {
+        Some(Driver::File) => !is_there(stanza, b"filename"),
+        None => false,
+    }
+}
+
+/// Whether the field of a database with this driver doesn't take its value.
+pub fn is_bad(driver: Option<Driver>, field: &Field) -> bool
+    ensures { result ≡ is_bad_by (rules_of driver) field.now }
+{
+    let key = field.key.bytes();
+    let value = field.value.bytes();
+    (b"name".as_slice() == key && !is_database_name(value))
+        || (b"format".as_slice() == key && !is_format(value))
+        || is_bad_for(driver, field)
+}
+
+// The same by the fields that the driver alone has.
+fn is_bad_for(driver: Option<Driver>, field: &Field) -> bool
+    ensures { result ≡ is_bad_by (option_map_or driver_rules driver []) field.now }
+{
+    match driver {
+        Some(Driver::File) => is_bad_in_file(field),
+        None => false,
+    }
+}
+
+fn is_bad_in_file(field: &Field) -> bool
+    ensures { result ≡ is_bad_by (driver_rules driver.File) field.now }
+{
+    let key = field.key.bytes();
+    let value = field.value.bytes();
+    (b"filename".as_slice() == key && !is_path(value))
+        || (b"mode".as_slice() == key && !is_mode(value))
+        || (b"backup".as_slice() == key && !is_boolean(value))
+        || is_bad_in_layer(field)
+}
+
+fn is_bad_in_layer(field: &Field) -> bool
+    ensures { result ≡ is_bad_by layer_rules field.now }
+{
+    is_bad_switch(field) || is_bad_pattern(field)
+}
+
+// A field that is `true` or `false`.
+fn is_bad_switch(field: &Field) -> bool
+    ensures { result ≡ is_bad_by switch_rules field.now }
+{
+    let key = field.key.bytes();
+    let value = field.value.bytes();
+    (b"required".as_slice() == key && !is_boolean(value))
+        || (b"readonly".as_slice() == key && !is_boolean(value))
+}
+
+fn is_bad_pattern(field: &Field) -> bool
+    ensures { result ≡ is_bad_by pattern_rules field.now }
+{
+    let key = field.key.bytes();
+    let value = field.value.bytes();
+    (b"accept-name".as_slice() == key && !is_utf8(value))
+        || (b"reject-name".as_slice() == key && !is_utf8(value))
+        || (b"accept-type".as_slice() == key && !is_utf8(value))
+        || (b"reject-type".as_slice() == key && !is_utf8(value))
+}

@@ -1,0 +1,140 @@
+// The values that fields of a configuration take (debconf.conf(5)).
+ghost use Rattle.std.specs.Prelude.{◌≡◌, ◌==◌, true, nat_le, ◌&&◌, map as each};
+ghost use Rattle.std.specs.List.{list_all, slice_split};
+ghost use Rattle.std.specs.Str.{bytes_eq, is_utf8 as is_utf8_of};
+ghost use Rattle.dc_text.specs.Bytes.{lower};
+ghost use Rattle.dc_conf.specs.Values.{is_boolean as is_boolean_of, is_true as is_true_of, is_mode as is_mode_of, is_octal_digit as is_octal_digit_of, octal as octal_of, is_path as is_path_of, is_path_part as is_path_part_of, without_slash as without_slash_of, is_database_name as is_database_name_of, is_database_byte as is_database_byte_of, is_format as is_format_of};
+
+/// `true` or `false`, read without regard to case.
+pub fn is_boolean(value: &[u8]) -> bool
+    ensures { result ≡ is_boolean_of value.now }
+{
+    is_true(value) || is_word(value, b"false")
+}
+
+/// `true`, read without regard to case.
+pub fn is_true(value: &[u8]) -> bool
+    ensures { result ≡ is_true_of value.now }
+{
+    is_word(value, b"true")
+}
+
+/// Whether the bytes are the word, read without regard to case.
+pub fn is_word(bytes: &[u8], word: &[u8]) -> bool
+    ensures { result ≡ bytes_eq (each lower bytes.now) (each lower word.now) }
+{
+    bytes.eq_ignore_ascii_case(word)
+}
+
+/// Permission bits: three or four octal digits.
+pub fn is_mode(value: &[u8]) -> bool
+    ensures { result ≡ is_mode_of value.now }
+{
+    (value.len() == 3 || value.len() == 4) && has_octal_digits(value)
+}
+
+fn has_octal_digits(value: &[u8]) -> bool
+    ensures { result ≡ list_all is_octal_digit_of value.now }
+{
+    value.iter().all(|byte| is_octal_digit(*byte))
+}
+
+fn is_octal_digit(byte: u8) -> bool
+    ensures { result ≡ is_octal_digit_of byte }
+{
+    48 <= byte && byte <= 55
+}
+
+/// The number that the octal digits of permission bits spell.
+pub fn octal(value: &[u8]) -> u16
+    requires { is_mode_of value.now ≡ true }
+    ensures { result ≡ octal_of value.now }
+{
+    let mut number = 0u16;
+    let mut rest = value;
+    while let [byte, tail @ ..] = rest {
+        number = number * 8 + u16::from(*byte - b'0');
+        rest = tail;
+    }
+    number
+}
+
+pub fn is_utf8(value: &[u8]) -> bool
+    ensures { result ≡ is_utf8_of value.now }
+{
+    match std::str::from_utf8(value) {
+        Ok(_) => true,
+        Err(_) => false,
+    }
+}
+
+/// A path: 1 to 3,000 bytes of UTF-8 without 0. It may begin with a slash, and its parts between slashes are never empty, `.`
+/// or `..`.
+pub fn is_path(value: &[u8]) -> bool
+    ensures { result ≡ is_path_of value.now }
+{
+    1 <= value.len()
+        && value.len() <= 3000
+        && is_utf8(value)
+        && !value.contains(&0)
+        && has_path_parts(without_slash(value))
+}
+
+fn has_path_parts(path: &[u8]) -> bool
+    ensures { result ≡ list_all is_path_part_of (slice_split (λ byte. byte == 47) path.now) }
+{
+    path.split(|byte| *byte == b'/').all(is_path_part)
+}
+
+// Neither empty, `.` nor `..`.
+fn is_path_part(part: &[u8]) -> bool
+    ensures { result ≡ is_path_part_of part.now }
+{
+    !(part.is_empty() || part == b".".as_slice() || part == b"..".as_slice())
+}
+
+// Without one slash at the front, if it is there.
+fn without_slash(path: &[u8]) -> &[u8]
+    ensures { result.now ≡ without_slash_of path.now }
+{
+    match path {
+        [b'/', rest @ ..] => rest,
+        _ => path,
+    }
+}
+
+/// The name of a database: 1 to 64 letters, digits, `-`, `_` and `.`.
+pub fn is_database_name(value: &[u8]) -> bool
+    ensures { result ≡ is_database_name_of value.now }
+{
+    1 <= value.len() && value.len() <= 64 && has_database_bytes(value)
+}
+
+fn has_database_bytes(value: &[u8]) -> bool
+    ensures { result ≡ list_all is_database_byte_of value.now }
+{
+    value.iter().all(|byte| is_database_byte(*byte))
+}
+
+fn is_database_byte(byte: u8) -> bool
+    ensures { result ≡ is_database_byte_of byte }
+{
+    is_letter(byte)
+        || (b'0' <= byte && byte <= b'9')
+        || byte == b'-'
+        || byte == b'_'
+        || byte == b'.'
+}
+
+fn is_letter(byte: u8) -> bool
+    ensures { result ≡ (nat_le 97 (lower byte) && nat_le (lower byte) 122) }
+{
+    (b'a' <= byte && byte <= b'z') || (b'A' <= byte && byte <= b'Z')
+}
+
+/// The one format that there is.
+pub fn is_format(value: &[u8]) -> bool
+    ensures { result ≡ is_format_of value.now }
+{
+    value == b"822".as_slice()
+}

@@ -1,0 +1,4 @@
+mod PartLemmas
+pub mod PatternLemmas
+pub mod TableLemmas
+pub mod TouchedLemmas

@@ -1,0 +1,64 @@
+-- The names of a table's items, and those that were touched.
+use Rattle.std.proofs.Common.{◌≡◌, ℕ, Bool, true, false, cond, List, [], ◌∷◌, Some, None, map as each, refl, sym, ap, ◌∙◌, subst, Result, Ok, Err}
+use Rattle.std.specs.Prelude.{is_some, ◌&&◌, ◌||◌, OnOk, OnErr}
+use Rattle.std.specs.List.{list_all, list_any}
+use Rattle.std.specs.Str.{bytes_eq}
+use Rattle.std.specs.Ordering.{eq_by_cmp}
+use Rattle.std.specs.Cmp.{eq_by_cmp_equiv}
+use Rattle.std.specs.Cmp.Lexicographic.{nat_list_cmp_total}
+use Rattle.std.proofs.lemmas.Map.Text.{is_eq-slice_cmp}
+use Rattle.std.specs.FinMap.{get, insert, remove, contains_key, empty, entries, keys, contains_key-keys, get-empty, get-insert, get-remove}
+use Rattle.dc_text.specs.Maps.{TextSet, text_cmp}
+use Rattle.dc_text.specs.Names.{is_name}
+use Rattle.dc_item.specs.Item.{Parts}
+use Rattle.dc_item.proofs.ItemLemmas.{same_key}
+use Rattle.dc_layer.specs.State.{Table}
+
+-- each item's name is a name
+abbrev pub AreNamed : Table → Type 0
+AreNamed m = (name : List ℕ) → contains_key m name ≡ true → is_name name ≡ true
+
+pub are_named_empty : AreNamed empty
+are_named_empty name e = absurd (let none : contains_key (empty {K = List ℕ} {X = Parts} {R = text_cmp}) name ≡ false = ap is_some (get-empty text_cmp name) in cc)
+
+pub are_named_insert : (m : Table) (k : List ℕ) (v : Parts) → AreNamed m → is_name k ≡ true → AreNamed (insert m k v)
+are_named_insert m k v named is name e =
+    elim (eq_by_cmp text_cmp name k) as (λ b. eq_by_cmp text_cmp name k ≡ b → is_some (cond b (Some v) (get m name)) ≡ true → is_name name ≡ true) [
+      | true ↦ λ t _. ap is_name (same_key name k t) ∙ is
+      | false ↦ λ t here. named name here
+    ] refl (sym (ap is_some (get-insert nat_list_cmp_total m k v name)) ∙ e)
+
+pub are_named_remove : (m : Table) (k : List ℕ) → AreNamed m → AreNamed (remove m k)
+are_named_remove m k named name e =
+    elim (eq_by_cmp text_cmp name k) as (λ b. is_some (cond b None (get m name)) ≡ true → is_name name ≡ true) [
+      | true ↦ λ here. absurd (cc)
+      | false ↦ λ here. named name here
+    ] (sym (ap is_some (get-remove nat_list_cmp_total m k name)) ∙ e)
+
+pub are_named_either : {T E : Type 0} (r : Result T E) (old new : Table) (k : List ℕ) (v : Parts) → OnOk r (new ≡ insert old k v) → OnErr r (new ≡ old) → AreNamed old → is_name k ≡ true → AreNamed new
+are_named_either (Ok x) old new k v ok err named is = subst AreNamed (sym ok) (are_named_insert old k v named is)
+are_named_either (Err e) old new k v ok err named is = subst AreNamed (sym err) named
+
+all_listed : (ks : List (List ℕ)) → ((q : List ℕ) → list_any (eq_by_cmp text_cmp q) ks ≡ true → is_name q ≡ true) → list_all is_name ks ≡ true
+all_listed [] named = refl
+all_listed (k ∷ ks) named =
+    let here : is_name k ≡ true = named k (ap (λ b. b || list_any (eq_by_cmp text_cmp k) ks) ((eq_by_cmp_equiv nat_list_cmp_total).refl k)) in
+    ap (λ b. b && list_all is_name ks) here ∙ all_listed ks (λ q e. named q (later (eq_by_cmp text_cmp q k) e)) where
+      later : (a : Bool) {b : Bool} → b ≡ true → (a || b) ≡ true
+      later true e = refl
+      later false e = e
+
+-- all names of a table are names
+pub names_are_names : (m : Table) → AreNamed m → list_all is_name (keys m) ≡ true
+names_are_names m named = all_listed (keys m) (λ q e. named q (contains_key-keys m q ∙ e))
+
+-- a set has what is among its members
+pub contains_key-any : (s : TextSet) (q : List ℕ) → contains_key s q ≡ list_any (bytes_eq q) (keys s)
+contains_key-any s q = contains_key-keys s q ∙ any-same (keys s) where
+  any-same : (ks : List (List ℕ)) → list_any (eq_by_cmp text_cmp q) ks ≡ list_any (bytes_eq q) ks
+  any-same [] = refl
+  any-same (k ∷ ks) = (λ i. is_eq-slice_cmp q k i || any-same ks i)
+
+-- the names of entries, as a map shows them
+abbrev pub firsts : List (List ℕ × Parts) → List (List ℕ)
+firsts entries = each (λ e. e.0) entries

@@ -1,0 +1,4 @@
+pub mod PatternExamples
+pub mod Patterns
+pub mod Rules
+pub mod State

@@ -1,0 +1,128 @@
+// The table of a layer.
+ghost use Rattle.std.specs.Prelude.{◌≡◌, IfOk, OnOk, OnErr, true};
+ghost use Rattle.std.specs.FinMap as map;
+ghost use Rattle.std.specs.List.{list_any};
+ghost use Rattle.std.specs.Option.{option_copied};
+ghost use Rattle.std.specs.Str.{bytes_eq};
+ghost use Rattle.dc_text.specs.Names.{is_name};
+ghost use Rattle.dc_layer.specs.State.{owned as owned_of};
+
+use dc_item::Item;
+use dc_text::{List, Mem, Name, NameRefused, OutOfMemory, TextMap};
+use std::alloc::Global;
+use std::marker::Model;
+
+/// Items by their names.
+#[derive(Drop)]
+pub struct ItemTable {
+    alloc: Global,
+    items: TextMap<Item>,
+}
+
+impl Model for ItemTable {
+    ghost use Rattle.std.specs.Prelude.{◌≡◌, List, ℕ, true};
+    ghost use Rattle.std.specs.FinMap as map;
+    ghost use Rattle.dc_text.specs.Names.{is_name};
+    ghost use Rattle.dc_layer.specs.State.{Table, table_code};
+
+    ghost Value = { Table };
+
+    ghost coded = { table_code };
+
+    ghost view = { λ t. t.items };
+
+    ghost invariant = { λ t. (name : List ℕ) → map.contains_key t.items name ≡ true → is_name name ≡ true };
+}
+
+impl ItemTable {
+    /// No item.
+    pub fn new(alloc: Global) -> Self
+        ensures { result ≡ map.empty }
+    {
+        ItemTable {
+            alloc,
+            items: TextMap::new(alloc),
+        }
+    }
+
+    pub fn items(&self) -> &TextMap<Item>
+        ensures { result.now ≡ self.now }
+    {
+        &self.items
+    }
+
+    pub fn get(&self, name: &[u8]) -> Option<&Item>
+        ensures { option_copied result ≡ map.get self.now name.now }
+    {
+        self.items.get(name)
+    }
+
+    pub fn contains(&self, name: &[u8]) -> bool
+        ensures { result ≡ map.contains_key self.now name.now }
+    {
+        self.items.contains(name)
+    }
+
+    /// Puts the item at the name, in the place of one that stood there.
+    pub fn insert(&mut self, name: Name, item: Item) -> Mem<()>
+        ensures ok { OnOk result (self.new ≡ map.insert self.old name item) }
+        ensures err { OnErr result (self.new ≡ self.old) }
+    {
+        self.items.insert(name.into_text(), item)
+    }
+
+    /// Takes the item at the name away, if there is one.
+    pub fn remove(&mut self, name: &[u8])
+        ensures { self.new ≡ map.remove self.old name.now }
+    {
+        self.items.remove(name);
+    }
+
+    /// The names of the items, in byte order.
+    pub fn names(&self) -> Mem<List<Name>>
+        ensures { IfOk result (λ names. names ≡ map.keys self.now) }
+    {
+        let mut names = List::new(self.alloc);
+        for (name, _) in self.items.iter() {
+            names.push(name_of(self.alloc, name)?)?;
+        }
+        Ok(names)
+    }
+
+    /// The names of the items that have the owner, in byte order.
+    pub fn owned(&self, owner: &Name) -> Mem<List<Name>>
+        ensures { IfOk result (λ names. names ≡ owned_of self.now owner.now) }
+    {
+        let mut names = List::new(self.alloc);
+        for (name, item) in self.items.iter() {
+            if is_owned(item, owner) {
+                names.push(name_of(self.alloc, name)?)?;
+            }
+        }
+        Ok(names)
+    }
+}
+
+// The name that the bytes are.
+fn name_of(alloc: Global, bytes: &[u8]) -> Mem<Name>
+    requires { is_name bytes.now ≡ true }
+    ensures { IfOk result (λ name. name ≡ bytes.now) }
+{
+    match Name::read(alloc, bytes) {
+        Ok(name) => Ok(name),
+        Err(NameRefused::Bad) => unreachable!(),
+        Err(NameRefused::OutOfMemory) => Err(OutOfMemory),
+    }
+}
+
+fn is_owned(item: &Item, owner: &Name) -> bool
+    ensures { result ≡ map.contains_key item.now.owners owner.now }
+{
+    is_among(owner.bytes(), item.owners().as_slice())
+}
+
+fn is_among(name: &[u8], names: &[Name]) -> bool
+    ensures { result ≡ list_any (bytes_eq name.now) names.now }
+{
+    names.iter().any(|other| name == other.bytes())
+}

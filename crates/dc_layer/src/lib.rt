@@ -1,0 +1,23 @@
+//! Layers: databases that hold items themselves (debconf.conf(5)), however each is kept, and which items each accepts.
+#![tactic(auto)]
+
+pub mod file;
+pub mod image;
+mod item_table;
+pub mod laws;
+pub mod layer;
+pub mod pattern;
+mod plain;
+pub mod rules;
+mod set_up;
+
+pub use file::FileLayer;
+pub use image::Image;
+pub use layer::{Layer, LayerError, Taken};
+pub use pattern::{Pattern, PatternError};
+pub use rules::LayerRules;
+
+#[cfg(test)]
+mod layer_tests;
+#[cfg(test)]
+mod pattern_tests;

@@ -1,0 +1,4 @@
+pub mod ImageLemmas
+pub mod Standing
+pub mod StepLemmas
+pub mod TableLemmas

@@ -1,0 +1,4 @@
+pub mod Loading
+pub mod Saving
+pub mod Steps
+pub mod Told

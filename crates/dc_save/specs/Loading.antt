@@ -1,0 +1,106 @@
+-- Reading a text of records, and loading a layer in one file from it.
+use Rattle.std.specs.Prelude.{◌≡◌, ◌⊎◌, ℕ, Bool, true, false, List, [], Option, None, Some, Result, Ok, Err, IfSome, unwrap_or, if◌then◌else◌}
+use Rattle.dc_outside.specs.Counts.{Rose}
+use Rattle.dc_outside.specs.Disk.{Disk, bytes_at}
+use Rattle.dc_item.specs.Records.{Reads, IsBad}
+use Rattle.dc_item.specs.Table.{table_of}
+use Rattle.dc_item.specs.declared.entry.Entry.{Entry}
+use Rattle.dc_conf.specs.declared.spec.LayerSpec.{LayerSpec}
+use Rattle.dc_layer.specs.State.{Table, LayerState, without_items}
+use Rattle.dc_save.specs.declared.loading.Loaded.{Loaded}
+use Rattle.dc_save.specs.declared.loading.Loaded.TheVariants.{Here, LeftOut}
+use Rattle.dc_save.specs.declared.loading.LoadError.{LoadError}
+use Rattle.dc_save.specs.declared.loading.LoadError.TheVariants.{Failed, Damaged, OutOfMemory}
+use Rattle.dc_save.specs.Told.{Told, after_read}
+
+-- what a read of the path found, where the disk is told
+abbrev pub IsFoundAt : Option Disk → List ℕ → Option (List ℕ) → Type 0
+IsFoundAt disk path found = IfSome disk (λ files. found ≡ bytes_at files path)
+
+-- a file that isn't there is the empty text
+abbrev pub text_in : Option (List ℕ) → List ℕ
+text_in found = unwrap_or found []
+
+-- the text at the path, where the disk is told
+abbrev pub IsTextAt : Option Disk → List ℕ → List ℕ → Type 0
+IsTextAt disk path text = IfSome disk (λ files. text ≡ text_in (bytes_at files path))
+
+-- the text at the path has a reading, and the table is that of its records
+pub record HasLoaded (disk : Option Disk) (path : List ℕ) (table : Table) : Type 0 where
+  pub text : List ℕ
+  pub text_is : IsTextAt disk path text
+  pub records : List Entry
+  pub reads : Reads text records
+  pub table_is : table ≡ table_of records
+
+-- the text at the path has no reading, and this is its first bad line
+pub record IsDamaged (disk : Option Disk) (path : List ℕ) (line : ℕ) : Type 0 where
+  pub text : List ℕ
+  pub text_is : IsTextAt disk path text
+  pub bad : IsBad text line
+
+-- ---- a layer
+
+-- the layer with this table, which keeps the text that was found where its spec asks for that
+abbrev pub with_loaded : LayerSpec → LayerState → Table → Option (List ℕ) → LayerState
+with_loaded spec layer table None = record layer { table = table }
+with_loaded spec layer table (Some text) = record layer { table = table; old = if spec.backup then Some text else layer.old }
+
+-- the text that was found at the layer's place has a reading, and the layer has the table of its records
+pub record IsHere (disk : Option Disk) (spec : LayerSpec) (layer new : LayerState) : Type 0 where
+  pub found : Option (List ℕ)
+  pub found_is : IsFoundAt disk spec.place found
+  pub records : List Entry
+  pub reads : Reads (text_in found) records
+  pub layer_is : new ≡ with_loaded spec layer (table_of records) found
+
+-- at most the table changed
+abbrev pub IsSameButTable : LayerState → LayerState → Type 0
+IsSameButTable layer new = new ≡ record layer { table = new.table }
+
+-- what loading does to the layer, by its answer
+abbrev pub LoadsLayer : Option Disk → LayerSpec → LayerState → LayerState → Result Loaded LoadError → Type 0
+LoadsLayer disk spec layer new (Ok Here) = IsHere disk spec layer new
+LoadsLayer disk spec layer new (Ok LeftOut) = (spec.required ≡ false) × (new ≡ without_items layer)
+LoadsLayer disk spec layer new (Err (Failed path)) = (path ≡ spec.place) × (spec.required ≡ true) × (new ≡ layer)
+LoadsLayer disk spec layer new (Err (Damaged path line)) = (path ≡ spec.place) × IsDamaged disk spec.place line × (new ≡ layer)
+LoadsLayer disk spec layer new (Err OutOfMemory) = IsSameButTable layer new
+
+-- what it does to the files: one read, which was answered or failed
+abbrev pub LoadsFiles : Told → Told → List ℕ → Result Loaded LoadError → Type 0
+LoadsFiles files new path (Ok Here) = new ≡ after_read files path true
+LoadsFiles files new path (Ok LeftOut) = new ≡ after_read files path false
+LoadsFiles files new path (Err (Failed failed)) = new ≡ after_read files path false
+LoadsFiles files new path (Err (Damaged damaged line)) = new ≡ after_read files path true
+LoadsFiles files new path (Err OutOfMemory) = (new ≡ files) ⊎ (new ≡ after_read files path true)
+
+-- the files' count of faults rose where the read failed, and else it stays
+abbrev pub LoadFaults : Result Loaded LoadError → ℕ → ℕ → Type 0
+LoadFaults (Ok Here) before now = now ≡ before
+LoadFaults (Ok LeftOut) before now = Rose before now
+LoadFaults (Err (Failed path)) before now = Rose before now
+LoadFaults (Err (Damaged path line)) before now = now ≡ before
+LoadFaults (Err OutOfMemory) before now = now ≡ before
+
+-- the files' count of refusals stays where memory didn't run out
+abbrev pub LoadRefusals : Result Loaded LoadError → ℕ → ℕ → Type 0
+LoadRefusals (Ok loaded) before now = now ≡ before
+LoadRefusals (Err (Failed path)) before now = now ≡ before
+LoadRefusals (Err (Damaged path line)) before now = now ≡ before
+LoadRefusals (Err OutOfMemory) before now = Unit {0}
+
+-- what taking in the text that was found answers, and does to the layer
+abbrev pub Takes : LayerSpec → Option (List ℕ) → List ℕ → LayerState → LayerState → Result Loaded LoadError → Type 0
+Takes spec found path layer new (Ok Here) = (records : List Entry) × Reads (text_in found) records × (new ≡ with_loaded spec layer (table_of records) found)
+Takes spec found path layer new (Ok LeftOut) = ⊥
+Takes spec found path layer new (Err (Failed failed)) = ⊥
+Takes spec found path layer new (Err (Damaged damaged line)) = (damaged ≡ path) × IsBad (text_in found) line × (new ≡ layer)
+Takes spec found path layer new (Err OutOfMemory) = IsSameButTable layer new
+
+-- what a failed read answers, and does to the layer: it is left out where it isn't required
+abbrev pub PassesOver : Bool → List ℕ → LayerState → LayerState → Result Loaded LoadError → Type 0
+PassesOver required path layer new (Ok Here) = ⊥
+PassesOver required path layer new (Ok LeftOut) = (required ≡ false) × (new ≡ without_items layer)
+PassesOver required path layer new (Err (Failed failed)) = (failed ≡ path) × (required ≡ true) × (new ≡ layer)
+PassesOver required path layer new (Err (Damaged damaged line)) = ⊥
+PassesOver required path layer new (Err OutOfMemory) = ⊥

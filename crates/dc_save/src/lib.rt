@@ -1,0 +1,12 @@
+//! How layers are saved to files, and loaded from them.
+#![tactic(auto)]
+
+pub mod laws;
+pub mod loading;
+pub mod saving;
+
+pub use loading::{LoadError, Loaded, load};
+pub use saving::{SaveError, save_images};
+
+#[cfg(test)]
+mod tests;

@@ -1,0 +1,155 @@
+// Loading a layer in one file.
+ghost use Rattle.std.specs.Prelude.{◌≡◌, ◌++◌, [], Some, IfOk, OnOk, OnErr, false};
+ghost use Rattle.std.specs.FinMap as map;
+ghost use Rattle.dc_item.specs.Table.{Apart, names_of, table_of};
+ghost use Rattle.dc_layer.specs.State.{taken_in, without_items};
+ghost use Rattle.dc_save.specs.Loading.{LoadsLayer, LoadsFiles, LoadFaults, LoadRefusals, Takes, PassesOver, IsSameButTable, with_loaded, text_in};
+
+use dc_conf::spec::{LayerSort, LayerSpec};
+use dc_item::{Entry, RecordError, read_records};
+use dc_layer::Layer;
+use dc_outside::{Files, FilesError};
+use dc_text::{List, Mem, Text};
+use std::alloc::Global;
+
+/// What became of a layer that was to be loaded.
+#[derive(Clone, Copy, Debug, PartialEq, Eq)]
+pub enum Loaded {
+    Here,
+    /// Its file couldn't be read, and a run doesn't need it.
+    LeftOut,
+}
+
+/// Why a layer wasn't loaded.
+#[derive(Drop)]
+pub enum LoadError {
+    /// The read of the file at the path failed.
+    Failed { path: Text },
+    /// The file at the path has no reading, and the line is its first bad one, from 1.
+    Damaged { path: Text, line: u64 },
+    OutOfMemory,
+}
+
+// The text that was found. A file that isn't there is the empty text.
+fn bytes_in(found: &Option<Text>) -> &[u8]
+    ensures { result.now ≡ text_in found.now }
+{
+    match found {
+        None => b"",
+        Some(text) => text.bytes(),
+    }
+}
+
+fn take_entry(layer: &mut Box<dyn Layer>, entry: Entry) -> Mem<()>
+    requires new { map.contains_key (state layer.old).table entry.name ≡ false }
+    requires untouched { (state layer.old).touched ≡ [] }
+    ensures ok { OnOk result (state layer.new ≡ taken_in (state layer.old) entry.name entry.item) }
+    ensures err { OnErr result (state layer.new ≡ state layer.old) }
+{
+    let Entry {
+        name,
+        item,
+        line: _,
+    } = entry;
+    layer.take_in(name, item)
+}
+
+// Takes all records into the layer.
+fn take_all(layer: &mut Box<dyn Layer>, records: List<Entry>) -> Mem<()>
+    requires apart { Apart (names_of records) }
+    requires empty { (state layer.old).table ≡ map.empty }
+    requires untouched { (state layer.old).touched ≡ [] }
+    ensures ok { OnOk result (state layer.new ≡ record (state layer.old) { table = table_of records }) }
+    ensures err { OnErr result (IsSameButTable (state layer.old) (state layer.new)) }
+{
+    let mut left = records;
+    while let Some(entry) = left.pop() {
+        match take_entry(layer, entry) {
+            Ok(()) => {}
+            Err(error) => return Err(error),
+        }
+    }
+    Ok(())
+}
+
+// Keeps the text that was found, where the spec asks for that.
+fn keep_found(layer: &mut Box<dyn Layer>, spec: &LayerSpec, found: Option<Text>)
+    ensures { state layer.new ≡ with_loaded spec.now (state layer.old) (state layer.old).table found }
+{
+    match found {
+        Some(text) => {
+            if spec.backup {
+                layer.keep_old(text);
+            }
+        }
+        None => {}
+    }
+}
+
+// Takes in the records of the text that was found at the path.
+fn take_found(
+    alloc: Global,
+    spec: &LayerSpec,
+    layer: &mut Box<dyn Layer>,
+    found: Option<Text>,
+    path: Text,
+) -> Result<Loaded, LoadError>
+    requires empty { (state layer.old).table ≡ map.empty }
+    requires untouched { (state layer.old).touched ≡ [] }
+    ensures { Takes spec.now found path (state layer.old) (state layer.new) result }
+{
+    let records = match read_records(alloc, bytes_in(&found)) {
+        Ok(records) => records,
+        Err(RecordError::Bad { line }) => return Err(LoadError::Damaged { path, line }),
+        Err(RecordError::OutOfMemory) => return Err(LoadError::OutOfMemory),
+    };
+    match take_all(layer, records) {
+        Ok(()) => {
+            keep_found(layer, spec, found);
+            Ok(Loaded::Here)
+        }
+        Err(_) => Err(LoadError::OutOfMemory),
+    }
+}
+
+// Leaves the layer out, unless a run needs it.
+fn pass_over(layer: &mut Box<dyn Layer>, required: bool, path: Text) -> Result<Loaded, LoadError>
+    ensures { PassesOver required path (state layer.old) (state layer.new) result }
+{
+    if required {
+        return Err(LoadError::Failed { path });
+    }
+    layer.leave_out();
+    Ok(Loaded::LeftOut)
+}
+
+/// Loads a layer in one file, which was set up with the spec and is empty.
+///
+/// The records of the text at the layer's place become its table, and with `backup` the text is kept. A file that isn't
+/// there is the empty table. Where the read fails, a layer that a run doesn't need is left out.
+pub fn load<F: Files>(
+    alloc: Global,
+    files: &mut F,
+    spec: &LayerSpec,
+    layer: &mut Box<dyn Layer>,
+) -> Result<Loaded, LoadError>
+    requires file { (state layer.old).sort ≡ LayerSort.File }
+    requires spec { (state layer.old).spec ≡ Some spec.now }
+    requires empty { (state layer.old).table ≡ map.empty }
+    requires untouched { (state layer.old).touched ≡ [] }
+    requires not_left_out { (state layer.old).left_out ≡ false }
+    ensures loads { LoadsLayer (F.disk files.old) spec.now (state layer.old) (state layer.new) result }
+    ensures files { LoadsFiles (record { disk = F.disk files.old; calls = F.calls files.old }) (record { disk = F.disk files.new; calls = F.calls files.new }) spec.now.place result }
+    ensures faults { LoadFaults result (F.faults files.old) (F.faults files.new) }
+    ensures refusals { LoadRefusals result (F.refusals files.old) (F.refusals files.new) }
+{
+    let path = match spec.place.copy() {
+        Ok(path) => path,
+        Err(_) => return Err(LoadError::OutOfMemory),
+    };
+    match files.read(&spec.place) {
+        Ok(found) => take_found(alloc, spec, layer, found, path),
+        Err(FilesError::Failed) => pass_over(layer, spec.required, path),
+        Err(FilesError::OutOfMemory) => Err(LoadError::OutOfMemory),
+    }
+}
