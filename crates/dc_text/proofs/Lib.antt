@@ -1,6 +1,8 @@
 pub mod FaultLemmas
+pub mod FirstLemmas
+pub mod LineLaws
 pub mod LineLemmas
 pub mod MapLemmas
-pub mod Parts
 pub mod SettledLemmas
 pub mod SmallMapLemmas
+pub mod TextLines

@@ -8,9 +8,9 @@ use Rattle.std.proofs.lemmas.Slice.{between_to_end}
 use Rattle.std.proofs.Common.{get_or}
 use Rattle.std.proofs.Math.Nat.{le_refl}
 use Rattle.bstr.specs.Find.{IsFirstByte, is_byte}
-use Rattle.dc_text.specs.Lines.{Parts, lines_of, unless_empty}
+use Rattle.dc_text.specs.Lines.{TextLines, lines_of, unless_empty}
 use Rattle.dc_text.specs.Bytes.{drop_back}
-use Rattle.dc_text.proofs.Parts.{parts_at-position}
+use Rattle.dc_text.proofs.TextLines.{text_lines_at-position}
 
 list_all-push : {X : Type 0} (p : X → Bool) (xs : List X) (x : X) → list_all p (xs ++ x ∷ []) ≡ (list_all p xs && p x)
 list_all-push p [] x = elim (p x) as (λ b. (b && true) ≡ b) [ true ↦ refl | false ↦ refl ]
@@ -66,17 +66,17 @@ unless_empty-some : (text : List ℕ) → 0 < length text → unless_empty text 
 unless_empty-some [] h = absurd (omega arith)
 unless_empty-some (b ∷ bytes) h = refl
 
--- what a text's first newline parts
+-- what a text's first newline text_lines
 pub lines_of_at : (text : List ℕ) (at : ℕ) → Some at ≡ position (λ b. b == 10) text → lines_of text ≡ take at text ∷ lines_of (take (length text - (at + 1)) (drop (at + 1) text))
 lines_of_at text at e =
-    let f = parts_at-position text (Some at) e in
-    rw (to_end (at + 1) text) (ap (λ (p : Parts). p.ended ++ unless_empty p.rest) f.1)
+    let f = text_lines_at-position text (Some at) e in
+    rw (to_end (at + 1) text) (ap (λ (p : TextLines). p.ended ++ unless_empty p.rest) f.1)
 
 -- a text with no newline is one line
 pub lines_of_none : (text : List ℕ) → 0 < length text → None ≡ position (λ b. b == 10) text → lines_of text ≡ text ∷ lines_of (take (length text - length text) (drop (length text) text))
 lines_of_none text h e =
-    let f = parts_at-position text None e in
-    rw (to_end (length text) text, drop_all (length text) text (le_refl _)) (ap (λ (p : Parts). p.ended ++ unless_empty p.rest) f ∙ unless_empty-some text h)
+    let f = text_lines_at-position text None e in
+    rw (to_end (length text) text, drop_all (length text) text (le_refl _)) (ap (λ (p : TextLines). p.ended ++ unless_empty p.rest) f ∙ unless_empty-some text h)
 
 -- ---- the first place of a byte
 

@@ -1,11 +1,14 @@
 -- Laws of settling.
-use Rattle.std.proofs.Common.{◌≡◌, ℕ, Bool, true, false, cond, not, ◌&&◌, List, [], ◌∷◌, refl, sym, ap, ◌∙◌}
+use Rattle.std.proofs.Common.{◌≡◌, ℕ, Bool, true, false, cond, not, ◌&&◌, List, [], ◌∷◌, ◌++◌, inl, inr, refl, sym, ap, ◌∙◌, append_assoc}
 use Rattle.std.specs.Prelude.{◌==◌}
+use Rattle.std.specs.List.{list_any, before_first, after_first}
+use Rattle.std.proofs.lemmas.Bool.{cases_Bool}
 use Rattle.std.proofs.lemmas.Bool.Decides.{nat_tests}
 use Rattle.std.proofs.Common.{arith}
 use Rattle.dc_text.specs.Settled.{settled, is_settled, newlines_shown}
+use Rattle.dc_text.proofs.FirstLemmas.{before_first-here, before_first-later, after_first-here, after_first-later}
 
-abbrev starts_with_n : List ℕ → Bool
+abbrev pub starts_with_n : List ℕ → Bool
 starts_with_n [] = false
 starts_with_n (b ∷ bytes) = b == 110
 
@@ -79,3 +82,88 @@ settled-shown (b ∷ c ∷ v) h =
         | false ↦ λ g. ap (λ t. cond t (10 ∷ settled s) (b ∷ settled (c ∷ s))) (not_false _ (both _ _ h).0) ∙ ap (λ xs. b ∷ xs) g
       ] again
     ] refl
+
+-- ---- a text by the bytes that are looked for
+
+abbrev is_backslash : ℕ → Bool
+is_backslash b = b == 92
+
+abbrev is_line_end : ℕ → Bool
+is_line_end b = b == 10
+
+equal : (a b : ℕ) → (a == b) ≡ true → a ≡ b
+equal a b e = grind (arith, nat_tests)
+
+-- a byte that is no backslash stays
+settled-plain : (b : ℕ) (bytes : List ℕ) → (b == 92) ≡ false → settled (b ∷ bytes) ≡ b ∷ settled bytes
+settled-plain b [] h = refl
+settled-plain b (c ∷ bytes) h = rw h refl
+
+-- up to the first backslash all bytes stay
+pub settled-first : (bytes : List ℕ) → list_any is_backslash bytes ≡ true → settled bytes ≡ before_first is_backslash bytes ++ settled (92 ∷ after_first is_backslash bytes)
+settled-first [] has = absurd (cc)
+settled-first (b ∷ bytes) has = elim (cases_Bool (b == 92)) [
+  | inl here ↦ rw (before_first-here is_backslash b bytes here, after_first-here is_backslash b bytes here) (ap (λ c. settled (c ∷ bytes)) (equal b 92 here))
+  | inr later ↦
+      let more : list_any is_backslash bytes ≡ true = rw later at has in
+      settled-plain b bytes later ∙ ap (λ l. b ∷ l) (settled-first bytes more)
+      ∙ sym (λ i. before_first-later is_backslash b bytes later i ++ settled (92 ∷ after_first-later is_backslash b bytes later i))
+]
+
+-- without a backslash the whole text stays
+pub settled-none : (bytes : List ℕ) → list_any is_backslash bytes ≡ false → settled bytes ≡ bytes
+settled-none [] none = refl
+settled-none (b ∷ bytes) none = elim (cases_Bool (b == 92)) [
+  | inl here ↦ absurd (let off : true ≡ false = rw here at none in cc)
+  | inr later ↦
+      let more : list_any is_backslash bytes ≡ false = rw later at none in
+      settled-plain b bytes later ∙ ap (λ l. b ∷ l) (settled-none bytes more)
+]
+
+-- a backslash before something else than an n stays
+pub settled-alone : (bytes : List ℕ) → starts_with_n bytes ≡ false → settled (92 ∷ bytes) ≡ 92 ∷ settled bytes
+settled-alone [] none = refl
+settled-alone (c ∷ bytes) none = rw none refl
+
+-- up to the first newline all bytes are shown as they are
+pub shown-first : (bytes : List ℕ) → list_any is_line_end bytes ≡ true → newlines_shown bytes ≡ before_first is_line_end bytes ++ 92 ∷ 110 ∷ newlines_shown (after_first is_line_end bytes)
+shown-first [] has = absurd (cc)
+shown-first (b ∷ bytes) has = elim (cases_Bool (b == 10)) [
+  | inl here ↦ rw (before_first-here is_line_end b bytes here, after_first-here is_line_end b bytes here) (rw here refl)
+  | inr later ↦
+      let more : list_any is_line_end bytes ≡ true = rw later at has in
+      rw (before_first-later is_line_end b bytes later, after_first-later is_line_end b bytes later) (rw later (ap (λ l. b ∷ l) (shown-first bytes more)))
+]
+
+-- without a newline all bytes are shown as they are
+pub shown-none : (bytes : List ℕ) → list_any is_line_end bytes ≡ false → newlines_shown bytes ≡ bytes
+shown-none [] none = refl
+shown-none (b ∷ bytes) none = elim (cases_Bool (b == 10)) [
+  | inl here ↦ absurd (let off : true ≡ false = rw here at none in cc)
+  | inr later ↦
+      let more : list_any is_line_end bytes ≡ false = rw later at none in
+      rw later (ap (λ l. b ∷ l) (shown-none bytes more))
+]
+
+-- ---- a step of a loop that takes a text by its pieces
+
+pub shown-step : (text rest line after new newer whole : List ℕ) → list_any is_line_end rest ≡ true → line ≡ before_first is_line_end rest → after ≡ after_first is_line_end rest
+    → text ++ newlines_shown rest ≡ whole → new ≡ text ++ line → newer ≡ new ++ 92 ∷ 110 ∷ [] → newer ++ newlines_shown after ≡ whole
+shown-step text rest line after new newer whole has front back so_far first second =
+    ap (λ l. l ++ newlines_shown after) (second ∙ ap (λ l. l ++ 92 ∷ 110 ∷ []) first)
+    ∙ append_assoc (text ++ line) (92 ∷ 110 ∷ []) (newlines_shown after) ∙ append_assoc text line (92 ∷ 110 ∷ newlines_shown after)
+    ∙ ap (λ (l : List ℕ). text ++ l) ((λ i. front i ++ 92 ∷ 110 ∷ newlines_shown (back i)) ∙ sym (shown-first rest has)) ∙ so_far
+
+pub shown-end : (text rest new whole : List ℕ) → list_any is_line_end rest ≡ false → text ++ newlines_shown rest ≡ whole → new ≡ text ++ rest → new ≡ whole
+shown-end text rest new whole none so_far last = last ∙ ap (λ (l : List ℕ). text ++ l) (sym (shown-none rest none)) ∙ so_far
+
+pub settled-step : (text rest plain after left new newer whole : List ℕ) (byte : ℕ) → list_any is_backslash rest ≡ true → plain ≡ before_first is_backslash rest → after ≡ after_first is_backslash rest
+    → text ++ settled rest ≡ whole → new ≡ text ++ plain → newer ≡ new ++ byte ∷ [] → settled (92 ∷ after) ≡ byte ∷ settled left → newer ++ settled left ≡ whole
+settled-step text rest plain after left new newer whole byte has front back so_far first second here =
+    ap (λ l. l ++ settled left) (second ∙ ap (λ l. l ++ byte ∷ []) first)
+    ∙ append_assoc (text ++ plain) (byte ∷ []) (settled left) ∙ append_assoc text plain (byte ∷ settled left)
+    ∙ ap (λ (l : List ℕ). text ++ (plain ++ l)) (sym here)
+    ∙ ap (λ (l : List ℕ). text ++ l) ((λ i. front i ++ settled (92 ∷ back i)) ∙ sym (settled-first rest has)) ∙ so_far
+
+pub settled-end : (text rest new whole : List ℕ) → list_any is_backslash rest ≡ false → text ++ settled rest ≡ whole → new ≡ text ++ rest → new ≡ whole
+settled-end text rest new whole none so_far last = last ∙ ap (λ (l : List ℕ). text ++ l) (sym (settled-none rest none)) ∙ so_far

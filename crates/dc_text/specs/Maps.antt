@@ -1,5 +1,6 @@
 -- Finite maps from texts, and sets of texts.
-use Rattle.std.specs.Prelude.{ℕ, List, [], ◌∷◌}
+use Rattle.std.specs.Prelude.{◌≢◌, ℕ, List, [], ◌∷◌}
+use Rattle.std.specs.List.{AllByRecursion}
 use Rattle.std.specs.declared.cmp.Ordering.{Ordering}
 use Rattle.std.specs.Ordering.{nat_cmp}
 use Rattle.std.specs.Cmp.Lexicographic.{slice_cmp}
@@ -21,3 +22,8 @@ TextSet = Texts (Unit {0})
 abbrev pub set_of : List (List ℕ) → TextSet
 set_of [] = map.empty
 set_of (text ∷ texts) = map.insert (set_of texts) text tt
+
+-- no two of the texts are the same
+abbrev pub AreDistinct : List (List ℕ) → Type 0
+AreDistinct [] = Unit {0}
+AreDistinct (text ∷ texts) = AllByRecursion (λ other. other ≢ text) texts × AreDistinct texts

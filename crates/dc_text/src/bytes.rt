@@ -1,8 +1,8 @@
 // Small steps over bytes, which the readers of all formats share.
-ghost use Rattle.std.specs.Prelude.{◌≡◌, ◌∷◌, ◌<◌, ◌==◌, [], length, map, position, IfOk, MatchOption, true, false};
+ghost use Rattle.std.specs.Prelude.{◌≡◌, ◌∷◌, ◌<◌, ◌≤◌, ◌==◌, [], length, drop, map, position, IfOk, MatchOption, true, false};
 ghost use Rattle.std.specs.List.{list_any, list_all, before_first, after_first};
-ghost use Rattle.dc_text.specs.Bytes.{is_space as is_space_of, is_blank as is_blank_of, is_indented as is_indented_of, without_space as without_space_of, trimmed, drop_front, drop_back, lower as lower_of};
-ghost use Rattle.dc_text.specs.Lines.{lines_of};
+ghost use Rattle.dc_text.specs.Bytes.{is_space as is_space_of, is_blank as is_blank_of, is_indented as is_indented_of, without_space as without_space_of, trimmed, drop_front, drop_back, lower as lower_of, upper as upper_of};
+ghost use Rattle.dc_text.specs.Lines.{lines_of, text_lines};
 
 use crate::memory::Mem;
 use crate::texts::Text;
@@ -102,6 +102,28 @@ pub fn split_line(text: &[u8]) -> (&[u8], &[u8])
     match place_of(text, b'\n') {
         Some(at) => (&text[..at], &text[at + 1..]),
         None => (text, &text[text.len()..]),
+    }
+}
+
+/// Where the rest of a text begins, behind its last newline.
+pub fn rest_begins(text: &[u8]) -> usize
+    ensures within { result ≤ length text.now }
+    ensures rest { drop result text.now ≡ (text_lines text.now).rest }
+{
+    match text.rfind_byte(b'\n') {
+        Some(at) => at + 1,
+        None => 0,
+    }
+}
+
+/// A lower-case letter in upper case, and any other byte as it is.
+pub fn upper(byte: u8) -> u8
+    ensures { result ≡ upper_of byte }
+{
+    if b'a' <= byte && byte <= b'z' {
+        byte - 32
+    } else {
+        byte
     }
 }
 

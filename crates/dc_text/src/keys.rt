@@ -1,5 +1,5 @@
 // Keys of fields, flags and variables.
-ghost use Rattle.std.specs.Prelude.{◌≡◌, IfOk, OnOk, true, false, map};
+ghost use Rattle.std.specs.Prelude.{◌≡◌, IfOk, OnOk, MatchOption, true, false, map};
 ghost use Rattle.std.specs.List.{list_all};
 ghost use Rattle.std.specs.Str.{bytes_eq};
 ghost use Rattle.dc_text.specs.Bytes.{lower as lower_of};
@@ -43,6 +43,26 @@ impl FieldKey {
             return Err(NameRefused::Bad);
         }
         Ok(FieldKey { text })
+    }
+
+    /// The key that bytes which are known to be one are.
+    pub fn known(alloc: Global, bytes: &[u8]) -> Mem<Self>
+        requires { is_field_key_of bytes.now ≡ true }
+        ensures { IfOk result (λ key. key ≡ bytes.now) }
+    {
+        let text = Text::from_bytes(alloc, bytes)?;
+        Ok(FieldKey { text })
+    }
+
+    /// The key that the text is, as it stands. `None` comes exactly where it is none.
+    pub fn from_text(text: Text) -> Option<Self>
+        ensures { MatchOption result (is_field_key_of text ≡ false) (λ key. (key ≡ text) × (is_field_key_of text ≡ true)) }
+    {
+        if is_field_key(text.bytes()) {
+            Some(FieldKey { text })
+        } else {
+            None
+        }
     }
 
     pub fn bytes(&self) -> &[u8]

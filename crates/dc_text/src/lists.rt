@@ -81,10 +81,10 @@ impl<T: Drop> List<T> {
 
 impl<T: Copied + Drop> List<T> {
     /// A list of copies.
-    pub fn copy(&self, alloc: Global) -> Mem<Self>
+    pub fn copy(&self) -> Mem<Self>
         ensures { IfOk result (λ copy. copy ≡ self.now) }
     {
-        let mut copy = List::new(alloc);
+        let mut copy = List::new(*self.items.allocator());
         for value in self.as_slice() {
             copy.push(value.copied()?)?;
         }

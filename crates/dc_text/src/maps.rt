@@ -15,6 +15,7 @@ use std::marker::Model;
 /// A map from texts, in byte order. A set of texts is a map to `()`.
 #[derive(Drop)]
 pub struct TextMap<V> {
+    alloc: Global,
     entries: BTreeMap<Vec<u8>, V>,
 }
 
@@ -37,6 +38,7 @@ impl<V: Drop> TextMap<V> {
         ensures { result ≡ map.empty }
     {
         TextMap {
+            alloc,
             entries: BTreeMap::new(alloc),
         }
     }
@@ -91,12 +93,12 @@ impl<V: Drop> TextMap<V> {
 
 impl<V: Copied + Drop> TextMap<V> {
     /// A map of copies.
-    pub fn copy(&self, alloc: Global) -> Mem<Self>
+    pub fn copy(&self) -> Mem<Self>
         ensures { IfOk result (λ copy. copy ≡ self.now) }
     {
-        let mut copy = TextMap::new(alloc);
+        let mut copy = TextMap::new(self.alloc);
         for (key, value) in self.iter() {
-            copy.insert(Text::from_bytes(alloc, key)?, value.copied()?)?;
+            copy.insert(Text::from_bytes(self.alloc, key)?, value.copied()?)?;
         }
         Ok(copy)
     }

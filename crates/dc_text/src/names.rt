@@ -1,6 +1,7 @@
 // Names of questions, templates and owners.
 ghost use Rattle.std.specs.Prelude.{◌≡◌, ◌==◌, IfOk, OnOk, true, false};
 ghost use Rattle.std.specs.List.{list_all, slice_split};
+ghost use Rattle.dc_text.specs.Ascii.{slash};
 ghost use Rattle.dc_text.specs.Names.{is_name as is_name_of, is_name_part as is_name_part_of, is_name_byte as is_name_byte_of, is_visible as is_visible_of, has_length as has_length_of};
 
 use crate::lists::Copied;
@@ -18,6 +19,7 @@ pub struct Name {
 
 impl Model for Name {
     ghost use Rattle.std.specs.Prelude.{List, ℕ, IsTrue};
+    ghost use Rattle.dc_text.specs.Ascii.{slash};
     ghost use Rattle.dc_text.specs.Names.{is_name};
 
     ghost Value = { List ℕ };
@@ -108,7 +110,7 @@ pub(crate) fn has_name_bytes(bytes: &[u8]) -> bool
 }
 
 fn has_name_parts(bytes: &[u8]) -> bool
-    ensures { result ≡ list_all is_name_part_of (slice_split (λ b. b == 47) bytes.now) }
+    ensures { result ≡ list_all is_name_part_of (slice_split (λ b. b == slash) bytes.now) }
 {
     bytes.split(|byte| *byte == b'/').all(is_name_part)
 }

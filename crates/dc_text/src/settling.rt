@@ -1,7 +1,9 @@
 // Values as they are kept: a newline, where a written value has the pair of a backslash and an n.
-ghost use Rattle.std.specs.Prelude.{◌≡◌, IfOk, true};
+ghost use Rattle.std.specs.Prelude.{◌≡◌, ◌∷◌, ◌<◌, IfOk, MatchOption, length, true};
+ghost use Rattle.dc_text.specs.Ascii.{backslash, newline};
 ghost use Rattle.dc_text.specs.Settled.{settled, is_settled, newlines_shown};
 
+use crate::bytes::split_at_byte;
 use crate::lists::Copied;
 use crate::memory::Mem;
 use crate::texts::Text;
@@ -60,18 +62,31 @@ fn with_newlines(alloc: Global, bytes: &[u8]) -> Mem<Text>
 {
     let mut text = Text::with_capacity(alloc, bytes.len())?;
     let mut rest = bytes;
-    loop {
-        match rest {
-            [] => return Ok(text),
-            [b'\\', b'n', tail @ ..] => {
+    while let Some((plain, after)) = split_at_byte(rest, b'\\') {
+        text.append(plain)?;
+        match behind_n(after) {
+            Some(tail) => {
                 text.push(b'\n')?;
                 rest = tail;
             }
-            [first, tail @ ..] => {
-                text.push(*first)?;
-                rest = tail;
+            None => {
+                text.push(b'\\')?;
+                rest = after;
             }
         }
+    }
+    text.append(rest)?;
+    Ok(text)
+}
+
+// What follows an n that comes first: with a backslash before it that n stands for a newline.
+fn behind_n(bytes: &[u8]) -> Option<&[u8]>
+    ensures { MatchOption result (settled (backslash ∷ bytes.now) ≡ backslash ∷ settled bytes.now)
+        (λ tail. (settled (backslash ∷ bytes.now) ≡ newline ∷ settled tail.now) × (length tail.now < length bytes.now)) }
+{
+    match bytes {
+        [b'n', tail @ ..] => Some(tail),
+        _ => None,
     }
 }
 
@@ -80,12 +95,12 @@ pub fn show_newlines(alloc: Global, bytes: &[u8]) -> Mem<Text>
     ensures { IfOk result (λ text. text ≡ newlines_shown bytes.now) }
 {
     let mut text = Text::with_capacity(alloc, bytes.len())?;
-    for byte in bytes {
-        if *byte == b'\n' {
-            text.append(b"\\n")?;
-        } else {
-            text.push(*byte)?;
-        }
+    let mut rest = bytes;
+    while let Some((line, after)) = split_at_byte(rest, b'\n') {
+        text.append(line)?;
+        text.append(b"\\n")?;
+        rest = after;
     }
+    text.append(rest)?;
     Ok(text)
 }

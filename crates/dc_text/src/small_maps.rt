@@ -122,10 +122,10 @@ impl<V: Drop> SmallMap<V> {
 
 impl<V: Copied + Drop> SmallMap<V> {
     /// A map of copies.
-    pub fn copy(&self, alloc: Global) -> Mem<Self>
+    pub fn copy(&self) -> Mem<Self>
         ensures { IfOk result (λ copy. copy ≡ self.now) }
     {
-        let mut entries = Vec::with_capacity(alloc, self.entries.len())?;
+        let mut entries = Vec::with_capacity(*self.entries.allocator(), self.entries.len())?;
         for (key, value) in &self.entries {
             entries.push((key.copy()?, value.copied()?))?;
         }

@@ -87,6 +87,10 @@ fn what_was_read_is_kept(rt: HostRuntime) -> Result<(), Fail> {
         b"template".as_slice()
     );
     assert_eq!(rt;
+        FieldKey::known(alloc, b"value")?.bytes(),
+        b"value".as_slice()
+    );
+    assert_eq!(rt;
         FlagName::read(alloc, b"seen")?.copy()?.bytes(),
         b"seen".as_slice()
     );
@@ -114,6 +118,10 @@ fn values_are_settled_and_shown(rt: HostRuntime) -> Result<(), Fail> {
         );
     }
     assert_eq!(rt; show_newlines(alloc, b"x\ny")?.bytes(), b"x\\ny".as_slice());
+    let mut text = Text::from_bytes(alloc, b"a: ")?;
+    text.append_capital(b"")?;
+    text.append_capital(b"type")?;
+    assert_eq!(rt; text.bytes(), b"a: Type".as_slice());
     Ok(())
 }
 
@@ -133,7 +141,7 @@ fn lists_and_maps_hold_what_is_put(rt: HostRuntime) -> Result<(), Fail> {
     let mut list = List::new(alloc);
     list.push(Text::from_bytes(alloc, b"a")?)?;
     list.push(Text::from_bytes(alloc, b"b")?)?;
-    let mut copy = list.copy(alloc)?;
+    let mut copy = list.copy()?;
     assert_eq!(rt; copy.len(), 2);
     assert_eq!(rt; copy.get(1).map(|text| text.bytes()), Some(b"b".as_slice()));
     assert_eq!(rt; copy.pop().is_some(), true);
@@ -182,7 +190,7 @@ fn a_small_map_holds_what_is_put(rt: HostRuntime) -> Result<(), Fail> {
     assert_eq!(rt; map.contains(b"c"), false);
     map.remove(b"c");
     map.remove(b"bb");
-    let copy = map.copy(alloc)?;
+    let copy = map.copy()?;
     assert_eq!(rt; copy.is_empty(), false);
     assert_eq!(rt;
         barred_keys(alloc, copy.entries())?.bytes(),

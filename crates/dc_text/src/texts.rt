@@ -1,6 +1,8 @@
 // Bytes that grow, seen as their list.
 ghost use Rattle.std.specs.Prelude.{◌≡◌, ◌∷◌, ◌++◌, [], OnOk, OnErr, IfOk};
+ghost use Rattle.dc_text.specs.Bytes.{capital};
 
+use crate::bytes::upper;
 use crate::lists::Copied;
 use crate::memory::Mem;
 use std::alloc::Global;
@@ -80,6 +82,22 @@ impl Text {
     {
         self.bytes.extend_from_slice(bytes)?;
         Ok(())
+    }
+
+    /// Puts the bytes at the end, the first letter in upper case.
+    pub fn append_capital(&mut self, bytes: &[u8]) -> Mem<()>
+        ensures ok { OnOk result (self.new ≡ self.old ++ capital bytes.now) }
+        ensures err { OnErr result (self.new ≡ self.old) }
+    {
+        match bytes {
+            [] => Ok(()),
+            [first, ..] => {
+                let place = self.bytes.len();
+                self.bytes.extend_from_slice(bytes)?;
+                self.bytes[place] = upper(*first);
+                Ok(())
+            }
+        }
     }
 
     pub fn copy(&self) -> Mem<Self>

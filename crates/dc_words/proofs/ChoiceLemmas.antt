@@ -9,7 +9,7 @@ use Rattle.std.proofs.lemmas.Bool.Decides.{nat_tests}
 use Rattle.dc_text.proofs.LineLemmas.{to_end}
 use Rattle.dc_text.specs.Bytes.{drop_front, is_nil}
 use Rattle.dc_words.specs.Words.{some_word}
-use Rattle.dc_words.specs.Choices.{is_gap, spells_next, gap_next, symbols, pieces, choices_of, escaped, joined, ends_open, IsChoice}
+use Rattle.dc_words.specs.Choices.{is_gap, spells_next, gap_next, symbols, pieces, choices_of, choice_text, joined, ends_open, IsChoice}
 
 -- ---- what a text says
 
@@ -132,9 +132,9 @@ edge_byte : (b : ℕ) (last : Bool) → (b == 44 || (b == 32 && (true || last)))
 edge_byte b last e = elim (b == 32) as (λ t. (b == 44 || (t && true)) ≡ false → (b == 44 || t) ≡ false) [ true ↦ λ f. f | false ↦ λ f. f ] e
 
 -- after a backslash that spells itself no byte stands that it would spell
-no_spelling : (piece tail : List ℕ) → piece ≢ [] → spells_next (escaped true piece ++ tail) ≡ false
+no_spelling : (piece tail : List ℕ) → piece ≢ [] → spells_next (choice_text true piece ++ tail) ≡ false
 no_spelling [] tail some = absurd (some refl)
-no_spelling (b ∷ piece) tail some = elim (writes_escape true b piece) as (λ t. writes_escape true b piece ≡ t → spells_next (cond t (92 ∷ b ∷ escaped false piece) (b ∷ escaped (b == 92) piece) ++ tail) ≡ false) [
+no_spelling (b ∷ piece) tail some = elim (writes_escape true b piece) as (λ t. writes_escape true b piece ≡ t → spells_next (cond t (92 ∷ b ∷ choice_text false piece) (b ∷ choice_text (b == 92) piece) ++ tail) ≡ false) [
   | true ↦ λ e. refl
   | false ↦ λ e. edge_byte b (is_nil piece) e
 ] refl
@@ -149,22 +149,22 @@ not_last b (c ∷ piece) is e = λ f. cc
 
 -- a byte that is written as it is says itself
 plain_here : (b : ℕ) (piece tail : List ℕ) → (b == 44) ≡ false → ends_open (b ∷ piece) ≡ false
-    → symbols false (b ∷ (escaped (b == 92) piece ++ tail)) ≡ Some b ∷ symbols false (escaped (b == 92) piece ++ tail)
-plain_here b piece tail comma ends = symbols_plain b (escaped (b == 92) piece ++ tail)
-    (elim (b == 92) as (λ t. (b == 92) ≡ t → (t && spells_next (escaped t piece ++ tail)) ≡ false) [
+    → symbols false (b ∷ (choice_text (b == 92) piece ++ tail)) ≡ Some b ∷ symbols false (choice_text (b == 92) piece ++ tail)
+plain_here b piece tail comma ends = symbols_plain b (choice_text (b == 92) piece ++ tail)
+    (elim (b == 92) as (λ t. (b == 92) ≡ t → (t && spells_next (choice_text t piece ++ tail)) ≡ false) [
       | true ↦ λ is. no_spelling piece tail (not_last b piece is ends)
       | false ↦ λ is. refl
     ] refl)
-    (ap (λ t. t && gap_next (escaped (b == 92) piece ++ tail)) comma)
+    (ap (λ t. t && gap_next (choice_text (b == 92) piece ++ tail)) comma)
 
 said : (piece tail : List ℕ) (edge : Bool) → list_all is_spaced piece ≡ true → ends_open piece ≡ false
-    → symbols false (escaped edge piece ++ tail) ≡ map (λ (b : ℕ). Some b) piece ++ symbols false tail
+    → symbols false (choice_text edge piece ++ tail) ≡ map (λ (b : ℕ). Some b) piece ++ symbols false tail
 said [] tail edge spaced ends = refl
 said (b ∷ piece) tail edge spaced ends =
     let more : list_all is_spaced piece ≡ true = (both (is_spaced b) (list_all is_spaced piece) spaced).1 in
     elim (writes_escape edge b piece) as (λ t. writes_escape edge b piece ≡ t
-    → symbols false (cond t (92 ∷ b ∷ escaped false piece) (b ∷ escaped (b == 92) piece) ++ tail) ≡ Some b ∷ (map (λ (b : ℕ). Some b) piece ++ symbols false tail)) [
-      | true ↦ λ e. symbols_escape b (escaped false piece ++ tail) (spelled_test b edge (is_nil piece) e) ∙ ap (λ (s : List (Option ℕ)). Some b ∷ s) (said piece tail false more (ends_later b piece ends))
+    → symbols false (cond t (92 ∷ b ∷ choice_text false piece) (b ∷ choice_text (b == 92) piece) ++ tail) ≡ Some b ∷ (map (λ (b : ℕ). Some b) piece ++ symbols false tail)) [
+      | true ↦ λ e. symbols_escape b (choice_text false piece ++ tail) (spelled_test b edge (is_nil piece) e) ∙ ap (λ (s : List (Option ℕ)). Some b ∷ s) (said piece tail false more (ends_later b piece ends))
       | false ↦ λ e. plain_here b piece tail (front_false (b == 44) (b == 32 && (edge || is_nil piece)) e) ends
           ∙ ap (λ (s : List (Option ℕ)). Some b ∷ s) (said piece tail (b == 92) more (ends_later b piece ends))
     ] refl
@@ -176,12 +176,12 @@ spaced_gap b e f = grind (arith, nat_tests)
 first_byte : (b : ℕ) (bytes : List ℕ) → is_gap b ≡ false → drop_front is_gap (b ∷ bytes) ≡ b ∷ bytes
 first_byte b bytes e = ap (λ t. cond t (drop_front is_gap bytes) (b ∷ bytes)) e
 
-no_gap : (piece tail : List ℕ) → list_all is_spaced piece ≡ true → piece ≢ [] → drop_front is_gap (escaped true piece ++ tail) ≡ escaped true piece ++ tail
+no_gap : (piece tail : List ℕ) → list_all is_spaced piece ≡ true → piece ≢ [] → drop_front is_gap (choice_text true piece ++ tail) ≡ choice_text true piece ++ tail
 no_gap [] tail spaced some = absurd (some refl)
 no_gap (b ∷ piece) tail spaced some = elim (writes_escape true b piece) as (λ t. writes_escape true b piece ≡ t
-    → drop_front is_gap (cond t (92 ∷ b ∷ escaped false piece) (b ∷ escaped (b == 92) piece) ++ tail) ≡ cond t (92 ∷ b ∷ escaped false piece) (b ∷ escaped (b == 92) piece) ++ tail) [
+    → drop_front is_gap (cond t (92 ∷ b ∷ choice_text false piece) (b ∷ choice_text (b == 92) piece) ++ tail) ≡ cond t (92 ∷ b ∷ choice_text false piece) (b ∷ choice_text (b == 92) piece) ++ tail) [
       | true ↦ λ e. refl
-      | false ↦ λ e. first_byte b (escaped (b == 92) piece ++ tail) (spaced_gap b (both (is_spaced b) (list_all is_spaced piece) spaced).0 (edge_byte b (is_nil piece) e))
+      | false ↦ λ e. first_byte b (choice_text (b == 92) piece ++ tail) (spaced_gap b (both (is_spaced b) (list_all is_spaced piece) spaced).0 (edge_byte b (is_nil piece) e))
     ] refl
 
 some_word-some : (piece : List ℕ) → piece ≢ [] → some_word piece ≡ piece ∷ []
@@ -189,9 +189,9 @@ some_word-some [] some = absurd (some refl)
 some_word-some (b ∷ piece) some = refl
 
 -- a choice and what follows it
-split_first : (piece tail : List ℕ) → IsChoice piece → symbols true (escaped true piece ++ tail) ≡ map (λ (b : ℕ). Some b) piece ++ symbols false tail
+split_first : (piece tail : List ℕ) → IsChoice piece → symbols true (choice_text true piece ++ tail) ≡ map (λ (b : ℕ). Some b) piece ++ symbols false tail
 split_first piece tail is =
-    symbols_skip (escaped true piece ++ tail) ∙ ap (symbols false) (no_gap piece tail is.spaced is.some) ∙ said piece tail true is.spaced is.closed
+    symbols_skip (choice_text true piece ++ tail) ∙ ap (symbols false) (no_gap piece tail is.spaced is.some) ∙ said piece tail true is.spaced is.closed
 
 after_comma : (bytes : List ℕ) → symbols false (44 ∷ 32 ∷ bytes) ≡ None ∷ symbols true bytes
 after_comma bytes = symbols_comma 32 bytes refl ∙ ap (λ (s : List (Option ℕ)). None ∷ s) (sym (symbols_skip bytes))
@@ -199,10 +199,45 @@ after_comma bytes = symbols_comma 32 bytes refl ∙ ap (λ (s : List (Option ℕ
 pub choices_again : (choices : List (List ℕ)) → AllByRecursion IsChoice choices → choices_of (joined choices) ≡ choices
 choices_again [] h = refl
 choices_again (choice ∷ []) h =
-    ap (λ t. choices_of t) (sym (append-nil (escaped true choice))) ∙ ap pieces (split_first choice [] h.0)
+    ap pieces (split_first choice [] h.0)
     ∙ pieces_end choice ∙ some_word-some choice h.0.some
 choices_again (choice ∷ next ∷ choices) h =
     ap pieces (split_first choice (44 ∷ 32 ∷ joined (next ∷ choices)) h.0 ∙ ap (λ (s : List (Option ℕ)). map (λ (b : ℕ). Some b) choice ++ s) (after_comma (joined (next ∷ choices))))
     ∙ pieces_parted choice (symbols true (joined (next ∷ choices)))
     ∙ ap (λ (w : List (List ℕ)). w ++ choices_of (joined (next ∷ choices))) (some_word-some choice h.0.some)
     ∙ ap (λ (cs : List (List ℕ)). choice ∷ cs) (choices_again (next ∷ choices) h.1)
+
+-- ---- what each byte says, whether whitespace is passed over or not
+
+pub either_way : (skips : Bool) (b : ℕ) (rest : List ℕ) → is_gap b ≡ false → symbols skips (b ∷ rest) ≡ symbols false (b ∷ rest)
+either_way true b rest e = symbols_skip (b ∷ rest) ∙ ap (λ t. symbols false (cond t (drop_front is_gap rest) (b ∷ rest))) e
+either_way false b rest e = refl
+
+pub gap-skipped : (gap text : List ℕ) → list_all is_gap gap ≡ true → symbols true (gap ++ text) ≡ symbols true text
+gap-skipped [] text e = refl
+gap-skipped (b ∷ gap) text e =
+    let f : (is_gap b ≡ true) × (list_all is_gap gap ≡ true) = both _ _ e in
+    symbols_skip (b ∷ (gap ++ text)) ∙ ap (λ t. symbols false (cond t (drop_front is_gap (gap ++ text)) (b ∷ (gap ++ text)))) f.0
+    ∙ sym (symbols_skip (gap ++ text)) ∙ gap-skipped gap text f.1
+
+pub parting : (skips : Bool) (gap text : List ℕ) → gap ≢ [] → list_all is_gap gap ≡ true → symbols skips (44 ∷ (gap ++ text)) ≡ None ∷ symbols true text
+parting skips [] text some e = absurd (some refl)
+parting skips (b ∷ gap) text some e =
+    let f : (is_gap b ≡ true) × (list_all is_gap gap ≡ true) = both _ _ e in
+    either_way skips 44 (b ∷ (gap ++ text)) refl ∙ symbols_comma b (gap ++ text) f.0
+    ∙ ap (λ (s : List (Option ℕ)). None ∷ s) (sym (symbols_skip (gap ++ text)) ∙ gap-skipped gap text f.1)
+
+other_test : (b c : ℕ) (t : Bool) → b ≢ c → (b == c && t) ≡ false
+other_test b c t other = elim (b == c) as (λ u. (b == c) ≡ u → (u && t) ≡ false) [
+  | true ↦ λ e. absurd (other (grind (arith, nat_tests)))
+  | false ↦ λ e. refl
+] refl
+
+pub other_byte : (b : ℕ) (text : List ℕ) → b ≢ 92 → b ≢ 44 → symbols false (b ∷ text) ≡ Some b ∷ symbols false text
+other_byte b text no_backslash no_comma = symbols_plain b text (other_test b 92 (spells_next text) no_backslash) (other_test b 44 (gap_next text) no_comma)
+
+pub first_choice : (choice : List ℕ) (said : List (Option ℕ)) → choice ≢ [] → pieces (map (λ (b : ℕ). Some b) choice ++ None ∷ said) ≡ choice ∷ pieces said
+first_choice choice said some = pieces_parted choice said ∙ ap (λ (w : List (List ℕ)). w ++ pieces said) (some_word-some choice some)
+
+pub only_choice : (choice : List ℕ) → choice ≢ [] → pieces (map (λ (b : ℕ). Some b) choice) ≡ choice ∷ []
+only_choice choice some = ap pieces (sym (append-nil (map (λ (b : ℕ). Some b) choice))) ∙ pieces_end choice ∙ some_word-some choice some

@@ -1,17 +1,18 @@
 -- The choices of a select question, as one text.
-use Rattle.std.specs.Prelude.{◌≡◌, ◌≢◌, ℕ, Bool, true, false, not, ◌&&◌, ◌||◌, ◌==◌, List, [], ◌∷◌, ◌++◌, Option, Some, None, is_none, option_to_list, if◌then◌else◌}
-use Rattle.std.specs.List.{list_all, flat_map, slice_split, AllByRecursion}
+use Rattle.std.specs.Prelude.{◌≡◌, ◌≢◌, ℕ, Bool, true, false, not, ◌&&◌, ◌||◌, ◌==◌, List, [], ◌∷◌, Option, Some, None, is_none, option_to_list, codes, if◌then◌else◌}
+use Rattle.std.specs.List.{list_all, flat_map, slice_split, join_by, AllByRecursion}
+use Rattle.dc_text.specs.Ascii.{newline, space, comma, backslash}
 use Rattle.dc_text.specs.Bytes.{is_space, is_nil}
 use Rattle.dc_words.specs.Words.{some_word}
 
 -- whitespace, a newline among it
 abbrev pub is_gap : ℕ → Bool
-is_gap byte = is_space byte || byte == 10
+is_gap byte = is_space byte || byte == newline
 
 -- a comma or a space comes first
 abbrev pub spells_next : List ℕ → Bool
 spells_next [] = false
-spells_next (next ∷ bytes) = next == 44 || next == 32
+spells_next (next ∷ bytes) = next == comma || next == space
 
 -- whitespace comes first
 abbrev pub gap_next : List ℕ → Bool
@@ -26,8 +27,8 @@ symbols skips [] = []
 symbols skips (byte ∷ []) = if skips && is_gap byte then [] else Some byte ∷ []
 symbols skips (byte ∷ next ∷ bytes) =
     if skips && is_gap byte then symbols true (next ∷ bytes)
-    else if byte == 92 && spells_next (next ∷ bytes) then Some next ∷ symbols false bytes
-    else if byte == 44 && gap_next (next ∷ bytes) then None ∷ symbols true (next ∷ bytes)
+    else if byte == backslash && spells_next (next ∷ bytes) then Some next ∷ symbols false bytes
+    else if byte == comma && gap_next (next ∷ bytes) then None ∷ symbols true (next ∷ bytes)
     else Some byte ∷ symbols false (next ∷ bytes)
 
 -- the bytes between what parts two choices, without empty pieces
@@ -40,28 +41,26 @@ choices_of text = pieces (symbols true text)
 
 -- A choice as it is written: a comma has a backslash before it, and so has a space that is its first or last byte or
 -- follows a backslash (`edge`: what comes is the first byte, or follows a backslash).
-abbrev pub escaped : Bool → List ℕ → List ℕ
-escaped edge [] = []
-escaped edge (byte ∷ bytes) =
-    if byte == 44 || (byte == 32 && (edge || is_nil bytes)) then 92 ∷ byte ∷ escaped false bytes
-    else byte ∷ escaped (byte == 92) bytes
+abbrev pub choice_text : Bool → List ℕ → List ℕ
+choice_text edge [] = []
+choice_text edge (byte ∷ bytes) =
+    if byte == comma || (byte == space && (edge || is_nil bytes)) then backslash ∷ byte ∷ choice_text false bytes
+    else byte ∷ choice_text (byte == backslash) bytes
 
 -- the choices as one text, parted by a comma and a space
 abbrev pub joined : List (List ℕ) → List ℕ
-joined [] = []
-joined (choice ∷ []) = escaped true choice
-joined (choice ∷ next ∷ choices) = escaped true choice ++ 44 ∷ 32 ∷ joined (next ∷ choices)
+joined choices = join_by (choice_text true) (codes ", ") choices
 
 -- ends with a backslash
 abbrev pub ends_open : List ℕ → Bool
 ends_open [] = false
-ends_open (byte ∷ []) = byte == 92
+ends_open (byte ∷ []) = byte == backslash
 ends_open (byte ∷ next ∷ bytes) = ends_open (next ∷ bytes)
 
 -- a choice that can be written: it isn't empty, has no whitespace but spaces, and doesn't end with a backslash
 pub record IsChoice (choice : List ℕ) : Type 0 where
   pub some : choice ≢ []
-  pub spaced : list_all (λ byte. not (is_gap byte) || byte == 32) choice ≡ true
+  pub spaced : list_all (λ byte. not (is_gap byte) || byte == space) choice ≡ true
   pub closed : ends_open choice ≡ false
 
 -- choices that are joined and split are the same choices

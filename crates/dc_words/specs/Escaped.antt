@@ -1,6 +1,7 @@
--- Escapes, and the words of a command line in escape mode. The bytes 10, 92 and 110 are a newline, a backslash and n.
+-- Escapes, and the words of a command line in escape mode.
 use Rattle.std.specs.Prelude.{◌≡◌, ◌≢◌, ℕ, Bool, true, false, List, [], ◌∷◌, ◌++◌, ◌==◌, ◌↔◌, ⊤, map, if◌then◌else◌}
 use Rattle.std.specs.List.{slice_split, flat_map}
+use Rattle.dc_text.specs.Ascii.{newline, backslash, letter_n}
 use Rattle.dc_text.specs.Bytes.{is_space, is_blank}
 use Rattle.dc_words.specs.declared.escaping.LineUnit.{LineUnit}
 use Rattle.dc_words.specs.declared.escaping.LineUnit.TheVariants.{Space, Byte}
@@ -8,14 +9,17 @@ use Rattle.dc_words.specs.Words.{IsWordEnd, some_word}
 
 -- a backslash is written as two, and a newline as a backslash and an n
 abbrev pub escaped_byte : ℕ → List ℕ
-escaped_byte byte = if byte == 92 then 92 ∷ 92 ∷ [] else if byte == 10 then 92 ∷ 110 ∷ [] else byte ∷ []
+escaped_byte byte =
+    if byte == backslash then backslash ∷ backslash ∷ []
+    else if byte == newline then backslash ∷ letter_n ∷ []
+    else byte ∷ []
 
 abbrev pub escaped : List ℕ → List ℕ
 escaped bytes = flat_map escaped_byte bytes
 
 -- what a backslash and this byte stand for: before an n a newline, and before any other byte that byte
 abbrev pub unescaped_byte : ℕ → ℕ
-unescaped_byte byte = if byte == 110 then 10 else byte
+unescaped_byte byte = if byte == letter_n then newline else byte
 
 -- a byte that no backslash stands before
 abbrev pub unit_of : ℕ → LineUnit
@@ -25,7 +29,8 @@ unit_of byte = if is_space byte then Space else Byte byte
 abbrev pub units_of : List ℕ → List LineUnit
 units_of [] = []
 units_of (byte ∷ []) = unit_of byte ∷ []
-units_of (byte ∷ next ∷ bytes) = if byte == 92 then Byte (unescaped_byte next) ∷ units_of bytes else unit_of byte ∷ units_of (next ∷ bytes)
+units_of (byte ∷ next ∷ bytes) =
+    if byte == backslash then Byte (unescaped_byte next) ∷ units_of bytes else unit_of byte ∷ units_of (next ∷ bytes)
 
 abbrev pub is_space_unit : LineUnit → Bool
 is_space_unit Space = true
@@ -51,18 +56,18 @@ pub data WordUnit : Type 0 where
 
 abbrev pub spelled : WordUnit → List ℕ
 spelled (Plain byte) = byte ∷ []
-spelled (Pair next) = 92 ∷ next ∷ []
-spelled LastBackslash = 92 ∷ []
+spelled (Pair next) = backslash ∷ next ∷ []
+spelled LastBackslash = backslash ∷ []
 
 -- the byte that a unit stands for
 abbrev pub meant : WordUnit → ℕ
 meant (Plain byte) = byte
 meant (Pair next) = unescaped_byte next
-meant LastBackslash = 92
+meant LastBackslash = backslash
 
 -- the unit may stand before these bytes, with which the line ends
 abbrev pub IsUnitBefore : List ℕ → WordUnit → Type 0
-IsUnitBefore after (Plain byte) = (is_space byte ≡ false) × (byte ≢ 92)
+IsUnitBefore after (Plain byte) = (is_space byte ≡ false) × (byte ≢ backslash)
 IsUnitBefore after (Pair next) = ⊤
 IsUnitBefore after LastBackslash = after ≡ []
 

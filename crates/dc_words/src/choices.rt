@@ -2,7 +2,7 @@
 ghost use Rattle.std.specs.Prelude.{◌≡◌, ◌∷◌, ◌++◌, ◌<◌, [], List as Listed, ℕ, length, OnOk, IfOk, false, true};
 ghost use Rattle.dc_text.specs.Bytes.{drop_front};
 ghost use Rattle.dc_words.specs.Words.{some_word};
-ghost use Rattle.dc_words.specs.Choices.{is_gap as is_gap_of, spells_next as spells_next_of, gap_next as gap_next_of, symbols, choices_of, escaped, joined, AreSplitAgain};
+ghost use Rattle.dc_words.specs.Choices.{is_gap as is_gap_of, spells_next as spells_next_of, gap_next as gap_next_of, symbols, choices_of, choice_text, joined, AreSplitAgain};
 
 use dc_text::bytes::is_space;
 use dc_text::{List, Mem, Text};
@@ -104,7 +104,7 @@ pub fn join_choices(alloc: Global, list: &List<Text>) -> Mem<Text>
     let mut text = Text::new(alloc);
     let mut rest = list.as_slice();
     while let [choice, others @ ..] = rest {
-        append_escaped(&mut text, choice.bytes())?;
+        append_choice(&mut text, choice.bytes())?;
         if !others.is_empty() {
             text.append(b", ")?;
         }
@@ -114,8 +114,8 @@ pub fn join_choices(alloc: Global, list: &List<Text>) -> Mem<Text>
 }
 
 // Appends a choice as it is written.
-fn append_escaped(text: &mut Text, choice: &[u8]) -> Mem<()>
-    ensures { OnOk result (text.new ≡ text.old ++ escaped true choice.now) }
+fn append_choice(text: &mut Text, choice: &[u8]) -> Mem<()>
+    ensures { OnOk result (text.new ≡ text.old ++ choice_text true choice.now) }
 {
     let mut is_edge = true;
     let mut rest = choice;

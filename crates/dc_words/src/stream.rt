@@ -1,9 +1,9 @@
 // The lines of a stream of bytes that comes in pieces.
 ghost use Rattle.std.specs.Prelude.{◌≡◌, ◌≤◌, ◌<◌, ◌+◌, [], ◌∷◌, ◌++◌, length, take, drop, OnOk, OnErr, IfOk, MatchOption, option_to_list};
-ghost use Rattle.dc_text.specs.Lines.{parts};
+ghost use Rattle.dc_text.specs.Lines.{text_lines};
 ghost use Rattle.dc_words.specs.Stream.{whole_lines, rest_of, line_of, line_of_rest, clip, clipped, StandsFor};
 
-use dc_text::bytes::place_of;
+use dc_text::bytes::{place_of, rest_begins};
 use dc_text::{Mem, Text};
 use std::alloc::Global;
 use std::marker::Model;
@@ -104,15 +104,16 @@ impl Lines {
         }
     }
 
-    /// Takes the rest, while no whole line is held.
+    /// Takes the rest, which stands behind the last newline, if it isn't empty. All that was held goes, lines that no
+    /// `next` took among it.
     pub fn last(&mut self) -> Option<Line>
-        requires { whole_lines self.old ≡ [] }
         ensures line { option_to_list result ≡ line_of_rest (rest_of self.old) }
         ensures empty { self.new ≡ [] }
     {
+        let begins = self.taken + rest_begins(&self.held[self.taken..]);
         let mut rest = mem::replace(&mut self.held, Vec::new(self.alloc));
-        remove_front(&mut rest, self.taken);
         self.taken = 0;
+        remove_front(&mut rest, begins);
         line_of_vec(rest)
     }
 }
@@ -149,8 +150,8 @@ fn line_of_vec(bytes: Vec<u8>) -> Option<Line>
 
 // Where the first newline stands, and what it parts.
 fn newline_at(bytes: &[u8]) -> Option<usize>
-    ensures { MatchOption result (parts bytes.now ≡ record { ended = []; rest = bytes.now })
-        (λ k. (k < length bytes.now) × (parts bytes.now ≡ record { ended = take k bytes.now ∷ (parts (drop (k + 1) bytes.now)).ended; rest = (parts (drop (k + 1) bytes.now)).rest })) }
+    ensures { MatchOption result (text_lines bytes.now ≡ record { ended = []; rest = bytes.now })
+        (λ k. (k < length bytes.now) × (text_lines bytes.now ≡ record { ended = take k bytes.now ∷ (text_lines (drop (k + 1) bytes.now)).ended; rest = (text_lines (drop (k + 1) bytes.now)).rest })) }
 {
     place_of(bytes, b'\n')
 }

@@ -69,7 +69,10 @@ fn a_stream_has_lines(rt: HostRuntime) -> Result<(), Fail> {
             show(&mut text, &line)?;
         }
     }
-    assert_eq!(rt; text.bytes(), b"a||".as_slice());
+    if let Some(line) = lines.last() {
+        show(&mut text, &line)?;
+    }
+    assert_eq!(rt; text.bytes(), b"a||b|".as_slice());
     Ok(())
 }
 

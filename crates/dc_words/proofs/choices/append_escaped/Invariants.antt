@@ -1,9 +1,0 @@
-use Rattle.std.proofs.Common.{◌≡◌, ◌++◌, true, length}
-use Rattle.dc_words.specs.Choices.{escaped}
-use Rattle.dc_words.proofs.choices.append_escaped.Given as goal
-
-abbrev pub invariant-loop-rest : goal.invariant-loop-rest
-invariant-loop-rest l = l.text ++ escaped l.is_edge l.rest ≡ l.initial.text ++ escaped true l.choice
-
-abbrev pub decreases-loop-rest : goal.decreases-loop-rest
-decreases-loop-rest l = length l.rest
