@@ -1,5 +1,6 @@
 -- Counts that rise at each fault and at each refusal for want of memory.
 use Rattle.std.specs.Prelude.{◌≡◌, ℕ, ◌+◌, ◌-◌, ◌^◌, ◌≤◌, min, Result, Ok, Err}
+use Rattle.dc_outside.specs.Told.{Counts}
 use Rattle.dc_outside.specs.declared.link.LinkError.{LinkError}
 use Rattle.dc_outside.specs.declared.link.LinkError.TheVariants.{Failed, OutOfMemory}
 use Rattle.dc_outside.specs.declared.files.FilesError.{FilesError}
@@ -22,13 +23,18 @@ CountsRefusals before now (Ok value) = now ≡ before
 CountsRefusals before now (Err Failed) = now ≡ before
 CountsRefusals before now (Err OutOfMemory) = Rose before now
 
--- the same two of files
-abbrev pub CountsFilesFaults : {T : Type 0} → ℕ → ℕ → Result T FilesError → Type 0
-CountsFilesFaults before now (Ok value) = now ≡ before
-CountsFilesFaults before now (Err FilesFailed) = Rose before now
-CountsFilesFaults before now (Err FilesRefused) = now ≡ before
+-- ---- of files
 
-abbrev pub CountsFilesRefusals : {T : Type 0} → ℕ → ℕ → Result T FilesError → Type 0
-CountsFilesRefusals before now (Ok value) = now ≡ before
-CountsFilesRefusals before now (Err FilesFailed) = now ≡ before
-CountsFilesRefusals before now (Err FilesRefused) = Rose before now
+pub record FaultRose (before now : Counts) : Type 0 where
+  pub faults : Rose before.faults now.faults
+  pub refusals : now.refusals ≡ before.refusals
+
+pub record RefusalRose (before now : Counts) : Type 0 where
+  pub faults : now.faults ≡ before.faults
+  pub refusals : Rose before.refusals now.refusals
+
+-- a call that failed raises the count of faults alone, and one that is refused for want of memory that of refusals
+abbrev pub Counted : {T : Type 0} → Counts → Counts → Result T FilesError → Type 0
+Counted before now (Ok value) = now ≡ before
+Counted before now (Err FilesFailed) = FaultRose before now
+Counted before now (Err FilesRefused) = RefusalRose before now

@@ -1,69 +1,172 @@
--- What the files hold.
-use Rattle.std.specs.Prelude.{◌≡◌, ◌≢◌, ◌⊎◌, ℕ, List, [], ◌∷◌, ◌++◌, Option, None, Some, Result, Ok, Err, if◌then◌else◌, ◌==◌, refl}
+-- What the files hold, what a crash may leave of them, and what it might have left before.
+use Rattle.std.specs.Prelude.{◌≡◌, ◌⊎◌, ◌≤◌, ⊤, ℕ, Bool, true, false, List, [], ◌∷◌, ◌++◌, length, drop, Option, None, Some, unwrap_or, if◌then◌else◌, ◌==◌, refl}
 use Rattle.std.specs.List.{filter_map}
-use Rattle.std.specs.Coded.{Coded, code_by, coded×, coded_list, coded_ℕ}
+use Rattle.std.specs.Coded.{Coded, code_by, coded×, coded_list, coded_ℕ, coded_option}
 use Rattle.std.specs.Option.{option_map}
 use Rattle.std.specs.FinMap as map
 use Rattle.dc_text.specs.Maps.{Texts}
-use Rattle.dc_outside.specs.declared.files.FilesError.{FilesError}
-use Rattle.dc_outside.specs.declared.files.FilesError.TheVariants.{Failed, OutOfMemory}
 
 -- the bytes of a file, and its permission bits
 pub record File : Type 0 where
   pub bytes : List ℕ
   pub mode : ℕ
 
--- the files by their paths
-abbrev pub Disk : Type 0
-Disk = Texts File
+-- what a crash may leave at a path: one of these entries, each a file or none, or anything
+pub data Outcome : Type 0 where
+  OneOf : List (Option File) → Outcome
+  Anything : Outcome
+
+-- what stands at a moment: the files by their paths, and what a crash then may leave where it isn't just what stands there
+pub record Standing : Type 0 where
+  pub files : Texts File
+  pub pending : Texts Outcome
+
+-- what stands now, and what stood at each moment before, in order
+pub record Disk : Type 0 where
+  pub standing : Standing
+  pub past : List Standing
 
 -- the file that stands at the path
 abbrev pub file_at : Disk → List ℕ → Option File
-file_at disk path = map.get disk path
+file_at disk path = map.get disk.standing.files path
 
 -- what a read of the path gives
 abbrev pub bytes_at : Disk → List ℕ → Option (List ℕ)
 bytes_at disk path = option_map (λ file. file.bytes) (file_at disk path)
 
+-- ---- crashes
+
+-- what a crash may leave at the path
+abbrev pub outcome_at : Standing → List ℕ → Outcome
+outcome_at standing path = unwrap_or (map.get standing.pending path) (OneOf (map.get standing.files path ∷ []))
+
+-- this is one of them
+abbrev pub Among : {X : Type 0} → List X → X → Type 0
+Among [] x = ⊥
+Among (one ∷ others) x = (x ≡ one) ⊎ Among others x
+
+abbrev pub Allows : Outcome → Option File → Type 0
+Allows (OneOf entries) entry = Among entries entry
+Allows Anything entry = ⊤
+
+-- a crash then may leave this entry at the path
+abbrev pub MayLeave : Standing → List ℕ → Option File → Type 0
+MayLeave standing path entry = Allows (outcome_at standing path) entry
+
+-- what stands at each path is among what a crash may leave there
+abbrev pub IsSound : Standing → Type 0
+IsSound standing = (path : List ℕ) → MayLeave standing path (map.get standing.files path)
+
+-- nothing is pending: a crash leaves at each path exactly what stands there
+pub record IsSettled (standing : Standing) : Type 0 where
+  pub sound : IsSound standing
+  pub alone : (path : List ℕ) (entry : Option File) → MayLeave standing path entry → entry ≡ map.get standing.files path
+
+-- at one of these moments a crash would have left this entry at the path
+abbrev pub HasLeft : List Standing → List ℕ → Option File → Type 0
+HasLeft [] path entry = ⊥
+HasLeft (standing ∷ past) path entry = MayLeave standing path entry ⊎ HasLeft past path entry
+
+-- the clock
+abbrev pub moment : Disk → ℕ
+moment disk = length disk.past
+
+-- At some moment from that one on a crash would have left this entry at the path. Inside a call it leaves what it might have
+-- left before the call, or what it may leave after it.
+abbrev pub Left : Disk → ℕ → List ℕ → Option File → Type 0
+Left disk since path entry = HasLeft (drop since disk.past) path entry ⊎ MayLeave disk.standing path entry
+
+-- a crash may leave what it might have left before, and at most this more
+abbrev pub MayLeaveMore : (List ℕ → Option File → Type 0) → Standing → Standing → Type 0
+MayLeaveMore more old new = (path : List ℕ) (entry : Option File) → MayLeave new path entry → MayLeave old path entry ⊎ more path entry
+
+-- From each moment that isn't after the old disk's on, a crash would have left what it would have left by then, and at most
+-- this more.
+pub record HasLeftMore (more : List ℕ → Option File → Type 0) (old new : Disk) : Type 0 where
+  pub later : moment old ≤ moment new
+  pub at_most : (since : ℕ) (path : List ℕ) (entry : Option File) → since ≤ moment old → Left new since path entry → Left old since path entry ⊎ more path entry
+
+-- ---- what changes
+
+-- a call leaves this, and time goes on
+abbrev pub then_stands : Disk → Standing → Disk
+then_stands disk standing = record { standing = standing; past = disk.past ++ disk.standing ∷ [] }
+
+-- the files with this at the path, a file or none
+abbrev pub with_entry : Texts File → List ℕ → Option File → Texts File
+with_entry files path None = map.remove files path
+with_entry files path (Some file) = map.insert files path file
+
+-- `to` has what stood at `from`, where nothing stands now
+abbrev pub renamed : Texts File → List ℕ → List ℕ → Texts File
+renamed files from to = with_entry (map.remove files from) to (map.get files from)
+
+-- either outcome
+abbrev pub either : Outcome → Outcome → Outcome
+either (OneOf entries) (OneOf others) = OneOf (entries ++ others)
+either (OneOf entries) Anything = Anything
+either Anything other = Anything
+
+-- a crash may leave what it might have left at the path, or this
+abbrev pub with_outcome : Standing → List ℕ → Outcome → Standing
+with_outcome standing path outcome = record standing { pending = map.insert standing.pending path (either (outcome_at standing path) outcome) }
+
+-- the path was written, and nothing is known of it after a crash
+abbrev pub open_at : Standing → List ℕ → Option File → Standing
+open_at standing path entry = record { files = with_entry standing.files path entry; pending = map.insert standing.pending path Anything }
+
+-- a crash leaves what stands at the path
+abbrev pub settled_at : Standing → List ℕ → Standing
+settled_at standing path = record standing { pending = map.remove standing.pending path }
+
+abbrev pub is_anything : Option Outcome → Bool
+is_anything (Some Anything) = true
+is_anything (Some (OneOf entries)) = false
+is_anything None = false
+
+-- what a crash may leave where the file at the path is put: that file, or anything where it isn't synced
+abbrev pub moved_outcome : Standing → List ℕ → Outcome
+moved_outcome standing path = if is_anything (map.get standing.pending path) then Anything else OneOf (map.get standing.files path ∷ [])
+
+-- a crash may leave at `to` the file at `from` too, and at `from` none too
+abbrev pub with_rename : Standing → List ℕ → List ℕ → Standing
+with_rename standing from to = with_outcome (with_outcome standing to (moved_outcome standing from)) from (OneOf (None ∷ []))
+
+-- a crash may leave none at the path too
+abbrev pub with_removal : Standing → List ℕ → Standing
+with_removal standing path = with_outcome standing path (OneOf (None ∷ []))
+
+-- a crash leaves what stands at each path where it doesn't leave anything
+abbrev pub names_settled : Standing → Standing
+names_settled standing = record standing { pending = map.retain_keys standing.pending (λ path. is_anything (map.get standing.pending path)) }
+
+-- ---- codes
+
 -- a file is stored as the pair of its bytes and its mode
 abbrev pub file_code : Coded File
 file_code = code_by (List ℕ × ℕ) (coded× (coded_list coded_ℕ) coded_ℕ) (λ f. (f.bytes, f.mode)) (λ p. record { bytes = p.0; mode = p.1 }) (λ _. refl)
 
+abbrev pub entries_in : Outcome → Option (List (Option File))
+entries_in (OneOf entries) = Some entries
+entries_in Anything = None
+
+abbrev pub outcome_of : Option (List (Option File)) → Outcome
+outcome_of (Some entries) = OneOf entries
+outcome_of None = Anything
+
+pub outcome_back : (outcome : Outcome) → outcome_of (entries_in outcome) ≡ outcome
+outcome_back (OneOf entries) = refl
+outcome_back Anything = refl
+
+-- an outcome is stored as its entries, or none
+abbrev pub outcome_code : Coded Outcome
+outcome_code = code_by (Option (List (Option File))) (coded_option (coded_list (coded_option file_code))) entries_in outcome_of outcome_back
+
+abbrev pub standing_code : Coded Standing
+standing_code = code_by (Texts File × Texts Outcome) (coded× (map.code (coded_list coded_ℕ) file_code) (map.code (coded_list coded_ℕ) outcome_code)) (λ s. (s.files, s.pending)) (λ p. record { files = p.0; pending = p.1 }) (λ _. refl)
+
 abbrev pub disk_code : Coded Disk
-disk_code = map.code (coded_list coded_ℕ) file_code
-
--- ---- what changes
-
--- the disk with this at the path, a file or none
-abbrev pub with_entry : Disk → List ℕ → Option File → Disk
-with_entry disk path None = map.remove disk path
-with_entry disk path (Some file) = map.insert disk path file
-
--- `to` has what stood at `from`, where nothing stands now
-abbrev pub renamed : Disk → List ℕ → List ℕ → Disk
-renamed disk from to = with_entry (map.remove disk from) to (file_at disk from)
-
--- every other path has what it had
-abbrev pub AreSameBut : List ℕ → Disk → Disk → Type 0
-AreSameBut path old new = (other : List ℕ) → other ≢ path → file_at new other ≡ file_at old other
-
--- a write leaves the file at the path. After `Failed` anything or nothing may stand there
-abbrev pub Writes : {T : Type 0} → Option Disk → Option Disk → List ℕ → File → Result T FilesError → Type 0
-Writes old new path file (Ok done) = new ≡ option_map (λ disk. map.insert disk path file) old
-Writes old new path file (Err Failed) = (left : Option File) × (new ≡ option_map (λ disk. with_entry disk path left) old)
-Writes old new path file (Err OutOfMemory) = new ≡ old
-
--- after `Failed` the rename was done or not
-abbrev pub Renames : {T : Type 0} → Option Disk → Option Disk → List ℕ → List ℕ → Result T FilesError → Type 0
-Renames old new from to (Ok done) = new ≡ option_map (λ disk. renamed disk from to) old
-Renames old new from to (Err Failed) = (new ≡ old) ⊎ (new ≡ option_map (λ disk. renamed disk from to) old)
-Renames old new from to (Err OutOfMemory) = new ≡ old
-
--- after `Failed` the entry was taken away or not
-abbrev pub Removes : {T : Type 0} → Option Disk → Option Disk → List ℕ → Result T FilesError → Type 0
-Removes old new path (Ok done) = new ≡ option_map (λ disk. map.remove disk path) old
-Removes old new path (Err Failed) = (new ≡ old) ⊎ (new ≡ option_map (λ disk. map.remove disk path) old)
-Removes old new path (Err OutOfMemory) = new ≡ old
+disk_code = code_by (Standing × List Standing) (coded× standing_code (coded_list standing_code)) (λ d. (d.standing, d.past)) (λ p. record { standing = p.0; past = p.1 }) (λ _. refl)
 
 -- ---- folders
 
@@ -78,4 +181,4 @@ after_front (byte ∷ front) (other ∷ text) = if byte == other then after_fron
 
 -- the paths of all files at any depth below the folder, without its own and the slash, in byte order
 abbrev pub paths_below : Disk → List ℕ → List (List ℕ)
-paths_below disk folder = filter_map (after_front (folder ++ slash ∷ [])) (map.keys disk)
+paths_below disk folder = filter_map (after_front (folder ++ slash ∷ [])) (map.keys disk.standing.files)

@@ -1,15 +1,19 @@
 -- What a link in memory and files in memory are seen as.
-use Rattle.std.specs.Prelude.{◌≡◌, ℕ, ◌+◌, ◌-◌, ◌^◌, min, max, Bool, true, false, List, [], ◌∷◌, nat_eq, ⊤, reverse, map as each, Result, Ok, Err}
+use Rattle.std.specs.Prelude.{◌≡◌, ℕ, ◌+◌, ◌-◌, ◌^◌, min, max, Bool, true, false, List, [], ◌∷◌, ◌++◌, ◌||◌, length, nat_eq, nat_le, ⊤, reverse, map as each, Option, Some, Result, Ok, Err}
 use Rattle.std.specs.List.{list_any}
+use Rattle.std.specs.Option.{option_map_or}
 use Rattle.std.specs.FinMap as map
 use Rattle.dc_outside.specs.declared.link.Piece.{Piece}
 use Rattle.dc_outside.specs.declared.link.Piece.TheVariants.{Sent, Cut}
 use Rattle.dc_outside.specs.declared.link.LinkError.{LinkError}
 use Rattle.dc_outside.specs.declared.link.LinkError.TheVariants.{Failed, OutOfMemory}
+use Rattle.dc_outside.specs.declared.files.FilesOp.{FilesOp}
 use Rattle.dc_outside.specs.declared.files.FilesCall.{FilesCall}
 use Rattle.dc_outside.specs.declared.files.FilesError.{FilesError}
 use Rattle.dc_outside.specs.declared.files.FilesError.TheVariants.{Failed as FilesFailed, OutOfMemory as FilesRefused}
-use Rattle.dc_outside.specs.Disk.{Disk}
+use Rattle.dc_text.specs.Maps.{Texts}
+use Rattle.dc_outside.specs.Disk.{Disk, File}
+use Rattle.dc_outside.specs.Told.{Told, Counts}
 
 pub record LinkState : Type 0 where
   pub talk : List Piece
@@ -51,21 +55,42 @@ write_pieces (Err OutOfMemory) bytes = []
 
 pub record FilesState : Type 0 where
   pub disk : Disk
-  -- the numbers of the calls that fail. A call's number is its place in `calls`
+  -- the numbers of the calls that fail, and the number from which on each does. A call's number is its place in `calls`
   pub failing : List ℕ
+  pub stopped : Option ℕ
   pub calls : List FilesCall
   pub faults : ℕ
   pub refusals : ℕ
+
+abbrev pub told_by : FilesState → Told
+told_by files = record { disk = Some files.disk; calls = Some files.calls }
+
+abbrev pub counted_by : FilesState → Counts
+counted_by files = record { faults = files.faults; refusals = files.refusals }
+
+-- whether the next call is one that is to fail
+abbrev pub fails_next : FilesState → Bool
+fails_next files = option_map_or (λ first. nat_le first (length files.calls)) files.stopped false || is_among files.failing (length files.calls)
 
 abbrev pub FilesFailsWhere : {T : Type 0} → Bool → Result T FilesError → Type 0
 FilesFailsWhere fails (Ok value) = fails ≡ false
 FilesFailsWhere fails (Err FilesFailed) = fails ≡ true
 FilesFailsWhere fails (Err FilesRefused) = ⊤
 
+-- a call that is refused for want of memory isn't kept
+abbrev pub IsLogged : {T : Type 0} → FilesOp → List ℕ → List FilesCall → List FilesCall → Result T FilesError → Type 0
+IsLogged op path old new (Ok value) = new ≡ old ++ record { op = op; path = path; ok = true } ∷ []
+IsLogged op path old new (Err FilesFailed) = new ≡ old ++ record { op = op; path = path; ok = false } ∷ []
+IsLogged op path old new (Err FilesRefused) = new ≡ old
+
 -- the mode of the files that are there from the start, 644
 abbrev pub plain_mode : ℕ
 plain_mode = 420
 
 -- the files of a list of paths and bytes, where a later entry of a path takes the place of an earlier one
-abbrev pub files_of : List (List ℕ × List ℕ) → Disk
-files_of entries = map.from_entries (reverse (each (λ entry. (entry.0, record { bytes = entry.1; mode = plain_mode })) entries))
+abbrev pub files_from : List (List ℕ × List ℕ) → Texts File
+files_from entries = map.from_entries (reverse (each (λ entry. (entry.0, record { bytes = entry.1; mode = plain_mode })) entries))
+
+-- these files, of which no call was made yet
+abbrev pub fresh : Texts File → List ℕ → Option ℕ → FilesState
+fresh files failing stopped = record { disk = record { standing = record { files = files; pending = map.empty }; past = [] }; failing = failing; stopped = stopped; calls = []; faults = 0; refusals = 0 }

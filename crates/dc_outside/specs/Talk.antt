@@ -7,8 +7,8 @@ use Rattle.dc_outside.specs.declared.link.LinkError.{LinkError}
 use Rattle.dc_outside.specs.declared.link.LinkError.TheVariants.{Failed, OutOfMemory}
 
 -- what is told of the talk, and then these pieces
-abbrev pub told : Option (List Piece) → List Piece → Option (List Piece)
-told talk pieces = option_map (λ before. before ++ pieces) talk
+abbrev pub then_pieces : Option (List Piece) → List Piece → Option (List Piece)
+then_pieces talk pieces = option_map (λ before. before ++ pieces) talk
 
 -- the bytes that came
 abbrev pub got : List Piece → List ℕ
@@ -42,8 +42,8 @@ read_pieces (Err OutOfMemory) buf = []
 
 -- what a write of the bytes adds to the talk
 abbrev pub AddsWrite : {T : Type 0} → Option (List Piece) → Option (List Piece) → Result T LinkError → List ℕ → Type 0
-AddsWrite old new (Ok done) bytes = new ≡ told old (Sent bytes ∷ [])
-AddsWrite old new (Err Failed) bytes = (front : List ℕ) × (back : List ℕ) × (bytes ≡ front ++ back) × (new ≡ told old (Cut front ∷ []))
+AddsWrite old new (Ok done) bytes = new ≡ then_pieces old (Sent bytes ∷ [])
+AddsWrite old new (Err Failed) bytes = (front : List ℕ) × (back : List ℕ) × (bytes ≡ front ++ back) × (new ≡ then_pieces old (Cut front ∷ []))
 AddsWrite old new (Err OutOfMemory) bytes = new ≡ old
 
 -- no byte comes only at the end of the input

@@ -1,11 +1,15 @@
 //! The outside, as the program sees it: links that bytes come and go on, and files.
 #![tactic(auto)]
 
+pub mod crashing;
 pub mod files;
+pub mod laws;
 pub mod link;
 pub mod memory_files;
 pub mod memory_link;
+mod standing;
 
+pub use crashing::Pick;
 pub use files::{Files, FilesCall, FilesError, FilesOp};
 pub use link::{Link, LinkError, Piece};
 pub use memory_files::MemFiles;

@@ -2,7 +2,7 @@
 ghost use Rattle.std.specs.Prelude.{◌≡◌, ◌<◌, ◌≤◌, List, ℕ, Option, length, IfOk};
 ghost use Rattle.std.specs.Io.KnownBytes.{prepend_known};
 ghost use Rattle.dc_outside.specs.declared.link.Piece.{Piece};
-ghost use Rattle.dc_outside.specs.Talk.{told, got, read_pieces, AddsWrite, EndsAtNone};
+ghost use Rattle.dc_outside.specs.Talk.{then_pieces, got, read_pieces, AddsWrite, EndsAtNone};
 ghost use Rattle.dc_outside.specs.Counts.{CountsFaults, CountsRefusals};
 
 use dc_text::{OutOfMemory, Text};
@@ -52,7 +52,7 @@ pub trait Link {
     fn read_some(&mut self, buf: &mut [u8]) -> Result<usize, LinkError>
         requires { 0 < length buf.old }
         ensures bound { IfOk result (λ count. count ≤ length buf.new) }
-        ensures talk { talk self.new ≡ told (talk self.old) (read_pieces result buf.new) }
+        ensures talk { talk self.new ≡ then_pieces (talk self.old) (read_pieces result buf.new) }
         ensures input { left self.old ≡ prepend_known (got (read_pieces result buf.new)) (left self.new) }
         ensures end { EndsAtNone result (left self.new) }
         ensures faults { CountsFaults (faults self.old) (faults self.new) result }

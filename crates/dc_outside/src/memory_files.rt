@@ -1,38 +1,30 @@
-// Files in memory: what they hold is known, their faults are chosen, and they keep their calls.
-ghost use Rattle.std.specs.Prelude.{◌≡◌, ◌↔◌, ◌∷◌, ◌++◌, ◌||◌, [], true, length, IsTrue, IfOk, OnErr, OnOk, Some, option_map, is_ok, is_none, if◌then◌else◌};
+// Files in memory: what they hold is known, their faults are chosen, and they keep their calls and all that stood before.
+ghost use Rattle.std.specs.Prelude.{◌≡◌, ℕ, List, ◌∷◌, ◌++◌, ◌||◌, [], true, length, IfOk, OnErr, OnOk, Some, option_map, is_none};
 ghost use Rattle.std.specs.Option.{option_copied};
 ghost use Rattle.std.specs.FinMap as map;
-ghost use Rattle.dc_outside.specs.Disk.{File, file_at, bytes_at, renamed, after_front, paths_below, Writes, Renames, Removes};
-ghost use Rattle.dc_outside.specs.Calls.{logged};
-ghost use Rattle.dc_outside.specs.Counts.{CountsFilesFaults, CountsFilesRefusals};
-ghost use Rattle.dc_outside.specs.Memory.{files_of, is_among, FilesFailsWhere};
+ghost use Rattle.dc_outside.specs.Disk.{file_at, bytes_at, after_front, paths_below, then_stands};
+ghost use Rattle.dc_outside.specs.Crash.{IsLeftBy};
+ghost use Rattle.dc_outside.specs.Steps.{Looks, Takes, Writing, Syncing, Renaming, SyncingNames, Removing, done, call_of};
+ghost use Rattle.dc_outside.specs.Counts.{Counted};
+ghost use Rattle.dc_outside.specs.Memory.{files_from, fresh, fails_next, told_by, counted_by, FilesFailsWhere, IsLogged};
 
+use crate::crashing::{Pick, left_files};
+use crate::standing::{Standing, Stored};
 use crate::{Files, FilesCall, FilesError, FilesOp};
-use dc_text::{List, Mem, Text, TextMap};
+use dc_text::{Copied, List, Mem, Text, TextMap};
 use std::alloc::Global;
 use std::marker::Model;
 
 const PLAIN_MODE: u16 = 0o644;
 
 #[derive(Drop)]
-struct Stored {
-    bytes: Text,
-    mode: u16,
-}
-
-impl Model for Stored {
-    ghost use Rattle.dc_outside.specs.Disk.{File};
-
-    ghost Value = { File };
-
-    ghost view = { λ s. record { bytes = s.bytes; mode = s.mode } };
-}
-
-#[derive(Drop)]
 pub struct MemFiles {
     alloc: Global,
-    files: TextMap<Stored>,
+    standing: Standing,
+    past: List<Standing>,
     failing: Vec<u64>,
+    // The number of a call from which on each fails.
+    stopped: Option<u64>,
     calls: List<FilesCall>,
     faults: u64,
     refusals: u64,
@@ -47,23 +39,42 @@ impl Model for MemFiles {
 
     ghost coded = { Prim.hlevel (codes, disk_code) };
 
-    ghost view = { λ m. record { disk = m.files; failing = m.failing.items; calls = m.calls; faults = m.faults; refusals = m.refusals } };
+    ghost view = { λ m. record { disk = record { standing = m.standing; past = m.past }; failing = m.failing.items; stopped = m.stopped; calls = m.calls; faults = m.faults; refusals = m.refusals } };
 }
 
 impl MemFiles {
-    /// Files with these paths and bytes, of mode 644. A later entry of a path takes the place of an earlier one. Calls
-    /// are numbered from 0, and those in `failing` fail, with nothing done.
+    /// Files with these paths and bytes, of mode 644, on which nothing is pending. A later entry of a path takes the
+    /// place of an earlier one. Calls are numbered from 0, and those in `failing` fail, with nothing done.
     pub fn new(alloc: Global, entries: &[(Text, Text)], failing: &[u64]) -> Mem<MemFiles>
-        ensures disk { IfOk result (λ files. files.disk ≡ files_of entries.now) }
-        ensures failing { IfOk result (λ files. files.failing ≡ failing.now) }
-        ensures calls { IfOk result (λ files. files.calls ≡ []) }
-        ensures faults { IfOk result (λ files. files.faults ≡ 0) }
-        ensures refusals { IfOk result (λ files. files.refusals ≡ 0) }
+        ensures { IfOk result (λ files. files ≡ fresh (files_from entries.now) failing.now None) }
+    {
+        MemFiles::made(alloc, stored_files(alloc, entries)?, failing, None)
+    }
+
+    /// The same over these entries, but the call of that number and every later one fail, with nothing done.
+    pub fn stopped_from(alloc: Global, entries: &[(Text, Text)], first: u64) -> Mem<MemFiles>
+        ensures { IfOk result (λ files. files ≡ fresh (files_from entries.now) [] (Some first)) }
+    {
+        MemFiles::made(alloc, stored_files(alloc, entries)?, &[], Some(first))
+    }
+
+    fn made(
+        alloc: Global,
+        files: TextMap<Stored>,
+        failing: &[u64],
+        stopped: Option<u64>,
+    ) -> Mem<MemFiles>
+        ensures { IfOk result (λ new. new ≡ fresh files failing.now stopped) }
     {
         Ok(MemFiles {
             alloc,
-            files: stored_files(alloc, entries)?,
+            standing: Standing {
+                files,
+                pending: TextMap::new(alloc),
+            },
+            past: List::new(alloc),
             failing: failing.to_vec(alloc)?,
+            stopped,
             calls: List::new(alloc),
             faults: 0,
             refusals: 0,
@@ -81,17 +92,31 @@ impl MemFiles {
     pub fn mode(&self, path: &Text) -> Option<u16>
         ensures { result ≡ option_map (λ file. file.mode) (file_at self.now.disk path.now) }
     {
-        match self.files.get(path.bytes()) {
+        match self.standing.files.get(path.bytes()) {
             Some(file) => Some(file.mode),
             None => None,
         }
     }
 
+    /// The files after a crash now, on which nothing is pending. No call fails then.
+    pub fn after_crash(&self, pick: Pick) -> Mem<MemFiles>
+        ensures fresh { IfOk result (λ files. files ≡ fresh files.disk.standing.files [] None) }
+        ensures left { IfOk result (λ files. (path : List ℕ) → IsLeftBy pick self.now.disk path (file_at files.disk path)) }
+    {
+        let files = left_files(self.alloc, pick, &self.standing, self.past.as_slice())?;
+        MemFiles::made(self.alloc, files, &[], None)
+    }
+
     // Whether the next call is one that fails.
     fn is_failing(&self) -> bool
-        ensures { result ≡ is_among self.now.failing (length self.now.calls) }
+        ensures { result ≡ fails_next self.now }
     {
-        self.failing.contains(&(self.calls.len() as u64))
+        let number = self.calls.len() as u64;
+        let stopped = match self.stopped {
+            Some(first) => first <= number,
+            None => false,
+        };
+        stopped || self.failing.contains(&number)
     }
 
     // Keeps a call.
@@ -105,9 +130,9 @@ impl MemFiles {
 
     // Fails a call that is one to fail.
     fn begin(&mut self, op: FilesOp, path: &Text) -> Result<(), FilesError>
-        ensures fails { FilesFailsWhere (is_among self.old.failing (length self.old.calls)) result }
+        ensures fails { FilesFailsWhere (fails_next self.old) result }
         ensures ok { OnOk result (self.new ≡ self.old) }
-        ensures calls { OnErr result (Some self.new.calls ≡ logged (Some self.old.calls) op path.now result) }
+        ensures calls { OnErr result (IsLogged op path.now self.old.calls self.new.calls result) }
         ensures rest { self.new ≡ record self.old { calls = self.new.calls } }
     {
         if self.is_failing() {
@@ -121,8 +146,7 @@ impl MemFiles {
     fn count<T>(&mut self, answer: Result<T, FilesError>) -> Result<T, FilesError>
         ensures answer { result ≡ answer }
         ensures rest { self.new ≡ record self.old { faults = self.new.faults; refusals = self.new.refusals } }
-        ensures faults { CountsFilesFaults self.old.faults self.new.faults result }
-        ensures refusals { CountsFilesRefusals self.old.refusals self.new.refusals result }
+        ensures counts { Counted (counted_by self.old) (counted_by self.new) result }
     {
         match &answer {
             Ok(_) => {}
@@ -136,7 +160,7 @@ impl MemFiles {
     fn bytes_at(&self, path: &Text) -> Mem<Option<Text>>
         ensures { IfOk result (λ found. found ≡ bytes_at self.now.disk path.now) }
     {
-        match self.files.get(path.bytes()) {
+        match self.standing.files.get(path.bytes()) {
             Some(file) => Ok(Some(file.bytes.copy()?)),
             None => Ok(None),
         }
@@ -146,11 +170,8 @@ impl MemFiles {
     fn file_at(&self, path: &Text) -> Mem<Option<Stored>>
         ensures { IfOk result (λ found. found ≡ file_at self.now.disk path.now) }
     {
-        match self.files.get(path.bytes()) {
-            Some(file) => Ok(Some(Stored {
-                bytes: file.bytes.copy()?,
-                mode: file.mode,
-            })),
+        match self.standing.files.get(path.bytes()) {
+            Some(file) => Ok(Some(file.copied()?)),
             None => Ok(None),
         }
     }
@@ -162,7 +183,7 @@ impl MemFiles {
         let mut front = dir.copy()?;
         front.push(b'/')?;
         let mut found = List::new(self.alloc);
-        for (path, _) in self.files.iter() {
+        for (path, _) in self.standing.files.iter() {
             if let Some(rest) = after_front(path, front.bytes()) {
                 found.push(Text::from_bytes(self.alloc, rest)?)?;
             }
@@ -170,29 +191,31 @@ impl MemFiles {
         Ok(found)
     }
 
-    // Keeps a call that was done, and the file that it leaves.
-    fn store(&mut self, op: FilesOp, path: &Text, file: Stored) -> Mem<()>
-        ensures ok { OnOk result (self.new ≡ record self.old { disk = map.insert self.old.disk path.now file; calls = self.old.calls ++ record { op = op; path = path.now; ok = true } ∷ [] }) }
+    // Keeps a call that was done, and what stands after it.
+    fn stand(&mut self, op: FilesOp, path: &Text, standing: Standing) -> Mem<()>
+        ensures ok { OnOk result (self.new ≡ record self.old { disk = then_stands self.old.disk standing; calls = self.old.calls ++ record { op = op; path = path.now; ok = true } ∷ [] }) }
         ensures err { OnErr result (self.new ≡ self.old) }
     {
-        let place = path.copy()?;
+        let before = self.standing.copy()?;
         self.log(op, path, true)?;
-        match self.files.insert(place, file) {
-            Ok(()) => Ok(()),
+        match self.past.push(before) {
+            Ok(()) => {}
             Err(error) => {
                 let _ = self.calls.pop();
-                Err(error)
+                return Err(error);
             }
         }
+        self.standing = standing;
+        Ok(())
     }
 }
 
-// What the call adds to the calls, and to nothing else. `count` adds to the counts.
+// What the call adds to the calls and the disk, and to nothing else. `count` adds to the counts.
 impl MemFiles {
     fn read_call(&mut self, path: &Text) -> Result<Option<Text>, FilesError>
         ensures value { IfOk result (λ found. found ≡ bytes_at self.old.disk path.now) }
-        ensures fails { FilesFailsWhere (is_among self.old.failing (length self.old.calls)) result }
-        ensures calls { Some self.new.calls ≡ logged (Some self.old.calls) FilesOp.Read path.now result }
+        ensures fails { FilesFailsWhere (fails_next self.old) result }
+        ensures calls { IsLogged FilesOp.Read path.now self.old.calls self.new.calls result }
         ensures rest { self.new ≡ record self.old { calls = self.new.calls } }
     {
         self.begin(FilesOp::Read, path)?;
@@ -203,8 +226,8 @@ impl MemFiles {
 
     fn list_call(&mut self, dir: &Text) -> Result<List<Text>, FilesError>
         ensures value { IfOk result (λ found. found ≡ paths_below self.old.disk dir.now) }
-        ensures fails { FilesFailsWhere (is_among self.old.failing (length self.old.calls)) result }
-        ensures calls { Some self.new.calls ≡ logged (Some self.old.calls) FilesOp.List dir.now result }
+        ensures fails { FilesFailsWhere (fails_next self.old) result }
+        ensures calls { IsLogged FilesOp.List dir.now self.old.calls self.new.calls result }
         ensures rest { self.new ≡ record self.old { calls = self.new.calls } }
     {
         self.begin(FilesOp::List, dir)?;
@@ -214,64 +237,78 @@ impl MemFiles {
     }
 
     fn write_call(&mut self, path: &Text, bytes: &[u8], mode: u16) -> Result<(), FilesError>
-        ensures disk { self.new.disk ≡ (if is_ok result then map.insert self.old.disk path.now (record { bytes = bytes.now; mode = mode }) else self.old.disk) }
-        ensures fails { FilesFailsWhere (is_among self.old.failing (length self.old.calls)) result }
-        ensures calls { Some self.new.calls ≡ logged (Some self.old.calls) FilesOp.Write path.now result }
-        ensures rest { self.new ≡ record self.old { disk = self.new.disk; calls = self.new.calls } }
+        ensures fails { FilesFailsWhere (fails_next self.old) result }
+        ensures ok { OnOk result (self.new ≡ record self.old { disk = then_stands self.old.disk (done (Writing path.now (record { bytes = bytes.now; mode = mode })) self.old.disk.standing); calls = self.old.calls ++ call_of true (Writing path.now (record { bytes = bytes.now; mode = mode })) ∷ [] }) }
+        ensures calls { OnErr result (IsLogged FilesOp.Write path.now self.old.calls self.new.calls result) }
+        ensures err { OnErr result (self.new ≡ record self.old { calls = self.new.calls }) }
     {
         self.begin(FilesOp::Write, path)?;
         let bytes = Text::from_bytes(self.alloc, bytes)?;
-        self.store(FilesOp::Write, path, Stored { bytes, mode })?;
+        let now = self.standing.copy()?;
+        let standing = now.written(self.alloc, path, Stored { bytes, mode })?;
+        self.stand(FilesOp::Write, path, standing)?;
         Ok(())
     }
 
-    fn sync_call(&mut self, op: FilesOp, path: &Text) -> Result<(), FilesError>
-        ensures fails { FilesFailsWhere (is_among self.old.failing (length self.old.calls)) result }
-        ensures calls { Some self.new.calls ≡ logged (Some self.old.calls) op path.now result }
-        ensures rest { self.new ≡ record self.old { calls = self.new.calls } }
+    fn sync_call(&mut self, path: &Text) -> Result<(), FilesError>
+        ensures fails { FilesFailsWhere (fails_next self.old) result }
+        ensures ok { OnOk result (self.new ≡ record self.old { disk = then_stands self.old.disk (done (Syncing path.now) self.old.disk.standing); calls = self.old.calls ++ call_of true (Syncing path.now) ∷ [] }) }
+        ensures calls { OnErr result (IsLogged FilesOp.Sync path.now self.old.calls self.new.calls result) }
+        ensures err { OnErr result (self.new ≡ record self.old { calls = self.new.calls }) }
     {
-        self.begin(op, path)?;
-        self.log(op, path, true)?;
+        self.begin(FilesOp::Sync, path)?;
+        let standing = self.standing.copy()?.synced(path);
+        self.stand(FilesOp::Sync, path, standing)?;
         Ok(())
     }
 
     fn rename_call(&mut self, from: &Text, to: &Text) -> Result<(), FilesError>
-        ensures disk { self.new.disk ≡ (if is_ok result then renamed self.old.disk from.now to.now else self.old.disk) }
-        ensures fails { FilesFailsWhere (is_among self.old.failing (length self.old.calls) || is_none (file_at self.old.disk from.now)) result }
-        ensures calls { Some self.new.calls ≡ logged (Some self.old.calls) FilesOp.Rename to.now result }
-        ensures rest { self.new ≡ record self.old { disk = self.new.disk; calls = self.new.calls } }
+        ensures fails { FilesFailsWhere (fails_next self.old || is_none (file_at self.old.disk from.now)) result }
+        ensures ok { OnOk result (self.new ≡ record self.old { disk = then_stands self.old.disk (done (Renaming from.now to.now) self.old.disk.standing); calls = self.old.calls ++ call_of true (Renaming from.now to.now) ∷ [] }) }
+        ensures calls { OnErr result (IsLogged FilesOp.Rename to.now self.old.calls self.new.calls result) }
+        ensures err { OnErr result (self.new ≡ record self.old { calls = self.new.calls }) }
     {
         self.begin(FilesOp::Rename, to)?;
         match self.file_at(from)? {
-            Some(file) => self.store(FilesOp::Rename, to, file)?,
+            Some(file) => {
+                let now = self.standing.copy()?;
+                let standing = now.renamed(self.alloc, from, to, file)?;
+                self.stand(FilesOp::Rename, to, standing)?;
+                Ok(())
+            }
             None => {
                 self.log(FilesOp::Rename, to, false)?;
-                return Err(FilesError::Failed);
+                Err(FilesError::Failed)
             }
         }
-        if !are_equal(from, to) {
-            self.files.remove(from.bytes());
-        }
+    }
+
+    fn sync_names_call(&mut self, no_path: &Text) -> Result<(), FilesError>
+        requires { no_path.now ≡ [] }
+        ensures fails { FilesFailsWhere (fails_next self.old) result }
+        ensures ok { OnOk result (self.new ≡ record self.old { disk = then_stands self.old.disk (done (SyncingNames) self.old.disk.standing); calls = self.old.calls ++ call_of true (SyncingNames) ∷ [] }) }
+        ensures calls { OnErr result (IsLogged FilesOp.SyncNames no_path.now self.old.calls self.new.calls result) }
+        ensures err { OnErr result (self.new ≡ record self.old { calls = self.new.calls }) }
+    {
+        self.begin(FilesOp::SyncNames, no_path)?;
+        let now = self.standing.copy()?;
+        let standing = now.names_synced(self.alloc)?;
+        self.stand(FilesOp::SyncNames, no_path, standing)?;
         Ok(())
     }
 
     fn remove_call(&mut self, path: &Text) -> Result<(), FilesError>
-        ensures disk { self.new.disk ≡ (if is_ok result then map.remove self.old.disk path.now else self.old.disk) }
-        ensures fails { FilesFailsWhere (is_among self.old.failing (length self.old.calls)) result }
-        ensures calls { Some self.new.calls ≡ logged (Some self.old.calls) FilesOp.Remove path.now result }
-        ensures rest { self.new ≡ record self.old { disk = self.new.disk; calls = self.new.calls } }
+        ensures fails { FilesFailsWhere (fails_next self.old) result }
+        ensures ok { OnOk result (self.new ≡ record self.old { disk = then_stands self.old.disk (done (Removing path.now) self.old.disk.standing); calls = self.old.calls ++ call_of true (Removing path.now) ∷ [] }) }
+        ensures calls { OnErr result (IsLogged FilesOp.Remove path.now self.old.calls self.new.calls result) }
+        ensures err { OnErr result (self.new ≡ record self.old { calls = self.new.calls }) }
     {
         self.begin(FilesOp::Remove, path)?;
-        self.log(FilesOp::Remove, path, true)?;
-        self.files.remove(path.bytes());
+        let now = self.standing.copy()?;
+        let standing = now.removed(self.alloc, path)?;
+        self.stand(FilesOp::Remove, path, standing)?;
         Ok(())
     }
-}
-
-fn are_equal(one: &Text, other: &Text) -> bool
-    ensures { IsTrue result ↔ (one.now ≡ other.now) }
-{
-    one.bytes() == other.bytes()
 }
 
 // What follows the front in the text.
@@ -283,7 +320,7 @@ fn after_front<'a>(text: &'a [u8], front: &[u8]) -> Option<&'a [u8]>
 
 // The files of the entries.
 fn stored_files(alloc: Global, entries: &[(Text, Text)]) -> Mem<TextMap<Stored>>
-    ensures { IfOk result (λ files. files ≡ files_of entries.now) }
+    ensures { IfOk result (λ files. files ≡ files_from entries.now) }
 {
     let mut files = TextMap::new(alloc);
     for (path, bytes) in entries {
@@ -300,23 +337,17 @@ fn stored_files(alloc: Global, entries: &[(Text, Text)]) -> Mem<TextMap<Stored>>
 }
 
 impl Files for MemFiles {
-    ghost disk = { λ m. Some m.disk };
+    ghost told = { told_by };
 
-    ghost calls = { λ m. Some m.calls };
-
-    ghost faults = { λ m. m.faults };
-
-    ghost refusals = { λ m. m.refusals };
+    ghost counts = { counted_by };
 
     fn read(&mut self, path: &Text) -> Result<Option<Text>, FilesError>
         ensures value { IfOk result (λ found. found ≡ bytes_at self.old.disk path.now) }
-        ensures disk { Some self.new.disk ≡ Some self.old.disk }
-        ensures calls { Some self.new.calls ≡ logged (Some self.old.calls) FilesOp.Read path.now result }
-        ensures faults { CountsFilesFaults self.old.faults self.new.faults result }
-        ensures refusals { CountsFilesRefusals self.old.refusals self.new.refusals result }
+        ensures told { Looks FilesOp.Read path.now (told_by self.old) (told_by self.new) result }
+        ensures counts { Counted (counted_by self.old) (counted_by self.new) result }
 
-        ensures fails { FilesFailsWhere (is_among self.old.failing (length self.old.calls)) result }
-        ensures failing { self.new.failing ≡ self.old.failing }
+        ensures fails { FilesFailsWhere (fails_next self.old) result }
+        ensures failing { (self.new.failing ≡ self.old.failing) × (self.new.stopped ≡ self.old.stopped) }
     {
         let answer = self.read_call(path);
         self.count(answer)
@@ -324,26 +355,22 @@ impl Files for MemFiles {
 
     fn list(&mut self, dir: &Text) -> Result<List<Text>, FilesError>
         ensures value { IfOk result (λ found. found ≡ paths_below self.old.disk dir.now) }
-        ensures disk { Some self.new.disk ≡ Some self.old.disk }
-        ensures calls { Some self.new.calls ≡ logged (Some self.old.calls) FilesOp.List dir.now result }
-        ensures faults { CountsFilesFaults self.old.faults self.new.faults result }
-        ensures refusals { CountsFilesRefusals self.old.refusals self.new.refusals result }
+        ensures told { Looks FilesOp.List dir.now (told_by self.old) (told_by self.new) result }
+        ensures counts { Counted (counted_by self.old) (counted_by self.new) result }
 
-        ensures fails { FilesFailsWhere (is_among self.old.failing (length self.old.calls)) result }
-        ensures failing { self.new.failing ≡ self.old.failing }
+        ensures fails { FilesFailsWhere (fails_next self.old) result }
+        ensures failing { (self.new.failing ≡ self.old.failing) × (self.new.stopped ≡ self.old.stopped) }
     {
         let answer = self.list_call(dir);
         self.count(answer)
     }
 
     fn write(&mut self, path: &Text, bytes: &[u8], mode: u16) -> Result<(), FilesError>
-        ensures disk { Writes (Some self.old.disk) (Some self.new.disk) path.now (record { bytes = bytes.now; mode = mode }) result }
-        ensures calls { Some self.new.calls ≡ logged (Some self.old.calls) FilesOp.Write path.now result }
-        ensures faults { CountsFilesFaults self.old.faults self.new.faults result }
-        ensures refusals { CountsFilesRefusals self.old.refusals self.new.refusals result }
+        ensures told { Takes (Writing path.now (record { bytes = bytes.now; mode = mode })) (told_by self.old) (told_by self.new) result }
+        ensures counts { Counted (counted_by self.old) (counted_by self.new) result }
 
-        ensures fails { FilesFailsWhere (is_among self.old.failing (length self.old.calls)) result }
-        ensures failing { self.new.failing ≡ self.old.failing }
+        ensures fails { FilesFailsWhere (fails_next self.old) result }
+        ensures failing { (self.new.failing ≡ self.old.failing) × (self.new.stopped ≡ self.old.stopped) }
         ensures err { OnErr result (self.new.disk ≡ self.old.disk) }
     {
         let answer = self.write_call(path, bytes, mode);
@@ -351,27 +378,24 @@ impl Files for MemFiles {
     }
 
     fn sync(&mut self, path: &Text) -> Result<(), FilesError>
-        ensures disk { Some self.new.disk ≡ Some self.old.disk }
-        ensures calls { Some self.new.calls ≡ logged (Some self.old.calls) FilesOp.Sync path.now result }
-        ensures faults { CountsFilesFaults self.old.faults self.new.faults result }
-        ensures refusals { CountsFilesRefusals self.old.refusals self.new.refusals result }
+        ensures told { Takes (Syncing path.now) (told_by self.old) (told_by self.new) result }
+        ensures counts { Counted (counted_by self.old) (counted_by self.new) result }
 
-        ensures fails { FilesFailsWhere (is_among self.old.failing (length self.old.calls)) result }
-        ensures failing { self.new.failing ≡ self.old.failing }
+        ensures fails { FilesFailsWhere (fails_next self.old) result }
+        ensures failing { (self.new.failing ≡ self.old.failing) × (self.new.stopped ≡ self.old.stopped) }
+        ensures err { OnErr result (self.new.disk ≡ self.old.disk) }
     {
-        let answer = self.sync_call(FilesOp::Sync, path);
+        let answer = self.sync_call(path);
         self.count(answer)
     }
 
     // A file that isn't there can't be renamed.
     fn rename(&mut self, from: &Text, to: &Text) -> Result<(), FilesError>
-        ensures disk { Renames (Some self.old.disk) (Some self.new.disk) from.now to.now result }
-        ensures calls { Some self.new.calls ≡ logged (Some self.old.calls) FilesOp.Rename to.now result }
-        ensures faults { CountsFilesFaults self.old.faults self.new.faults result }
-        ensures refusals { CountsFilesRefusals self.old.refusals self.new.refusals result }
+        ensures told { Takes (Renaming from.now to.now) (told_by self.old) (told_by self.new) result }
+        ensures counts { Counted (counted_by self.old) (counted_by self.new) result }
 
-        ensures fails { FilesFailsWhere (is_among self.old.failing (length self.old.calls) || is_none (file_at self.old.disk from.now)) result }
-        ensures failing { self.new.failing ≡ self.old.failing }
+        ensures fails { FilesFailsWhere (fails_next self.old || is_none (file_at self.old.disk from.now)) result }
+        ensures failing { (self.new.failing ≡ self.old.failing) × (self.new.stopped ≡ self.old.stopped) }
         ensures err { OnErr result (self.new.disk ≡ self.old.disk) }
     {
         let answer = self.rename_call(from, to);
@@ -379,27 +403,24 @@ impl Files for MemFiles {
     }
 
     fn sync_names(&mut self) -> Result<(), FilesError>
-        ensures disk { Some self.new.disk ≡ Some self.old.disk }
-        ensures calls { Some self.new.calls ≡ logged (Some self.old.calls) FilesOp.SyncNames [] result }
-        ensures faults { CountsFilesFaults self.old.faults self.new.faults result }
-        ensures refusals { CountsFilesRefusals self.old.refusals self.new.refusals result }
+        ensures told { Takes (SyncingNames) (told_by self.old) (told_by self.new) result }
+        ensures counts { Counted (counted_by self.old) (counted_by self.new) result }
 
-        ensures fails { FilesFailsWhere (is_among self.old.failing (length self.old.calls)) result }
-        ensures failing { self.new.failing ≡ self.old.failing }
+        ensures fails { FilesFailsWhere (fails_next self.old) result }
+        ensures failing { (self.new.failing ≡ self.old.failing) × (self.new.stopped ≡ self.old.stopped) }
+        ensures err { OnErr result (self.new.disk ≡ self.old.disk) }
     {
         let no_path = Text::new(self.alloc);
-        let answer = self.sync_call(FilesOp::SyncNames, &no_path);
+        let answer = self.sync_names_call(&no_path);
         self.count(answer)
     }
 
     fn remove(&mut self, path: &Text) -> Result<(), FilesError>
-        ensures disk { Removes (Some self.old.disk) (Some self.new.disk) path.now result }
-        ensures calls { Some self.new.calls ≡ logged (Some self.old.calls) FilesOp.Remove path.now result }
-        ensures faults { CountsFilesFaults self.old.faults self.new.faults result }
-        ensures refusals { CountsFilesRefusals self.old.refusals self.new.refusals result }
+        ensures told { Takes (Removing path.now) (told_by self.old) (told_by self.new) result }
+        ensures counts { Counted (counted_by self.old) (counted_by self.new) result }
 
-        ensures fails { FilesFailsWhere (is_among self.old.failing (length self.old.calls)) result }
-        ensures failing { self.new.failing ≡ self.old.failing }
+        ensures fails { FilesFailsWhere (fails_next self.old) result }
+        ensures failing { (self.new.failing ≡ self.old.failing) × (self.new.stopped ≡ self.old.stopped) }
         ensures err { OnErr result (self.new.disk ≡ self.old.disk) }
     {
         let answer = self.remove_call(path);

@@ -1,7 +1,7 @@
 // A link in memory: its input is known, its cuts and faults are chosen, and it keeps its talk.
 ghost use Rattle.std.specs.Prelude.{◌≡◌, ◌≤◌, ◌+◌, ◌<◌, [], ◌∷◌, ◌++◌, length, take, drop, min, IfOk, OnOk, OnErr, Some, Ok, is_ok, if◌then◌else◌};
 ghost use Rattle.dc_outside.specs.declared.link.Piece.TheVariants.{Got};
-ghost use Rattle.dc_outside.specs.Talk.{told, read_pieces, got, sent, AddsWrite, EndsAtNone};
+ghost use Rattle.dc_outside.specs.Talk.{then_pieces, read_pieces, got, sent, AddsWrite, EndsAtNone};
 ghost use Rattle.dc_outside.specs.Counts.{CountsFaults, CountsRefusals};
 ghost use Rattle.dc_outside.specs.Memory.{is_among, next_cut, write_pieces, FailsWhere, TakesNumber};
 ghost use Rattle.std.specs.Io.KnownBytes.{prepend_known};
@@ -217,7 +217,7 @@ impl Link for MemLink {
     fn read_some(&mut self, buf: &mut [u8]) -> Result<usize, LinkError>
         requires { 0 < length buf.old }
         ensures bound { IfOk result (λ count. count ≤ length buf.new) }
-        ensures talk { Some self.new.talk ≡ told (Some self.old.talk) (read_pieces result buf.new) }
+        ensures talk { Some self.new.talk ≡ then_pieces (Some self.old.talk) (read_pieces result buf.new) }
         ensures input { Some self.old.left ≡ prepend_known (got (read_pieces result buf.new)) (Some self.new.left) }
         ensures end { EndsAtNone result (Some self.new.left) }
         ensures faults { CountsFaults self.old.faults self.new.faults result }

@@ -1,5 +1,5 @@
 // What links and files in memory answer.
-use crate::{Files, FilesError, FilesOp, Link, LinkError, MemFiles, MemLink, Piece};
+use crate::{Files, FilesError, FilesOp, Link, LinkError, MemFiles, MemLink, Pick, Piece};
 use dc_text::{List, Mem, Text};
 use std::alloc::Global;
 use std::test::Fail;
@@ -117,12 +117,18 @@ fn show_paths(alloc: Global, answer: Result<List<Text>, FilesError>) -> Mem<Text
     Ok(shown)
 }
 
-// Files with the paths and bytes, in which the calls of these numbers fail.
-fn make_files(alloc: Global, entries: &[(&str, &str)], failing: &[u64]) -> Mem<MemFiles> {
+// The paths and bytes as texts.
+fn entries_of(alloc: Global, entries: &[(&str, &str)]) -> Mem<Vec<(Text, Text)>> {
     let mut listed = Vec::new(alloc);
     for (path, bytes) in entries {
         listed.push((text(alloc, path)?, text(alloc, bytes)?))?;
     }
+    Ok(listed)
+}
+
+// Files with the paths and bytes, in which the calls of these numbers fail.
+fn make_files(alloc: Global, entries: &[(&str, &str)], failing: &[u64]) -> Mem<MemFiles> {
+    let listed = entries_of(alloc, entries)?;
     MemFiles::new(alloc, &listed, failing)
 }
 
@@ -192,4 +198,50 @@ fn files_below_a_folder_are_listed(rt: HostRuntime) -> Result<(), Fail> {
         );
     }
     Ok(())
+}
+
+// What a read of "d/q" gives after a crash with each pick, a bar after each.
+fn show_crashes(alloc: Global, files: &MemFiles) -> Mem<Text> {
+    let place = text(alloc, "d/q")?;
+    let mut shown = Text::new(alloc);
+    for pick in [Pick::Oldest, Pick::Newest, Pick::Junk] {
+        let mut left = files.after_crash(pick)?;
+        let read = show_read(alloc, left.read(&place))?;
+        shown.append(read.bytes())?;
+        shown.push(b'|')?;
+    }
+    Ok(shown)
+}
+
+// What the call answers, and then what crashes leave.
+fn crash_after(alloc: Global, files: &mut MemFiles, op: FilesOp, path: &str) -> Mem<Text> {
+    let mut shown = answer_of(alloc, files, op, &text(alloc, path)?)?;
+    shown.push(b' ')?;
+    shown.append(show_crashes(alloc, files)?.bytes())?;
+    Ok(shown)
+}
+
+fn files_stopped_from_7(alloc: Global) -> Mem<MemFiles> {
+    let listed = entries_of(alloc, &[("d/q", "x")])?;
+    MemFiles::stopped_from(alloc, &listed, 7)
+}
+
+#[test]
+fn crashes_leave_what_is_not_synced(rt: HostRuntime) {
+    let alloc = rt.alloc();
+    let mut files = files_stopped_from_7(alloc).expect(&rt, "memory");
+    let calls = [
+        (FilesOp::Write, "q", "done x|x|x|"),
+        (FilesOp::Sync, "q", "done x|x|x|"),
+        (FilesOp::Rename, "q", "done x|y|x|"),
+        (FilesOp::SyncNames, "", "done y|y|y|"),
+        (FilesOp::Remove, "d/q", "done y|none|y|"),
+        (FilesOp::SyncNames, "", "done none|none|none|"),
+        (FilesOp::Write, "d/q", "done none|y||"),
+        (FilesOp::Sync, "d/q", "failed none|y||"),
+    ];
+    for (number, (op, path, left)) in calls.iter().enumerate() {
+        let shown = crash_after(alloc, &mut files, *op, path).expect(&rt, "memory");
+        assert_eq!(rt; shown.bytes(), left.as_bytes(), "call {number}");
+    }
 }

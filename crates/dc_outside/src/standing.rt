@@ -1,0 +1,315 @@
+// What files in memory hold at a moment, and what a crash then may leave.
+ghost use Rattle.std.specs.Prelude.{◌≡◌, ◌∷◌, ◌++◌, [], None, Some, IfOk, unwrap_or};
+ghost use Rattle.std.specs.Option.{option_copied};
+ghost use Rattle.std.specs.FinMap as map;
+ghost use Rattle.dc_outside.specs.Disk.{OneOf, Anything, either, outcome_at, with_outcome, with_entry, open_at, settled_at, names_settled, with_rename, with_removal, renamed, is_anything, moved_outcome};
+ghost use Rattle.dc_outside.specs.Crash.{oldest_of, newest_of, IsOneOf};
+
+use dc_text::{Copied, List, Mem, Text, TextMap};
+use std::alloc::Global;
+use std::marker::Model;
+
+#[derive(Drop)]
+pub(crate) struct Stored {
+    pub bytes: Text,
+    pub mode: u16,
+}
+
+impl Model for Stored {
+    ghost use Rattle.dc_outside.specs.Disk.{File};
+
+    ghost Value = { File };
+
+    ghost view = { λ s. record { bytes = s.bytes; mode = s.mode } };
+}
+
+impl Copied for Stored {
+    fn copied(&self) -> Mem<Self> {
+        Ok(Stored {
+            bytes: self.bytes.copy()?,
+            mode: self.mode,
+        })
+    }
+}
+
+// Entries that a crash may leave at a path.
+#[derive(Drop)]
+pub(crate) struct Entries {
+    pub first: Option<Stored>,
+    pub more: List<Option<Stored>>,
+}
+
+// What a crash may leave at a path: one of these entries, or anything where there is no list of them.
+#[derive(Drop)]
+pub(crate) struct Outcome {
+    alloc: Global,
+    pub entries: Option<Entries>,
+}
+
+impl Model for Outcome {
+    ghost use Rattle.std.specs.Prelude.{◌∷◌};
+    ghost use Rattle.dc_outside.specs.Disk.{Outcome as AnOutcome, outcome_code};
+    ghost use Rattle.dc_outside.specs.MemoryOutcome.{outcome_in};
+
+    ghost Value = { AnOutcome };
+
+    ghost coded = { outcome_code };
+
+    ghost view = { λ o. outcome_in o.entries };
+}
+
+impl Copied for Outcome {
+    fn copied(&self) -> Mem<Self> {
+        match &self.entries {
+            Some(entries) => Ok(Outcome {
+                alloc: self.alloc,
+                entries: Some(Entries {
+                    first: copied_entry(entries.first.as_ref())?,
+                    more: with_copies(List::new(self.alloc), &entries.more)?,
+                }),
+            }),
+            None => Ok(Outcome::anything(self.alloc)),
+        }
+    }
+}
+
+// The same entry.
+pub(crate) fn copied_entry(entry: Option<&Stored>) -> Mem<Option<Stored>>
+    ensures { IfOk result (λ copy. copy ≡ option_copied entry.entry) }
+{
+    match entry {
+        Some(file) => Ok(Some(file.copied()?)),
+        None => Ok(None),
+    }
+}
+
+// The list, and then copies of the entries.
+fn with_copies(
+    list: List<Option<Stored>>,
+    entries: &List<Option<Stored>>,
+) -> Mem<List<Option<Stored>>>
+    ensures { IfOk result (λ all. all ≡ list ++ entries.now) }
+{
+    let mut all = list;
+    for entry in entries.as_slice() {
+        all.push(copied_entry(entry.as_ref())?)?;
+    }
+    Ok(all)
+}
+
+// All entries of the two.
+fn joined(entries: Entries, others: &Entries) -> Mem<Entries>
+    ensures first { IfOk result (λ all. all.first ≡ entries.first) }
+    ensures more { IfOk result (λ all. all.more ≡ entries.more ++ others.now.first ∷ others.now.more) }
+{
+    let Entries { first, more } = entries;
+    let mut all = more;
+    all.push(copied_entry(others.first.as_ref())?)?;
+    Ok(Entries {
+        first,
+        more: with_copies(all, &others.more)?,
+    })
+}
+
+impl Outcome {
+    fn anything(alloc: Global) -> Outcome
+        ensures { result ≡ Anything }
+    {
+        Outcome {
+            alloc,
+            entries: None,
+        }
+    }
+
+    fn one(alloc: Global, entry: Option<Stored>) -> Outcome
+        ensures { result ≡ OneOf (entry ∷ []) }
+    {
+        Outcome {
+            alloc,
+            entries: Some(Entries {
+                first: entry,
+                more: List::new(alloc),
+            }),
+        }
+    }
+
+    fn is_anything(&self) -> bool
+        ensures { result ≡ is_anything (Some self.now) }
+    {
+        self.entries.is_none()
+    }
+
+    // The first of the entries, where there is a list of them.
+    pub fn oldest(&self) -> Option<&Option<Stored>>
+        ensures oldest { option_copied result ≡ oldest_of self.now }
+        ensures one { IsOneOf self.now (option_copied result) }
+    {
+        match &self.entries {
+            Some(entries) => Some(&entries.first),
+            None => None,
+        }
+    }
+
+    // The last of them.
+    pub fn newest(&self) -> Option<&Option<Stored>>
+        ensures newest { option_copied result ≡ newest_of self.now }
+        ensures one { IsOneOf self.now (option_copied result) }
+    {
+        match &self.entries {
+            Some(entries) => match entries.more.as_slice().last() {
+                Some(entry) => Some(entry),
+                None => Some(&entries.first),
+            },
+            None => None,
+        }
+    }
+
+    // Either outcome.
+    fn or(self, other: &Outcome) -> Mem<Outcome>
+        ensures { IfOk result (λ both. both ≡ either self other.now) }
+    {
+        let Outcome { alloc, entries } = self;
+        match (entries, &other.entries) {
+            (Some(entries), Some(others)) => Ok(Outcome {
+                alloc,
+                entries: Some(joined(entries, others)?),
+            }),
+            _ => Ok(Outcome::anything(alloc)),
+        }
+    }
+}
+
+#[derive(Drop)]
+pub(crate) struct Standing {
+    pub files: TextMap<Stored>,
+    pub pending: TextMap<Outcome>,
+}
+
+impl Model for Standing {
+    ghost use Rattle.dc_outside.specs.Disk.{Standing as AStanding, standing_code};
+
+    ghost Value = { AStanding };
+
+    ghost coded = { standing_code };
+
+    ghost view = { λ s. record { files = s.files; pending = s.pending } };
+}
+
+impl Standing {
+    pub fn copy(&self) -> Mem<Standing>
+        ensures { IfOk result (λ copy. copy ≡ self.now) }
+    {
+        Ok(Standing {
+            files: self.files.copy()?,
+            pending: self.pending.copy()?,
+        })
+    }
+
+    fn outcome_at(&self, alloc: Global, path: &Text) -> Mem<Outcome>
+        ensures { IfOk result (λ outcome. outcome ≡ outcome_at self.now path.now) }
+    {
+        match self.pending.get(path.bytes()) {
+            Some(outcome) => outcome.copied(),
+            None => Ok(Outcome::one(alloc, copied_entry(self.files.get(path.bytes()))?)),
+        }
+    }
+
+    // What a crash may leave where the file at the path is put.
+    fn moved_outcome(&self, alloc: Global, path: &Text) -> Mem<Outcome>
+        ensures { IfOk result (λ outcome. outcome ≡ moved_outcome self.now path.now) }
+    {
+        if is_open(&self.pending, path.bytes()) {
+            return Ok(Outcome::anything(alloc));
+        }
+        let file = copied_entry(self.files.get(path.bytes()))?;
+        Ok(Outcome::one(alloc, file))
+    }
+
+    // A crash may leave this at the path too.
+    fn with_outcome(self, alloc: Global, path: &Text, outcome: &Outcome) -> Mem<Standing>
+        ensures { IfOk result (λ new. new ≡ with_outcome self path.now outcome.now) }
+    {
+        let mut new = self;
+        let both = new.outcome_at(alloc, path)?.or(outcome)?;
+        new.pending.insert(path.copy()?, both)?;
+        Ok(new)
+    }
+
+    pub fn written(self, alloc: Global, path: &Text, file: Stored) -> Mem<Standing>
+        ensures { IfOk result (λ new. new ≡ open_at self path.now (Some file)) }
+    {
+        let mut new = self;
+        new.files.insert(path.copy()?, file)?;
+        new.pending.insert(path.copy()?, Outcome::anything(alloc))?;
+        Ok(new)
+    }
+
+    pub fn synced(self, path: &Text) -> Standing
+        ensures { result ≡ settled_at self path.now }
+    {
+        let mut new = self;
+        new.pending.remove(path.bytes());
+        new
+    }
+
+    pub fn removed(self, alloc: Global, path: &Text) -> Mem<Standing>
+        ensures { IfOk result (λ new. new ≡ record (with_removal self path.now) { files = map.remove self.files path.now }) }
+    {
+        let none = Outcome::one(alloc, None);
+        let mut new = self.with_outcome(alloc, path, &none)?;
+        new.files.remove(path.bytes());
+        Ok(new)
+    }
+
+    pub fn renamed(self, alloc: Global, from: &Text, to: &Text, file: Stored) -> Mem<Standing>
+        requires { map.get self.files from.now ≡ Some file }
+        ensures { IfOk result (λ new. new ≡ record (with_rename self from.now to.now) { files = renamed self.files from.now to.now }) }
+    {
+        let mut new = self.with_rename(alloc, from, to)?;
+        new.files.remove(from.bytes());
+        new.files.insert(to.copy()?, file)?;
+        Ok(new)
+    }
+
+    pub fn names_synced(self, alloc: Global) -> Mem<Standing>
+        ensures { IfOk result (λ new. new ≡ names_settled self) }
+    {
+        let Standing { files, pending } = self;
+        Ok(Standing {
+            files,
+            pending: still_open(alloc, &pending)?,
+        })
+    }
+
+    fn with_rename(self, alloc: Global, from: &Text, to: &Text) -> Mem<Standing>
+        ensures { IfOk result (λ new. new ≡ with_rename self from.now to.now) }
+    {
+        let moved = self.moved_outcome(alloc, from)?;
+        let none = Outcome::one(alloc, None);
+        self.with_outcome(alloc, to, &moved)?
+            .with_outcome(alloc, from, &none)
+    }
+}
+
+// Whether anything may stand at the path after a crash.
+fn is_open(pending: &TextMap<Outcome>, path: &[u8]) -> bool
+    ensures { result ≡ is_anything (map.get pending.now path.now) }
+{
+    match pending.get(path) {
+        Some(outcome) => outcome.is_anything(),
+        None => false,
+    }
+}
+
+// What stays pending when names are synced.
+fn still_open(alloc: Global, pending: &TextMap<Outcome>) -> Mem<TextMap<Outcome>>
+    ensures { IfOk result (λ kept. kept ≡ map.retain_keys pending.now (λ path. is_anything (map.get pending.now path))) }
+{
+    let mut kept = TextMap::new(alloc);
+    for (path, _) in pending.iter() {
+        if is_open(pending, path) {
+            kept.insert(Text::from_bytes(alloc, path)?, Outcome::anything(alloc))?;
+        }
+    }
+    Ok(kept)
+}
