@@ -12,7 +12,7 @@ use Rattle.std.specs.FinMap.{entries, keys, contains_key, get, contains_key-keys
 use Rattle.dc_text.specs.Bytes.{is_nil}
 use Rattle.dc_text.specs.Maps.{Texts, TextSet, set_of, text_cmp}
 use Rattle.dc_text.proofs.MapLemmas.{exact_texts}
-use Rattle.dc_item.specs.Item.{Parts}
+use Rattle.dc_item.specs.Item.{ItemParts}
 use Rattle.dc_item.specs.After.{entry_eq, map_eq, set_eq, parts_eq, without, asked, after, after_none, drops_owners, TakesAllOwners}
 use Rattle.dc_item.specs.declared.op.Op.{Op}
 use Rattle.dc_item.specs.declared.op.Op.TheVariants.{Put, SetField, DropField, SetFlag, SetVar, AddOwner, DropOwners}
@@ -72,44 +72,44 @@ sets_and_texts f g s t v w =
     let inner : Decides (map_eq bytes_eq v w && set_eq s t) ((v ≡ w) × (s ≡ t)) = both_decide (map_eq bytes_eq v w) (set_eq s t) (map_eq-Decides v w) (set_eq-Decides s t) (λ p q. (p, q)) (λ r. r) in
     both_decide (set_eq f g) (map_eq bytes_eq v w && set_eq s t) (set_eq-Decides f g) inner (λ p q. (p, q)) (λ r. r)
 
-pub parts_eq-Decides : (a b : Parts) → Decides (parts_eq a b) (a ≡ b)
+pub parts_eq-Decides : (a b : ItemParts) → Decides (parts_eq a b) (a ≡ b)
 parts_eq-Decides a b =
     both_decide (map_eq bytes_eq a.fields b.fields) (set_eq a.flags b.flags && (map_eq bytes_eq a.variables b.variables && set_eq a.owners b.owners))
     (map_eq-Decides a.fields b.fields) (sets_and_texts a.flags b.flags a.owners b.owners a.variables b.variables)
     (λ p q i. record { fields = p i; flags = q.0 i; variables = q.1.0 i; owners = q.1.1 i })
-    (λ r. (ap (λ (p : Parts). p.fields) r, (ap (λ (p : Parts). p.flags) r, (ap (λ (p : Parts). p.variables) r, ap (λ (p : Parts). p.owners) r))))
+    (λ r. (ap (λ (p : ItemParts). p.fields) r, (ap (λ (p : ItemParts). p.flags) r, (ap (λ (p : ItemParts). p.variables) r, ap (λ (p : ItemParts). p.owners) r))))
 
 -- ---- the three answers
 
-chosen_same : (a b : Bool) (item : Parts) → cond a Same (cond b Gone (Changed item)) ≡ Same → a ≡ true
+chosen_same : (a b : Bool) (item : ItemParts) → cond a Same (cond b Gone (Changed item)) ≡ Same → a ≡ true
 chosen_same true b item e = refl
 chosen_same false true item e = absurd (cc)
 chosen_same false false item e = absurd (cc)
 
-chosen_gone : (a b : Bool) (item : Parts) → cond a Same (cond b Gone (Changed item)) ≡ Gone → (a ≡ false) × (b ≡ true)
+chosen_gone : (a b : Bool) (item : ItemParts) → cond a Same (cond b Gone (Changed item)) ≡ Gone → (a ≡ false) × (b ≡ true)
 chosen_gone true b item e = absurd (cc)
 chosen_gone false true item e = (refl, refl)
 chosen_gone false false item e = absurd (cc)
 
-chosen_changed : (a b : Bool) (made item : Parts) → cond a Same (cond b Gone (Changed made)) ≡ Changed item → item ≡ made
+chosen_changed : (a b : Bool) (made item : ItemParts) → cond a Same (cond b Gone (Changed made)) ≡ Changed item → item ≡ made
 chosen_changed true b made item e = absurd (cc)
 chosen_changed false true made item e = absurd (cc)
 chosen_changed false false made item e = cc
 
-abbrev goes : Op → Parts → Bool
+abbrev goes : Op → ItemParts → Bool
 goes op parts = drops_owners op && is_nil (keys (asked op parts).owners)
 
-pub after_same : (op : Op) (parts : Parts) → (after op parts ≡ Same) ↔ (asked op parts ≡ parts)
+pub after_same : (op : Op) (parts : ItemParts) → (after op parts ≡ Same) ↔ (asked op parts ≡ parts)
 after_same op parts =
     let d : Decides (parts_eq (asked op parts) parts) (asked op parts ≡ parts) = parts_eq-Decides (asked op parts) parts in (
       λ e. d.0 (chosen_same (parts_eq (asked op parts) parts) (goes op parts) (asked op parts) e),
       λ s. ap (λ b. cond b Same (cond (goes op parts) Gone (Changed (asked op parts)))) (d.1 s),
     )
 
-pub after_changed : (op : Op) (parts item : Parts) → after op parts ≡ Changed item → item ≡ asked op parts
+pub after_changed : (op : Op) (parts item : ItemParts) → after op parts ≡ Changed item → item ≡ asked op parts
 after_changed op parts item e = chosen_changed (parts_eq (asked op parts) parts) (goes op parts) (asked op parts) item e
 
-pub after_none_makes : (op : Op) → (after_none op ≡ Same) ⊎ ((item : Parts) × (op ≡ Put item) × (after_none op ≡ Changed item))
+pub after_none_makes : (op : Op) → (after_none op ≡ Same) ⊎ ((item : ItemParts) × (op ≡ Put item) × (after_none op ≡ Changed item))
 after_none_makes (Put item) = inr (item, refl, refl)
 after_none_makes (SetField key value) = inl refl
 after_none_makes (DropField key) = inl refl
@@ -155,7 +155,7 @@ not_named false n e = cc
 loses_nothing : (s : TextSet) (names : List (List ℕ)) → keys s ≡ [] → keys (without s names) ≡ [] → without s names ≡ s
 loses_nothing s names e f = same_entries_map (without s names) s (firsts_same (entries (without s names)) (entries s) (f ∙ sym e))
 
-some_owner : (parts : Parts) (names : List (List ℕ)) (ks : List (List ℕ)) → keys parts.owners ≡ ks → parts_eq (asked (DropOwners names) parts) parts ≡ false → keys (without parts.owners names) ≡ []
+some_owner : (parts : ItemParts) (names : List (List ℕ)) (ks : List (List ℕ)) → keys parts.owners ≡ ks → parts_eq (asked (DropOwners names) parts) parts ≡ false → keys (without parts.owners names) ≡ []
     → (owner : List ℕ) × (contains_key parts.owners owner ≡ true)
 some_owner parts names [] e differs none =
     let d : Decides (parts_eq (asked (DropOwners names) parts) parts) (asked (DropOwners names) parts ≡ parts) = parts_eq-Decides (asked (DropOwners names) parts) parts in
@@ -163,7 +163,7 @@ some_owner parts names [] e differs none =
     absurd (cc)
 some_owner parts names (k ∷ ks) e differs none = (k, has-first parts.owners k ks e)
 
-goes_from : (parts : Parts) (names : List (List ℕ)) → after (DropOwners names) parts ≡ Gone → TakesAllOwners (DropOwners names) parts
+goes_from : (parts : ItemParts) (names : List (List ℕ)) → after (DropOwners names) parts ≡ Gone → TakesAllOwners (DropOwners names) parts
 goes_from parts names e =
     let f : (parts_eq (asked (DropOwners names) parts) parts ≡ false) × (is_nil (keys (without parts.owners names)) ≡ true) = chosen_gone (parts_eq (asked (DropOwners names) parts) parts) (goes (DropOwners names) parts) _ e in
     let none : keys (without parts.owners names) ≡ [] = from_nil _ f.1 in (
@@ -171,7 +171,7 @@ goes_from parts names e =
       λ owner has. left_over (contains_key (set_of names) owner) (contains_key parts.owners owner) has (sym (has-without parts.owners names owner) ∙ has-none (without parts.owners names) owner none),
     )
 
-no_first : (parts : Parts) (names : List (List ℕ)) (ks : List (List ℕ)) → TakesAllOwners (DropOwners names) parts → keys (without parts.owners names) ≡ ks → is_nil ks ≡ true
+no_first : (parts : ItemParts) (names : List (List ℕ)) (ks : List (List ℕ)) → TakesAllOwners (DropOwners names) parts → keys (without parts.owners names) ≡ ks → is_nil ks ≡ true
 no_first parts names [] t e = refl
 no_first parts names (k ∷ ks) t e =
     let h : (not (contains_key (set_of names) k) ≡ true) × (contains_key parts.owners k ≡ true) = both_true _ _ (sym (has-without parts.owners names k) ∙ has-first (without parts.owners names) k ks e) in
@@ -185,23 +185,23 @@ named_out : (n h : Bool) → n ≡ true → (not n && h) ≡ false
 named_out true h e = refl
 named_out false h e = absurd (cc)
 
-goes_to : (parts : Parts) (names : List (List ℕ)) → TakesAllOwners (DropOwners names) parts → after (DropOwners names) parts ≡ Gone
+goes_to : (parts : ItemParts) (names : List (List ℕ)) → TakesAllOwners (DropOwners names) parts → after (DropOwners names) parts ≡ Gone
 goes_to parts names t =
     let op : Op = DropOwners names in
     let owner : List ℕ = t.0.0 in
     let gone : contains_key (without parts.owners names) owner ≡ false = has-without parts.owners names owner ∙ named_out (contains_key (set_of names) owner) (contains_key parts.owners owner) (t.1 owner t.0.1) in
     let d : Decides (parts_eq (asked op parts) parts) (asked op parts ≡ parts) = parts_eq-Decides (asked op parts) parts in
-    let differs : parts_eq (asked op parts) parts ≡ false = false_from _ (λ e. (let same : contains_key (without parts.owners names) owner ≡ contains_key parts.owners owner = ap (λ (p : Parts). contains_key p.owners owner) (d.0 e) in let there : contains_key parts.owners owner ≡ true = t.0.1 in cc)) in
+    let differs : parts_eq (asked op parts) parts ≡ false = false_from _ (λ e. (let same : contains_key (without parts.owners names) owner ≡ contains_key parts.owners owner = ap (λ (p : ItemParts). contains_key p.owners owner) (d.0 e) in let there : contains_key parts.owners owner ≡ true = t.0.1 in cc)) in
     (λ i. cond (differs i) Same (cond (no_first parts names (keys (without parts.owners names)) t refl i) Gone (Changed (asked op parts))))
 
-stays_there : (op : Op) (parts : Parts) → drops_owners op ≡ false → after op parts ≡ Gone → ⊥
+stays_there : (op : Op) (parts : ItemParts) → drops_owners op ≡ false → after op parts ≡ Gone → ⊥
 stays_there op parts stays e =
     let f : (_ ≡ false) × (goes op parts ≡ true) = chosen_gone (parts_eq (asked op parts) parts) (goes op parts) (asked op parts) e in
     let g : (drops_owners op ≡ true) × (_ ≡ true) = both_true (drops_owners op) _ f.1 in
     let drops : drops_owners op ≡ true = g.0 in
     cc
 
-pub after_gone : (op : Op) (parts : Parts) → (after op parts ≡ Gone) ↔ TakesAllOwners op parts
+pub after_gone : (op : Op) (parts : ItemParts) → (after op parts ≡ Gone) ↔ TakesAllOwners op parts
 after_gone (Put item) parts = (λ e. stays_there (Put item) parts refl e, λ t. absurd t)
 after_gone (SetField key value) parts = (λ e. stays_there (SetField key value) parts refl e, λ t. absurd t)
 after_gone (DropField key) parts = (λ e. stays_there (DropField key) parts refl e, λ t. absurd t)

@@ -7,10 +7,10 @@ use Rattle.std.proofs.lemmas.Bool.{cases_lt}
 use Rattle.dc_text.specs.Faults.{AllStand, IsFirstFault}
 use Rattle.dc_text.specs.Lines.{lines_of}
 use Rattle.dc_text.proofs.FaultLemmas.{not_in_nil}
-use Rattle.dc_item.specs.Grammar.{part_of}
+use Rattle.dc_item.specs.Grammar.{line_said}
 use Rattle.dc_item.specs.Records.{numbered, LineStands, HasReading, IsBadAt, IsBad, records_of}
 use Rattle.dc_item.proofs.Groups.{Line}
-use Rattle.dc_item.specs.declared.part.Part.{Part}
+use Rattle.dc_item.specs.declared.record_line.RecordLine.{RecordLine}
 
 -- a line that doesn't stand has one fault
 abbrev pub HasFault : List Line → Line → List Line → Unit {0} → Type 0
@@ -18,7 +18,7 @@ HasFault before line after kind = LineStands before line after → ⊥
 
 -- ---- numbers of lines
 
-number_is : (n : ℕ) (ps : List Part) (before after : List Line) (k : ℕ) (p : Part) → enumerate_from n ps ≡ before ++ (k, p) ∷ after → k ≡ n + length before
+number_is : (n : ℕ) (ps : List RecordLine) (before after : List Line) (k : ℕ) (p : RecordLine) → enumerate_from n ps ≡ before ++ (k, p) ∷ after → k ≡ n + length before
 number_is n [] before after k p e = absurd (not_in_nil before after (k, p) e)
 number_is n (q ∷ ps) [] after k p e = let same : (n, q) ≡ (k, p) = cc in let number : n ≡ k = ap (λ (l : Line). l.0) same in omega arith
 number_is n (q ∷ ps) (b ∷ before) after k p e =
@@ -26,37 +26,37 @@ number_is n (q ∷ ps) (b ∷ before) after k p e =
     let is : k ≡ (n + 1) + length before = number_is (n + 1) ps before after k p rest in
     omega (arith, is)
 
-enumerate_from-take : (m n : ℕ) (ps : List Part) → enumerate_from n (take m ps) ≡ take m (enumerate_from n ps)
+enumerate_from-take : (m n : ℕ) (ps : List RecordLine) → enumerate_from n (take m ps) ≡ take m (enumerate_from n ps)
 enumerate_from-take zero n ps = refl
 enumerate_from-take (suc m) n [] = refl
 enumerate_from-take (suc m) n (p ∷ ps) = ap (λ ls. (n, p) ∷ ls) (enumerate_from-take m (n + 1) ps)
 
-map-take : (m : ℕ) (lines : List (List ℕ)) → map part_of (take m lines) ≡ take m (map part_of lines)
+map-take : (m : ℕ) (lines : List (List ℕ)) → map line_said (take m lines) ≡ take m (map line_said lines)
 map-take zero lines = refl
 map-take (suc m) [] = refl
-map-take (suc m) (l ∷ lines) = ap (λ ps. part_of l ∷ ps) (map-take m lines)
+map-take (suc m) (l ∷ lines) = ap (λ ps. line_said l ∷ ps) (map-take m lines)
 
 numbered-take : (m : ℕ) (lines : List (List ℕ)) → numbered (take m lines) ≡ take m (numbered lines)
-numbered-take m lines = ap (enumerate_from 1) (map-take m lines) ∙ enumerate_from-take m 1 (map part_of lines)
+numbered-take m lines = ap (enumerate_from 1) (map-take m lines) ∙ enumerate_from-take m 1 (map line_said lines)
 
-enumerate_from-append : (n : ℕ) (ps qs : List Part) → enumerate_from n (ps ++ qs) ≡ enumerate_from n ps ++ enumerate_from (n + length ps) qs
+enumerate_from-append : (n : ℕ) (ps qs : List RecordLine) → enumerate_from n (ps ++ qs) ≡ enumerate_from n ps ++ enumerate_from (n + length ps) qs
 enumerate_from-append n [] qs = let e : n ≡ n + 0 = omega arith in ap (λ m. enumerate_from m qs) e
 enumerate_from-append n (p ∷ ps) qs =
     let e : (n + 1) + length ps ≡ n + suc (length ps) = omega arith in
     ap (λ ls. (n, p) ∷ ls) (enumerate_from-append (n + 1) ps qs ∙ ap (λ m. enumerate_from (n + 1) ps ++ enumerate_from m qs) e)
 
-numbered-append : (ls ms : List (List ℕ)) → numbered (ls ++ ms) ≡ numbered ls ++ enumerate_from (1 + length (map part_of ls)) (map part_of ms)
-numbered-append ls ms = ap (enumerate_from 1) (map-append part_of ls ms) ∙ enumerate_from-append 1 (map part_of ls) (map part_of ms)
+numbered-append : (ls ms : List (List ℕ)) → numbered (ls ++ ms) ≡ numbered ls ++ enumerate_from (1 + length (map line_said ls)) (map line_said ms)
+numbered-append ls ms = ap (enumerate_from 1) (map-append line_said ls ms) ∙ enumerate_from-append 1 (map line_said ls) (map line_said ms)
 
 -- ---- from the first fault to the first bad line
 
 pub reading_from_all : (lines : List (List ℕ)) → AllStand LineStands (numbered lines) → HasReading lines
 reading_from_all lines all = (records_of (numbered lines), record { stand = all; are = refl })
 
-pub bad_from_fault : (lines : List (List ℕ)) (k : ℕ) (p : Part) → IsFirstFault LineStands HasFault (numbered lines) (k, p) tt → IsBadAt lines k
+pub bad_from_fault : (lines : List (List ℕ)) (k : ℕ) (p : RecordLine) → IsFirstFault LineStands HasFault (numbered lines) (k, p) tt → IsBadAt lines k
 bad_from_fault lines k p f =
-    let size : length (numbered lines) ≡ length lines = length-enumerate_from 1 (map part_of lines) ∙ length-map lines part_of in
-    let number : k ≡ 1 + length f.before = number_is 1 (map part_of lines) f.before f.after k p f.whole in
+    let size : length (numbered lines) ≡ length lines = length-enumerate_from 1 (map line_said lines) ∙ length-map lines line_said in
+    let number : k ≡ 1 + length f.before = number_is 1 (map line_said lines) f.before f.after k p f.whole in
     let parted : length (numbered lines) ≡ length f.before + suc (length f.after) = ap length f.whole ∙ length-append f.before ((k, p) ∷ f.after) in
     let front : take (k - 1) (numbered lines) ≡ f.before = ap (take (k - 1)) f.whole ∙ take_at f.before ((k, p) ∷ f.after) (k - 1) (omega (arith, number)) in
     let longer : length (f.before ++ (k, p) ∷ []) ≡ k = omega (arith, number, length-append f.before ((k, p) ∷ [])) in
@@ -74,7 +74,7 @@ bad_from_fault lines k p f =
 -- the first lines of a list that has a reading have one
 front_read : (ls ms : List (List ℕ)) → HasReading (ls ++ ms) → HasReading ls
 front_read ls ms r =
-    let rest : List Line = enumerate_from (1 + length (map part_of ls)) (map part_of ms) in
+    let rest : List Line = enumerate_from (1 + length (map line_said ls)) (map line_said ms) in
     reading_from_all ls (λ b a l e. r.1.stand b (a ++ rest) l (numbered-append ls ms ∙ ap (λ xs. xs ++ rest) e ∙ append_assoc b (l ∷ a) rest))
 
 pub not_both : (text : List ℕ) (k : ℕ) → HasReading (lines_of text) → IsBad text k → ⊥

@@ -5,7 +5,8 @@ pub mod ItemLemmas
 pub mod OpenRecord
 pub mod PieceLemmas
 pub mod PrintedBytes
-pub mod PrintedParts
+pub mod PrintedLines
 pub mod PrintedText
 pub mod ReadTables
 pub mod ReaderLemmas
+pub mod VariableLines

@@ -1,21 +1,21 @@
 -- The bytes of a printed line, and what they say.
 use Rattle.std.proofs.Common.{◌≡◌, ℕ, ◌+◌, ◌-◌, ◌≤◌, Bool, true, false, cond, List, [], ◌∷◌, ◌++◌, length, map, drop, refl, sym, ap, ◌∙◌, subst, arith, append_assoc, length-append}
-use Rattle.std.specs.Prelude.{◌==◌, ◌&&◌, ◌||◌, not, nat_le, ◌≢◌}
+use Rattle.std.specs.Prelude.{◌==◌, ◌&&◌, ◌||◌, not, nat_le, ◌≢◌, codes}
 use Rattle.std.proofs.lemmas.Bool.Decides.{nat_tests}
 use Rattle.std.specs.List.{flat_map, AllByRecursion, slice_split, list_any, list_all, before_first, after_first, prefix_len, position_or_len}
 use Rattle.std.proofs.lemmas.List.{append-nil, take_at, drop_at}
 use Rattle.std.proofs.lemmas.List.Splits.{slice_split_at, slice_split_none}
 use Rattle.std.proofs.lemmas.List.Elements.{All-from_recursion}
 use Rattle.std.specs.Str.{bytes_eq}
-use Rattle.dc_text.specs.Bytes.{is_space, drop_front, drop_back, trimmed, lower, without_space}
+use Rattle.dc_text.specs.Bytes.{is_space, drop_front, drop_back, trimmed, lower, upper, without_space}
 use Rattle.dc_text.specs.Lines.{unless_empty}
-use Rattle.dc_text.specs.Names.{is_name, is_name_byte, is_visible, is_lower_letter, is_key_byte, is_reserved, is_word, has_length, is_field_key, is_flag_name, is_variable_key, is_variable_byte, name_word, owners_word, flags_word, variables_word}
+use Rattle.dc_text.specs.Names.{is_name, is_name_byte, is_visible, is_lower_letter, is_key_byte, is_reserved, is_word, has_length, is_field_key, is_flag_name, is_variable_key, is_variable_byte}
 use Rattle.dc_text.specs.Settled.{settled, is_settled, newlines_shown}
 use Rattle.dc_text.proofs.LineLemmas.{drop_back-passes}
 use Rattle.dc_text.proofs.SettledLemmas.{settled-shown}
-use Rattle.dc_item.specs.Grammar.{part_of, headed_line, pieces, indented_line, variable_line}
-use Rattle.dc_item.specs.Printed.{name_head, owners_head, flags_head, upper, shown_field, shown_variable, joined}
-use Rattle.dc_item.specs.declared.part.Part.TheVariants.{Blank, Name, Owners, Flags, Variable, Field, Nothing}
+use Rattle.dc_item.specs.Grammar.{line_said, headed_line, pieces, indented_line, variable_line}
+use Rattle.dc_item.specs.Printed.{owners_head, flags_head, shown_field, shown_variable, joined}
+use Rattle.dc_item.specs.declared.record_line.RecordLine.TheVariants.{Blank, Name, Owners, Flags, Variable, Field, Nothing}
 
 -- ---- tests on bytes
 
@@ -140,7 +140,7 @@ flag_word_is n e =
 pub name_word_is : (n : List ℕ) → is_name n ≡ true → IsWord n
 name_word_is n e = flag_word_is n (both_true (is_word 255 is_name_byte n) _ e).0
 
-pub name_said : (n : List ℕ) → is_name n ≡ true → part_of (name_head ++ n) ≡ Name n
+pub name_said : (n : List ℕ) → is_name n ≡ true → line_said (codes "Name: " ++ n) ≡ Name n
 name_said n e =
     let w : IsWord n = name_word_is n e in
     ap (λ t. cond (is_name t) (Name t) Nothing) (trimmed-space n w.spaceless w.some) ∙ ap (λ b. cond b (Name n) Nothing) e
@@ -176,11 +176,11 @@ all_words : (q : List ℕ → Bool) → ((n : List ℕ) → q n ≡ true → IsW
 all_words q is [] h = tt
 all_words q is (k ∷ ks) h = (is k h.0, all_words q is ks h.1)
 
-pub owners_said : (k : List ℕ) (ks : List (List ℕ)) → AllByRecursion (λ n. is_name n ≡ true) (k ∷ ks) → part_of (owners_head ++ joined (k ∷ ks)) ≡ Owners (k ∷ ks)
+pub owners_said : (k : List ℕ) (ks : List (List ℕ)) → AllByRecursion (λ n. is_name n ≡ true) (k ∷ ks) → line_said (owners_head ++ joined (k ∷ ks)) ≡ Owners (k ∷ ks)
 owners_said k ks h =
     ap (λ ps. cond (list_all is_name ps) (Owners ps) Nothing) (pieces-joined k ks (all_words is_name name_word_is (k ∷ ks) h)) ∙ ap (λ b. cond b (Owners (k ∷ ks)) Nothing) (all_true is_name (k ∷ ks) h)
 
-pub flags_said : (k : List ℕ) (ks : List (List ℕ)) → AllByRecursion (λ n. is_flag_name n ≡ true) (k ∷ ks) → part_of (flags_head ++ joined (k ∷ ks)) ≡ Flags (k ∷ ks)
+pub flags_said : (k : List ℕ) (ks : List (List ℕ)) → AllByRecursion (λ n. is_flag_name n ≡ true) (k ∷ ks) → line_said (flags_head ++ joined (k ∷ ks)) ≡ Flags (k ∷ ks)
 flags_said k ks h =
     ap (λ ps. cond (list_all is_flag_name ps) (Flags ps) Nothing) (pieces-joined k ks (all_words is_flag_name flag_word_is (k ∷ ks) h)) ∙ ap (λ b. cond b (Flags (k ∷ ks)) Nothing) (all_true is_flag_name (k ∷ ks) h)
 
@@ -251,7 +251,7 @@ key_is b ks e =
 headed_field : (b : ℕ) (ks rest : List ℕ) → is_field_key (b ∷ ks) ≡ true → headed_line (b ∷ ks) rest ≡ Field (b ∷ ks) (settled (without_space rest))
 headed_field b ks rest e =
     let k : List ℕ = b ∷ ks in
-    choose_field (bytes_eq k name_word) (bytes_eq k owners_word) (bytes_eq k flags_word) (bytes_eq k variables_word) (is_field_key k) _ _ _ _ _ _ (key_is b ks e).free e
+    choose_field (bytes_eq k (codes "name")) (bytes_eq k (codes "owners")) (bytes_eq k (codes "flags")) (bytes_eq k (codes "variables")) (is_field_key k) _ _ _ _ _ _ (key_is b ks e).free e
 
 -- the first letter in upper case, and what follows
 pub record IsCapital (b c : ℕ) : Type 0 where
@@ -287,12 +287,12 @@ field_one_line (b ∷ ks, v) e =
     (refl, (refl, shown_no_newline v))
 
 -- a line that is headed by a word and a colon
-headed_by : (c : ℕ) (xs rest : List ℕ) → is_space c ≡ false → Free 58 (c ∷ xs) → part_of ((c ∷ xs) ++ 58 ∷ rest) ≡ headed_line (map lower (c ∷ xs)) rest
+headed_by : (c : ℕ) (xs rest : List ℕ) → is_space c ≡ false → Free 58 (c ∷ xs) → line_said ((c ∷ xs) ++ 58 ∷ rest) ≡ headed_line (map lower (c ∷ xs)) rest
 headed_by c xs rest space free =
     choose_headed (is_space c) _ (c == 32 || c == 9) _ _ _ _ _ space (or_front (c == 32) (c == 9) _ space) (any-at (c ∷ xs) rest 58)
     ∙ (λ i. headed_line (map lower (before_first-at (c ∷ xs) rest 58 free i)) (after_first-at (c ∷ xs) rest 58 free i))
 
-pub field_said : (e : List ℕ × List ℕ) → is_field_key e.0 ≡ true → is_settled e.1 ≡ true → part_of (shown_field e) ≡ Field e.0 e.1
+pub field_said : (e : List ℕ × List ℕ) → is_field_key e.0 ≡ true → is_settled e.1 ≡ true → line_said (shown_field e) ≡ Field e.0 e.1
 field_said ([], v) e h = absurd (cc)
 field_said (b ∷ ks, v) e h =
     let k : IsKey b ks = key_is b ks e in
@@ -340,7 +340,7 @@ not_all_space : (k tail : List ℕ) → Spaceless k → k ≢ [] → list_all is
 not_all_space [] tail h some = absurd (some refl)
 not_all_space (b ∷ k) tail h some = ap (λ t. t && list_all is_space (k ++ tail)) h.0
 
-pub variable_said : (e : List ℕ × List ℕ) → is_variable_key e.0 ≡ true → is_settled e.1 ≡ true → part_of (shown_variable e) ≡ Variable e.0 e.1
+pub variable_said : (e : List ℕ × List ℕ) → is_variable_key e.0 ≡ true → is_settled e.1 ≡ true → line_said (shown_variable e) ≡ Variable e.0 e.1
 variable_said (k, v) e h =
     let w : IsVariableWord k = variable_word_is k e in
     let rest : List ℕ = 32 ∷ newlines_shown v in
@@ -348,7 +348,7 @@ variable_said (k, v) e h =
     let line : shown_variable (k, v) ≡ before ++ 61 ∷ rest = ap (λ xs. 32 ∷ xs) (sym (append_assoc k (32 ∷ []) (61 ∷ rest))) in
     let free : Free 61 before = (refl, free_append 61 k (32 ∷ []) w.no_equals (refl, tt)) in
     let blank : list_all is_space (before ++ 61 ∷ rest) ≡ false = ap (list_all is_space) (append_assoc k (32 ∷ []) (61 ∷ rest)) ∙ not_all_space k (32 ∷ 61 ∷ rest) w.spaceless w.some in
-    ap part_of line
+    ap line_said line
     ∙ ap (λ t. cond t Blank (indented_line (before ++ 61 ∷ rest))) blank
     ∙ ap (λ t. cond t (variable_line (trimmed (before_first (λ b. b == 61) (before ++ 61 ∷ rest))) (after_first (λ b. b == 61) (before ++ 61 ∷ rest))) Nothing) (any-at before rest 61)
     ∙ (λ i. variable_line (trimmed (before_first-at before rest 61 free i)) (after_first-at before rest 61 free i))

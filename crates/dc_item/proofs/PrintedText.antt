@@ -1,6 +1,6 @@
 -- The printed text of records is read as the records.
-use Rattle.std.proofs.Common.{◌≡◌, ℕ, ◌+◌, Bool, true, false, cond, List, [], ◌∷◌, ◌++◌, map, Some, None, refl, sym, ap, ◌∙◌, subst, append_assoc}
-use Rattle.std.specs.Prelude.{◌==◌, ◌&&◌, T, is_some}
+use Rattle.std.proofs.Common.{◌≡◌, ℕ, ◌+◌, Bool, true, false, cond, List, [], ◌∷◌, ◌++◌, map, Some, None, refl, sym, ap, ◌∙◌, subst}
+use Rattle.std.specs.Prelude.{◌&&◌, ◌||◌, T, is_some}
 use Rattle.std.specs.declared.cmp.Ordering.{Ordering}
 use Rattle.std.specs.declared.cmp.Ordering.TheVariants.{Less, Equal, Greater}
 use Rattle.std.specs.Ordering.{eq_by_cmp, is_lt, is_eq}
@@ -10,40 +10,35 @@ use Rattle.std.specs.List.{flat_map, AllByRecursion, enumerate_from}
 use Rattle.std.proofs.lemmas.List.{map-append}
 use Rattle.std.specs.FinMap as fin
 use Rattle.std.specs.FinMap.Entries.{find, is_sorted, below_all}
-use Rattle.dc_text.specs.Lines.{Parts, parts, onto_first, lines_of, unless_empty}
-use Rattle.dc_text.specs.Maps.{Texts, TextSet, text_cmp}
+use Rattle.dc_text.specs.Lines.{lines_of, text_of, has_newline, HaveNoNewline}
+use Rattle.dc_text.proofs.LineLaws.{lines_of-text_of}
+use Rattle.dc_text.specs.Maps.{AreDistinct, Texts, TextSet, text_cmp}
 use Rattle.dc_text.specs.Names.{is_name, is_field_key, is_flag_name, is_variable_key}
 use Rattle.dc_text.specs.Settled.{is_settled}
-use Rattle.dc_item.specs.Grammar.{part_of}
-use Rattle.dc_item.specs.Item.{Parts as ItemParts, IsItem}
-use Rattle.dc_item.specs.Records.{numbered, parts_in, records_of, Reads, ReadsLines, IsNewName}
-use Rattle.dc_item.specs.Printed.{canon, table_text, text_of, record_lines, shown_field, shown_variable, list_lines, variable_lines, owners_head, flags_head}
-use Rattle.dc_item.specs.Table.{Apart, names_of, table_of, contents, IsEntry, IsTable, IsInOrder, ReadsAs}
+use Rattle.dc_item.specs.Grammar.{line_said}
+use Rattle.dc_item.specs.Item.{ItemParts, IsItem}
+use Rattle.dc_item.specs.Records.{numbered, lines_said, records_of, Reads, ReadsLines, IsNewName}
+use Rattle.dc_item.specs.Printed.{canon, table_text, record_lines, shown_field, shown_variable, list_lines, variable_lines, owners_head, flags_head}
+use Rattle.dc_item.specs.Table.{names_of, table_of, contents, IsEntry, IsTable, IsInOrder, ReadsAs}
 use Rattle.dc_item.proofs.ItemLemmas.{same_key}
 use Rattle.dc_item.proofs.PrintedBytes.{Free, IsWord, name_word_is, owners_words, flags_words, name_said, owners_said, flags_said, list_one_line, field_one_line, field_said, variable_one_line, variable_said}
-use Rattle.dc_item.proofs.PrintedParts.{field_part, variable_part, owners_part, flags_part, variables_part, parts_of, PartsStand, PartsStand-nil, lines_stand, parts_stand, keys_apart, contents_of, contents-records_of, contents_again}
-use Rattle.dc_item.specs.declared.part.Part.{Part}
-use Rattle.dc_item.specs.declared.part.Part.TheVariants.{Blank, Name, Variables}
+use Rattle.dc_item.proofs.PrintedLines.{field_part, variable_part, owners_part, flags_part, variables_part, parts_of, PartsStand, PartsStand-nil, lines_stand, parts_stand, keys_apart, contents_of, contents-records_of, contents_again}
+use Rattle.dc_item.specs.declared.record_line.RecordLine.{RecordLine}
+use Rattle.dc_item.specs.declared.record_line.RecordLine.TheVariants.{Blank, Name, Variables}
 use Rattle.dc_item.specs.declared.entry.Entry.{Entry}
 
 -- ---- lines printed one after another are read as these lines
 
 abbrev pub HasNoNewline : List ℕ → Type 0
-HasNoNewline line = AllByRecursion (λ b. (b == 10) ≡ false) line
+HasNoNewline line = Free 10 line
 
-parts-line : (line text : List ℕ) → HasNoNewline line → parts (line ++ 10 ∷ text) ≡ record { ended = line ∷ (parts text).ended; rest = (parts text).rest }
-parts-line [] text h = refl
-parts-line (b ∷ line) text h =
-    let more : Parts = parts (line ++ 10 ∷ text) in
-    ap (λ t. cond t (record { ended = [] ∷ more.ended; rest = more.rest }) (onto_first b more.ended more.rest)) h.0
-    ∙ ap (λ (p : Parts). onto_first b p.ended p.rest) (parts-line line text h.1)
+no_newline : (line : List ℕ) → HasNoNewline line → has_newline line ≡ false
+no_newline [] h = refl
+no_newline (b ∷ line) h = ap (λ t. t || has_newline line) h.0 ∙ no_newline line h.1
 
-pub lines_of-text_of : (lines : List (List ℕ)) → AllByRecursion HasNoNewline lines → lines_of (text_of lines) ≡ lines
-lines_of-text_of [] h = refl
-lines_of-text_of (l ∷ lines) h =
-    ap lines_of (append_assoc l (10 ∷ []) (text_of lines))
-    ∙ ap (λ (p : Parts). p.ended ++ unless_empty p.rest) (parts-line l (text_of lines) h.0)
-    ∙ ap (λ ls. l ∷ ls) (lines_of-text_of lines h.1)
+have_no_newline : (lines : List (List ℕ)) → AllByRecursion HasNoNewline lines → HaveNoNewline lines
+have_no_newline [] h = tt
+have_no_newline (line ∷ lines) h = (no_newline line h.0, have_no_newline lines h.1)
 
 -- ---- what is found in a map, and its entries
 
@@ -151,35 +146,35 @@ no_newlines e h =
           (tt, tt),
     )
 
-fields_parts : (es : List (List ℕ × List ℕ)) → AllByRecursion IsField es → map part_of (map shown_field es) ≡ map field_part es
+fields_parts : (es : List (List ℕ × List ℕ)) → AllByRecursion IsField es → map line_said (map shown_field es) ≡ map field_part es
 fields_parts [] h = refl
 fields_parts (e ∷ es) h = λ i. field_said e h.0.0 h.0.1 i ∷ fields_parts es h.1 i
 
-variables_parts : (es : List (List ℕ × List ℕ)) → AllByRecursion IsVariable es → map part_of (map shown_variable es) ≡ map variable_part es
+variables_parts : (es : List (List ℕ × List ℕ)) → AllByRecursion IsVariable es → map line_said (map shown_variable es) ≡ map variable_part es
 variables_parts [] h = refl
 variables_parts (e ∷ es) h = λ i. variable_said e h.0.0 h.0.1 i ∷ variables_parts es h.1 i
 
-owners_parts : (ks : List (List ℕ)) → AllByRecursion (λ n. is_name n ≡ true) ks → map part_of (list_lines owners_head ks) ≡ owners_part ks
+owners_parts : (ks : List (List ℕ)) → AllByRecursion (λ n. is_name n ≡ true) ks → map line_said (list_lines owners_head ks) ≡ owners_part ks
 owners_parts [] h = refl
 owners_parts (k ∷ ks) h = ap (λ p. p ∷ []) (owners_said k ks h)
 
-flags_parts : (ks : List (List ℕ)) → AllByRecursion (λ n. is_flag_name n ≡ true) ks → map part_of (list_lines flags_head ks) ≡ flags_part ks
+flags_parts : (ks : List (List ℕ)) → AllByRecursion (λ n. is_flag_name n ≡ true) ks → map line_said (list_lines flags_head ks) ≡ flags_part ks
 flags_parts [] h = refl
 flags_parts (k ∷ ks) h = ap (λ p. p ∷ []) (flags_said k ks h)
 
-variable_lines_parts : (es : List (List ℕ × List ℕ)) → AllByRecursion IsVariable es → map part_of (variable_lines es) ≡ variables_part es
+variable_lines_parts : (es : List (List ℕ × List ℕ)) → AllByRecursion IsVariable es → map line_said (variable_lines es) ≡ variables_part es
 variable_lines_parts [] h = refl
 variable_lines_parts (e ∷ es) h = ap (λ ps. Variables ∷ ps) (variables_parts (e ∷ es) h)
 
-parts_of_lines : (e : Entry) → IsPrintable e → map part_of (record_lines (contents e)) ≡ parts_of e
+parts_of_lines : (e : Entry) → IsPrintable e → map line_said (record_lines (contents e)) ≡ parts_of e
 parts_of_lines e h =
     let f : List (List ℕ) = map shown_field (fin.entries e.item.fields) in
     let o : List (List ℕ) = list_lines owners_head (fin.keys e.item.owners) in
     let g : List (List ℕ) = list_lines flags_head (fin.keys e.item.flags) in
     let v : List (List ℕ) = variable_lines (fin.entries e.item.variables) in
-    let body : map part_of (((f ++ o) ++ g) ++ v) ≡ ((map part_of f ++ map part_of o) ++ map part_of g) ++ map part_of v
-    = map-append part_of ((f ++ o) ++ g) v ∙ ap (λ xs. xs ++ map part_of v) (map-append part_of (f ++ o) g ∙ ap (λ xs. xs ++ map part_of g) (map-append part_of f o)) in
-    (λ i. name_said e.name h.name i ∷ map-append part_of (((f ++ o) ++ g) ++ v) ([] ∷ []) i)
+    let body : map line_said (((f ++ o) ++ g) ++ v) ≡ ((map line_said f ++ map line_said o) ++ map line_said g) ++ map line_said v
+    = map-append line_said ((f ++ o) ++ g) v ∙ ap (λ xs. xs ++ map line_said v) (map-append line_said (f ++ o) g ∙ ap (λ xs. xs ++ map line_said g) (map-append line_said f o)) in
+    (λ i. name_said e.name h.name i ∷ map-append line_said (((f ++ o) ++ g) ++ v) ([] ∷ []) i)
     ∙ ap (λ xs. Name e.name ∷ (xs ++ Blank ∷ []))
     (body ∙ (λ i. ((fields_parts (fin.entries e.item.fields) h.fields i ++ owners_parts (fin.keys e.item.owners) h.owners i) ++ flags_parts (fin.keys e.item.flags) h.flags i)
     ++ variable_lines_parts (fin.entries e.item.variables) h.variables i))
@@ -190,23 +185,23 @@ table_lines : (es : List Entry) → AllByRecursion IsEntry es → AllByRecursion
 table_lines [] h = tt
 table_lines (e ∷ es) h = all_append HasNoNewline (record_lines (contents e)) (flat_map (λ e. record_lines (contents e)) es) (no_newlines e (printable e h.0)) (table_lines es h.1)
 
-table_parts : (es : List Entry) → AllByRecursion IsEntry es → map part_of (flat_map (λ e. record_lines (contents e)) es) ≡ flat_map parts_of es
+table_parts : (es : List Entry) → AllByRecursion IsEntry es → map line_said (flat_map (λ e. record_lines (contents e)) es) ≡ flat_map parts_of es
 table_parts [] h = refl
-table_parts (e ∷ es) h = map-append part_of (record_lines (contents e)) (flat_map (λ e. record_lines (contents e)) es) ∙ (λ i. parts_of_lines e (printable e h.0) i ++ table_parts es h.1 i)
+table_parts (e ∷ es) h = map-append line_said (record_lines (contents e)) (flat_map (λ e. record_lines (contents e)) es) ∙ (λ i. parts_of_lines e (printable e h.0) i ++ table_parts es h.1 i)
 
 none_before : (names : List (List ℕ)) → AllByRecursion (IsNewName []) names
 none_before [] = tt
 none_before (n ∷ names) = (tt, none_before names)
 
-parts_in-enumerate_from : (n : ℕ) (ps : List Part) → parts_in (enumerate_from n ps) ≡ ps
-parts_in-enumerate_from n [] = refl
-parts_in-enumerate_from n (p ∷ ps) = ap (λ xs. p ∷ xs) (parts_in-enumerate_from (n + 1) ps)
+lines_said-enumerate_from : (n : ℕ) (ps : List RecordLine) → lines_said (enumerate_from n ps) ≡ ps
+lines_said-enumerate_from n [] = refl
+lines_said-enumerate_from n (p ∷ ps) = ap (λ xs. p ∷ xs) (lines_said-enumerate_from (n + 1) ps)
 
-pub read_again : (entries : List Entry) → AllByRecursion IsEntry entries → Apart (names_of entries) → ReadsAs (canon entries) entries
+pub read_again : (entries : List Entry) → AllByRecursion IsEntry entries → AreDistinct (names_of entries) → ReadsAs (canon entries) entries
 read_again entries good apart =
     let lines : List (List ℕ) = flat_map (λ e. record_lines (contents e)) entries in
-    let is : lines_of (canon entries) ≡ lines = lines_of-text_of lines (table_lines entries good) in
-    let said : parts_in (numbered lines) ≡ flat_map parts_of entries = parts_in-enumerate_from 1 (map part_of lines) ∙ table_parts entries good in
+    let is : lines_of (canon entries) ≡ lines = lines_of-text_of lines (have_no_newline lines (table_lines entries good)) in
+    let said : lines_said (numbered lines) ≡ flat_map parts_of entries = lines_said-enumerate_from 1 (map line_said lines) ∙ table_parts entries good in
     let stand : PartsStand (flat_map parts_of entries) = parts_stand [] entries PartsStand-nil refl (none_before (names_of entries)) apart in
     let reads : ReadsLines lines (records_of (numbered lines)) = record { stand = lines_stand (numbered lines) (subst PartsStand (sym said) stand); are = refl } in
     (records_of (numbered lines), subst (λ ls. ReadsLines ls (records_of (numbered lines))) (sym is) reads, contents-records_of (numbered lines) ∙ ap contents_of said ∙ contents_again entries)
@@ -241,5 +236,5 @@ pub table_again : (table : Texts ItemParts) → IsTable table → (read : List E
 table_again table h =
     let es : List (List ℕ × ItemParts) = fin.entries table in
     let good : AllByRecursion IsEntry (entries_from es) = good_from es (each_found (λ e. (is_name e.0 ≡ true) × IsItem e.1) es (fin.entries_sorted table) (λ k v f. h k v (fin.get-entries table k ∙ f))) in
-    let again : ReadsAs (canon (entries_from es)) (entries_from es) = read_again (entries_from es) good (subst Apart (sym (names_from es)) (keys_apart table)) in
+    let again : ReadsAs (canon (entries_from es)) (entries_from es) = read_again (entries_from es) good (subst AreDistinct (sym (names_from es)) (keys_apart table)) in
     (again.0, subst (λ text. Reads text again.0) (ap text_of (lines_by_contents (entries_from es) ∙ ap (flat_map record_lines) (contents_from es))) again.1, again.2 ∙ contents_from es)

@@ -1,6 +1,6 @@
 -- What is read is a table: names are names, and items are items.
 use Rattle.std.proofs.Common.{◌≡◌, ℕ, ◌+◌, Bool, true, false, cond, List, [], ◌∷◌, ◌++◌, map, Some, None, Option, refl, sym, ap, ◌∙◌, subst}
-use Rattle.std.specs.Prelude.{◌&&◌, ◌==◌}
+use Rattle.std.specs.Prelude.{◌&&◌, ◌==◌, codes}
 use Rattle.std.specs.List.{filter_map, flat_map, list_all, list_any, AllByRecursion, cons_option, before_first, after_first, enumerate_from}
 use Rattle.std.specs.Str.{bytes_eq}
 use Rattle.std.specs.Ordering.{eq_by_cmp}
@@ -8,22 +8,23 @@ use Rattle.std.specs.Cmp.Lexicographic.{nat_list_cmp_total}
 use Rattle.std.specs.FinMap.{find, get-from_entries}
 use Rattle.dc_text.specs.Bytes.{is_indented, trimmed, without_space, lower, is_blank as is_blank_line}
 use Rattle.dc_text.specs.Maps.{text_cmp}
-use Rattle.dc_text.specs.Names.{is_name, is_field_key, is_flag_name, is_variable_key, name_word, owners_word, flags_word, variables_word}
+use Rattle.dc_text.specs.Names.{is_name, is_field_key, is_flag_name, is_variable_key}
 use Rattle.dc_text.specs.Settled.{is_settled}
 use Rattle.dc_text.proofs.SettledLemmas.{is_settled-settled}
-use Rattle.dc_item.specs.Grammar.{part_of, pieces, name_line, owners_line, flags_line, variables_line, field_line, headed_line, variable_line, indented_line}
-use Rattle.dc_item.specs.Item.{Parts, IsItem}
-use Rattle.dc_item.specs.Records.{is_blank, until_blank, field_in, variable_in, owners_in, flags_in, item_of, parts_in, record_at, records_of, numbered, ReadsLines}
+use Rattle.dc_item.specs.Grammar.{line_said, pieces, name_line, owners_line, flags_line, variables_line, field_line, headed_line, variable_line, indented_line}
+use Rattle.dc_item.specs.Item.{ItemParts, IsItem}
+use Rattle.dc_text.proofs.FirstLemmas.{before_first-cons}
+use Rattle.dc_item.specs.Records.{is_blank, until_blank, field_in, variable_in, owners_in, flags_in, item_of, lines_said, record_at, records_of, numbered, ReadsLines}
 use Rattle.dc_item.specs.Table.{contents, table_of, IsEntry, IsTable}
 use Rattle.dc_item.proofs.Groups.{Line}
 use Rattle.dc_item.proofs.ItemLemmas.{same_key, KeepsAll-set_of}
-use Rattle.dc_item.specs.declared.part.Part.{Part}
-use Rattle.dc_item.specs.declared.part.Part.TheVariants.{Blank, Name, Owners, Flags, Variables, Variable, Field, Nothing}
+use Rattle.dc_item.specs.declared.record_line.RecordLine.{RecordLine}
+use Rattle.dc_item.specs.declared.record_line.RecordLine.TheVariants.{Blank, Name, Owners, Flags, Variables, Variable, Field, Nothing}
 use Rattle.dc_item.specs.declared.entry.Entry.{Entry}
 
 -- ---- what a line says is such that an item can hold it
 
-abbrev IsGood : Part → Type 0
+abbrev IsGood : RecordLine → Type 0
 IsGood Blank = Unit {0}
 IsGood (Name name) = is_name name ≡ true
 IsGood (Owners names) = list_all is_name names ≡ true
@@ -33,11 +34,11 @@ IsGood (Variable key value) = (is_variable_key key ≡ true) × (is_settled valu
 IsGood (Field key value) = (is_field_key key ≡ true) × (is_settled value ≡ true)
 IsGood Nothing = Unit {0}
 
-good_if : (b : Bool) (p : Part) → (b ≡ true → IsGood p) → IsGood (cond b p Nothing)
+good_if : (b : Bool) (p : RecordLine) → (b ≡ true → IsGood p) → IsGood (cond b p Nothing)
 good_if true p h = h refl
 good_if false p h = tt
 
-good_either : (b : Bool) (p q : Part) → IsGood p → IsGood q → IsGood (cond b p q)
+good_either : (b : Bool) (p q : RecordLine) → IsGood p → IsGood q → IsGood (cond b p q)
 good_either true p q g h = g
 good_either false p q g h = h
 
@@ -49,36 +50,37 @@ variable_good key rest = good_if (is_variable_key key) _ (λ e. (e, is_settled-s
 
 headed_good : (word rest : List ℕ) → IsGood (headed_line word rest)
 headed_good word rest =
-    good_either (bytes_eq word name_word) (name_line rest) _ (good_if (is_name (trimmed rest)) _ (λ e. e))
-    (good_either (bytes_eq word owners_word) (owners_line rest) _ (good_if (list_all is_name (pieces rest)) _ (λ e. e))
-    (good_either (bytes_eq word flags_word) (flags_line rest) _ (good_if (list_all is_flag_name (pieces rest)) _ (λ e. e))
-    (good_either (bytes_eq word variables_word) (variables_line rest) _ (good_if (is_blank_line rest) Variables (λ e. tt)) (field_good word rest))))
+    good_either (bytes_eq word (codes "name")) (name_line rest) _ (good_if (is_name (trimmed rest)) _ (λ e. e))
+    (good_either (bytes_eq word (codes "owners")) (owners_line rest) _ (good_if (list_all is_name (pieces rest)) _ (λ e. e))
+    (good_either (bytes_eq word (codes "flags")) (flags_line rest) _ (good_if (list_all is_flag_name (pieces rest)) _ (λ e. e))
+    (good_either (bytes_eq word (codes "variables")) (variables_line rest) _ (good_if (is_blank_line rest) Variables (λ e. tt)) (field_good word rest))))
 
 indented_good : (line : List ℕ) → IsGood (indented_line line)
 indented_good line = good_either (list_any (λ b. b == 61) line) _ Nothing (variable_good (trimmed (before_first (λ b. b == 61) line)) (after_first (λ b. b == 61) line)) tt
 
-part_good : (line : List ℕ) → IsGood (part_of line)
+part_good : (line : List ℕ) → IsGood (line_said line)
 part_good line =
     good_either (is_blank_line line) Blank _ tt
     (good_either (is_indented line) (indented_line line) _ (indented_good line)
     (good_either (list_any (λ b. b == 58) line) _ Nothing (headed_good (map lower (before_first (λ b. b == 58) line)) (after_first (λ b. b == 58) line)) tt))
 
-abbrev AllGood : List Part → Type 0
+abbrev AllGood : List RecordLine → Type 0
 AllGood ps = AllByRecursion IsGood ps
 
-numbered_good : (n : ℕ) (lines : List (List ℕ)) → AllGood (parts_in (enumerate_from n (map part_of lines)))
+numbered_good : (n : ℕ) (lines : List (List ℕ)) → AllGood (lines_said (enumerate_from n (map line_said lines)))
 numbered_good n [] = tt
 numbered_good n (l ∷ lines) = (part_good l, numbered_good (n + 1) lines)
 
 -- ---- the item of such lines
 
-until_good : (ps : List Part) → AllGood ps → AllGood (until_blank ps)
+until_good : (ps : List RecordLine) → AllGood ps → AllGood (until_blank ps)
 until_good [] g = tt
-until_good (p ∷ ps) g = elim (is_blank p) as (λ b. AllGood (cond b [] (p ∷ until_blank ps))) [ true ↦ tt | false ↦ (g.0, until_good ps g.1) ]
+until_good (p ∷ ps) g =
+    subst AllGood (sym (before_first-cons is_blank p ps)) (elim (is_blank p) as (λ b. AllGood (cond b [] (p ∷ until_blank ps))) [ true ↦ tt | false ↦ (g.0, until_good ps g.1) ])
 
 -- what is found among the entries that the lines make
-module _ (h : Part → Option (List ℕ × List ℕ)) (p q : List ℕ → Bool) (good : (x : Part) (k v : List ℕ) → IsGood x → h x ≡ Some (k, v) → (p k ≡ true) × (q v ≡ true)) where
-  found_good : (ps : List Part) (k v : List ℕ) → AllGood ps → find text_cmp k (filter_map h ps) ≡ Some v → (p k ≡ true) × (q v ≡ true)
+module _ (h : RecordLine → Option (List ℕ × List ℕ)) (p q : List ℕ → Bool) (good : (x : RecordLine) (k v : List ℕ) → IsGood x → h x ≡ Some (k, v) → (p k ≡ true) × (q v ≡ true)) where
+  found_good : (ps : List RecordLine) (k v : List ℕ) → AllGood ps → find text_cmp k (filter_map h ps) ≡ Some v → (p k ≡ true) × (q v ≡ true)
   found_good [] k v g e = absurd (cc)
   found_good (x ∷ ps) k v g e =
       elim (h x) as (λ o. h x ≡ o → find text_cmp k (cons_option o (filter_map h ps)) ≡ Some v → (p k ≡ true) × (q v ≡ true)) [
@@ -92,7 +94,7 @@ module _ (h : Part → Option (List ℕ × List ℕ)) (p q : List ℕ → Bool) 
 pair_of : (x y : List ℕ × List ℕ) → Some x ≡ Some y → x ≡ y
 pair_of x y e = cc
 
-good_field : (x : Part) (k v : List ℕ) → IsGood x → field_in x ≡ Some (k, v) → (is_field_key k ≡ true) × (is_settled v ≡ true)
+good_field : (x : RecordLine) (k v : List ℕ) → IsGood x → field_in x ≡ Some (k, v) → (is_field_key k ≡ true) × (is_settled v ≡ true)
 good_field Blank k v g e = absurd (cc)
 good_field (Name name) k v g e = absurd (cc)
 good_field (Owners names) k v g e = absurd (cc)
@@ -102,7 +104,7 @@ good_field (Variable key value) k v g e = absurd (cc)
 good_field (Field key value) k v g e = let a : (key, value) ≡ (k, v) = pair_of (key, value) (k, v) e in (ap (λ (x : List ℕ × List ℕ). is_field_key x.0) (sym a) ∙ g.0, ap (λ (x : List ℕ × List ℕ). is_settled x.1) (sym a) ∙ g.1)
 good_field Nothing k v g e = absurd (cc)
 
-good_variable : (x : Part) (k v : List ℕ) → IsGood x → variable_in x ≡ Some (k, v) → (is_variable_key k ≡ true) × (is_settled v ≡ true)
+good_variable : (x : RecordLine) (k v : List ℕ) → IsGood x → variable_in x ≡ Some (k, v) → (is_variable_key k ≡ true) × (is_settled v ≡ true)
 good_variable Blank k v g e = absurd (cc)
 good_variable (Name name) k v g e = absurd (cc)
 good_variable (Owners names) k v g e = absurd (cc)
@@ -119,7 +121,7 @@ all_both p (x ∷ xs) ys a b = let f : (p x ≡ true) × (list_all p xs ≡ true
   apart true t e = (refl, e)
   apart false t e = absurd (cc)
 
-owners_good : (x : Part) → IsGood x → list_all is_name (owners_in x) ≡ true
+owners_good : (x : RecordLine) → IsGood x → list_all is_name (owners_in x) ≡ true
 owners_good Blank g = refl
 owners_good (Name name) g = refl
 owners_good (Owners names) g = g
@@ -129,7 +131,7 @@ owners_good (Variable key value) g = refl
 owners_good (Field key value) g = refl
 owners_good Nothing g = refl
 
-flags_good : (x : Part) → IsGood x → list_all is_flag_name (flags_in x) ≡ true
+flags_good : (x : RecordLine) → IsGood x → list_all is_flag_name (flags_in x) ≡ true
 flags_good Blank g = refl
 flags_good (Name name) g = refl
 flags_good (Owners names) g = refl
@@ -139,11 +141,11 @@ flags_good (Variable key value) g = refl
 flags_good (Field key value) g = refl
 flags_good Nothing g = refl
 
-listed_good : (p : List ℕ → Bool) (f : Part → List (List ℕ)) → ((x : Part) → IsGood x → list_all p (f x) ≡ true) → (ps : List Part) → AllGood ps → list_all p (flat_map f ps) ≡ true
+listed_good : (p : List ℕ → Bool) (f : RecordLine → List (List ℕ)) → ((x : RecordLine) → IsGood x → list_all p (f x) ≡ true) → (ps : List RecordLine) → AllGood ps → list_all p (flat_map f ps) ≡ true
 listed_good p f h [] g = refl
 listed_good p f h (x ∷ ps) g = all_both p (f x) (flat_map f ps) (h x g.0) (listed_good p f h ps g.1)
 
-item_good : (ps : List Part) → AllGood ps → IsItem (item_of ps)
+item_good : (ps : List RecordLine) → AllGood ps → IsItem (item_of ps)
 item_good ps g = record {
   fields = λ k v e. found_good field_in is_field_key is_settled good_field ps k v g (sym (get-from_entries nat_list_cmp_total (filter_map field_in ps) k) ∙ e);
   flags = KeepsAll-set_of is_flag_name (flat_map flags_in ps) (listed_good is_flag_name flags_in flags_good ps g);
@@ -157,7 +159,7 @@ all_append : (xs ys : List Entry) → AllByRecursion IsEntry xs → AllByRecursi
 all_append [] ys a b = b
 all_append (x ∷ xs) ys a b = (a.0, all_append xs ys a.1 b)
 
-record_good : (n : ℕ) (p : Part) (ps : List Part) → IsGood p → AllGood ps → AllByRecursion IsEntry (record_at n p ps)
+record_good : (n : ℕ) (p : RecordLine) (ps : List RecordLine) → IsGood p → AllGood ps → AllByRecursion IsEntry (record_at n p ps)
 record_good n Blank ps g h = tt
 record_good n (Name name) ps g h = (record { name = g; item = item_good (until_blank ps) (until_good ps h) }, tt)
 record_good n (Owners names) ps g h = tt
@@ -167,11 +169,11 @@ record_good n (Variable key value) ps g h = tt
 record_good n (Field key value) ps g h = tt
 record_good n Nothing ps g h = tt
 
-records_good : (ls : List Line) → AllGood (parts_in ls) → AllByRecursion IsEntry (records_of ls)
+records_good : (ls : List Line) → AllGood (lines_said ls) → AllByRecursion IsEntry (records_of ls)
 records_good [] g = tt
-records_good (l ∷ ls) g = all_append (record_at l.0 l.1 (parts_in ls)) (records_of ls) (record_good l.0 l.1 (parts_in ls) g.0 g.1) (records_good ls g.1)
+records_good (l ∷ ls) g = all_append (record_at l.0 l.1 (lines_said ls)) (records_of ls) (record_good l.0 l.1 (lines_said ls) g.0 g.1) (records_good ls g.1)
 
-found_entry : (es : List Entry) (name : List ℕ) (item : Parts) → AllByRecursion IsEntry es → find text_cmp name (map contents es) ≡ Some item → (is_name name ≡ true) × IsItem item
+found_entry : (es : List Entry) (name : List ℕ) (item : ItemParts) → AllByRecursion IsEntry es → find text_cmp name (map contents es) ≡ Some item → (is_name name ≡ true) × IsItem item
 found_entry [] name item g e = absurd (cc)
 found_entry (x ∷ es) name item g e = elim (eq_by_cmp text_cmp name x.name) as (λ b. eq_by_cmp text_cmp name x.name ≡ b → cond b (Some x.item) (find text_cmp name (map contents es)) ≡ Some item → (is_name name ≡ true) × IsItem item) [
   | true ↦ λ t f. (let same : x.item ≡ item = cc in (ap is_name (same_key name x.name t) ∙ g.0.name, subst IsItem same g.0.item))

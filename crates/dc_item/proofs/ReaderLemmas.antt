@@ -12,18 +12,18 @@ use Rattle.std.proofs.lemmas.List.Elements.{filter_map-append}
 use Rattle.std.proofs.lemmas.Result.{MatchResult-at_ok, MatchResult-at_err}
 use Rattle.dc_text.specs.Faults.{AllStand, IsFirstFault}
 use Rattle.dc_text.specs.Lines.{lines_of}
-use Rattle.dc_text.specs.Maps.{set_of, text_cmp}
+use Rattle.dc_text.specs.Maps.{AreDistinct, set_of, text_cmp}
 use Rattle.dc_text.proofs.FaultLemmas.{run_finds}
 use Rattle.dc_text.proofs.MapLemmas.{set_of-push}
-use Rattle.dc_item.specs.Records.{is_blank, until_blank, since_blank, name_in, item_of, parts_in, records_of, numbered, Stands, LineStands, ReadsLines, HasReading, IsNew, IsAnswer, IsBad, EndsInVariables, OfOwners, OfFlags, OfVariables}
+use Rattle.dc_item.specs.Records.{is_blank, until_blank, since_blank, name_in, item_of, lines_said, records_of, numbered, Stands, LineStands, ReadsLines, HasReading, IsNew, IsAnswer, IsBad, EndsInVariables, OfOwners, OfFlags, OfVariables}
 use Rattle.dc_item.specs.Reader.{added, entry_of, closed, with_current, begun, step, at_start, taken_or, line_step, read_all, Fails}
-use Rattle.dc_item.specs.Table.{Apart, names_of}
+use Rattle.dc_item.specs.Table.{names_of}
 use Rattle.dc_item.proofs.FirstBad.{HasFault, bad_from_fault, reading_from_all}
-use Rattle.dc_item.proofs.Groups.{Line, parts_in-append, IsFurther, since_blank-blank, since_blank-push, records_of-closed, until_blank-body, tail_only, names-records_of}
+use Rattle.dc_item.proofs.Groups.{Line, lines_said-append, IsFurther, since_blank-blank, since_blank-push, records_of-closed, until_blank-body, tail_only, names-records_of}
 use Rattle.dc_item.proofs.ItemLemmas.{same_key, contains_key-set_of}
 use Rattle.dc_item.proofs.OpenRecord.{IsOpen, FitsGroup, Taken, added_taken, added_refused}
-use Rattle.dc_item.specs.declared.part.Part.{Part}
-use Rattle.dc_item.specs.declared.part.Part.TheVariants.{Blank, Name, Owners, Flags, Variables, Variable, Field, Nothing}
+use Rattle.dc_item.specs.declared.record_line.RecordLine.{RecordLine}
+use Rattle.dc_item.specs.declared.record_line.RecordLine.TheVariants.{Blank, Name, Owners, Flags, Variables, Variable, Field, Nothing}
 use Rattle.dc_item.specs.declared.entry.Entry.{Entry}
 use Rattle.dc_item.specs.declared.reader.Open.{Open}
 use Rattle.dc_item.specs.declared.reader.Reader.{Reader}
@@ -39,7 +39,7 @@ record HasCurrent (group : List Line) (o : Open) : Type 0 where
   pub line : ℕ
   pub rest : List Line
   pub head : group ≡ (line, Name o.name) ∷ rest
-  pub is_open : IsOpen (parts_in group) line o
+  pub is_open : IsOpen (lines_said group) line o
 
 abbrev IsCurrent : List Line → Option Open → Type 0
 IsCurrent group None = group ≡ []
@@ -50,10 +50,10 @@ record Holds (ls : List Line) (r : Reader) : Type 0 where
   pub front : List Line
   pub group : List Line
   pub whole : ls ≡ front ++ group
-  pub since : since_blank (parts_in ls) ≡ parts_in group
+  pub since : since_blank (lines_said ls) ≡ lines_said group
   pub ended : (front ≡ []) ⊎ ((fs : List Line) × (n : ℕ) × (front ≡ fs ++ (n, Blank) ∷ []))
   pub done : r.done ≡ records_of front
-  pub names : r.names ≡ set_of (filter_map name_in (parts_in ls))
+  pub names : r.names ≡ set_of (filter_map name_in (lines_said ls))
   pub current : IsCurrent group r.current
 
 -- the records of closed lines and of those after them
@@ -66,25 +66,25 @@ records-parted front gs ended = elim ended as (λ _. records_of (front ++ gs) �
 abbrev entries_of : Option Open → List Entry
 entries_of current = option_map_or (λ o. entry_of o ∷ []) current []
 
-same_rest : (group : List Line) (o : Open) → (h : HasCurrent group o) → parts_in h.rest ≡ h.is_open.rest
+same_rest : (group : List Line) (o : Open) → (h : HasCurrent group o) → lines_said h.rest ≡ h.is_open.rest
 same_rest group o h =
-    let a : parts_in group ≡ Name o.name ∷ parts_in h.rest = ap parts_in h.head in
-    let b : parts_in group ≡ Name o.name ∷ h.is_open.rest = h.is_open.group_is in
+    let a : lines_said group ≡ Name o.name ∷ lines_said h.rest = ap lines_said h.head in
+    let b : lines_said group ≡ Name o.name ∷ h.is_open.rest = h.is_open.group_is in
     cc
 
 -- what is open makes the last record
-records-current : (group tail : List Line) (current : Option Open) → IsCurrent group current → until_blank (parts_in tail) ≡ [] → records_of tail ≡ [] → records_of (group ++ tail) ≡ entries_of current
+records-current : (group tail : List Line) (current : Option Open) → IsCurrent group current → until_blank (lines_said tail) ≡ [] → records_of tail ≡ [] → records_of (group ++ tail) ≡ entries_of current
 records-current group tail None is ends none = ap (λ g. records_of (g ++ tail)) is ∙ none
 records-current group tail (Some o) is ends none =
-    let same : parts_in is.rest ≡ is.is_open.rest = same_rest group o is in
-    let body : AllByRecursion IsFurther (parts_in is.rest) = subst (AllByRecursion IsFurther) (sym same) is.is_open.body in
-    let rest : until_blank (parts_in (is.rest ++ tail)) ≡ is.is_open.rest
-    = ap until_blank (parts_in-append is.rest tail) ∙ until_blank-body (parts_in is.rest) (parts_in tail) body ∙ ap (λ xs. parts_in is.rest ++ xs) ends ∙ append-nil (parts_in is.rest) ∙ same in
-    let item : item_of (until_blank (parts_in (is.rest ++ tail))) ≡ o.item = ap item_of rest ∙ sym is.is_open.item_is in
+    let same : lines_said is.rest ≡ is.is_open.rest = same_rest group o is in
+    let body : AllByRecursion IsFurther (lines_said is.rest) = subst (AllByRecursion IsFurther) (sym same) is.is_open.body in
+    let rest : until_blank (lines_said (is.rest ++ tail)) ≡ is.is_open.rest
+    = ap until_blank (lines_said-append is.rest tail) ∙ until_blank-body (lines_said is.rest) (lines_said tail) body ∙ ap (λ xs. lines_said is.rest ++ xs) ends ∙ append-nil (lines_said is.rest) ∙ same in
+    let item : item_of (until_blank (lines_said (is.rest ++ tail))) ≡ o.item = ap item_of rest ∙ sym is.is_open.item_is in
     let line_is : is.line ≡ o.line = sym is.is_open.line_is in
-    let first : ◌≡◌ {A = Entry} (record { name = o.name; item = item_of (until_blank (parts_in (is.rest ++ tail))); line = is.line }) (entry_of o) = λ i. record { name = o.name; item = item i; line = line_is i } in
+    let first : ◌≡◌ {A = Entry} (record { name = o.name; item = item_of (until_blank (lines_said (is.rest ++ tail))); line = is.line }) (entry_of o) = λ i. record { name = o.name; item = item i; line = line_is i } in
     ap (λ g. records_of (g ++ tail)) is.head
-    ∙ ap (λ es. record { name = o.name; item = item_of (until_blank (parts_in (is.rest ++ tail))); line = is.line } ∷ es) (tail_only is.rest tail body none)
+    ∙ ap (λ es. record { name = o.name; item = item_of (until_blank (lines_said (is.rest ++ tail))); line = is.line } ∷ es) (tail_only is.rest tail body none)
     ∙ ap (λ (e : Entry). e ∷ []) first
 
 closed-done : (r : Reader) → (closed r).done ≡ r.done ++ entries_of r.current
@@ -106,7 +106,7 @@ closed-names r = elim r.current as (λ c. Reader.names (option_map_or (λ o. rec
 ]
 
 -- the reader's records, with what is open, are those of the lines
-closed-records : (ls tail : List Line) (r : Reader) → Holds ls r → until_blank (parts_in tail) ≡ [] → records_of tail ≡ [] → (closed r).done ≡ records_of (ls ++ tail)
+closed-records : (ls tail : List Line) (r : Reader) → Holds ls r → until_blank (lines_said tail) ≡ [] → records_of tail ≡ [] → (closed r).done ≡ records_of (ls ++ tail)
 closed-records ls tail r h ends none =
     closed-done r ∙ ap (λ es. es ++ entries_of r.current) h.done
     ∙ ap (λ es. records_of h.front ++ es) (sym (records-current h.group tail r.current h.current ends none))
@@ -114,17 +114,17 @@ closed-records ls tail r h ends none =
     ∙ ap records_of (sym (append_assoc h.front h.group tail) ∙ ap (λ xs. xs ++ tail) (sym h.whole))
 
 -- a line without a name adds none
-names_stay : (ls : List Line) (n : ℕ) (p : Part) → name_in p ≡ None → filter_map name_in (parts_in (ls ++ (n, p) ∷ [])) ≡ filter_map name_in (parts_in ls)
+names_stay : (ls : List Line) (n : ℕ) (p : RecordLine) → name_in p ≡ None → filter_map name_in (lines_said (ls ++ (n, p) ∷ [])) ≡ filter_map name_in (lines_said ls)
 names_stay ls n p e =
-    ap (filter_map name_in) (parts_in-append ls ((n, p) ∷ [])) ∙ filter_map-append name_in (parts_in ls) (p ∷ [])
-    ∙ ap (λ o. filter_map name_in (parts_in ls) ++ cons_option o []) e ∙ append-nil (filter_map name_in (parts_in ls))
+    ap (filter_map name_in) (lines_said-append ls ((n, p) ∷ [])) ∙ filter_map-append name_in (lines_said ls) (p ∷ [])
+    ∙ ap (λ o. filter_map name_in (lines_said ls) ++ cons_option o []) e ∙ append-nil (filter_map name_in (lines_said ls))
 
 blank_taken : (ls : List Line) (n : ℕ) (r : Reader) → Holds ls r → Holds (ls ++ (n, Blank) ∷ []) (closed r)
 blank_taken ls n r h = record {
   front = ls ++ (n, Blank) ∷ [];
   group = [];
   whole = sym (append-nil (ls ++ (n, Blank) ∷ []));
-  since = ap since_blank (parts_in-append ls ((n, Blank) ∷ [])) ∙ since_blank-blank (parts_in ls);
+  since = ap since_blank (lines_said-append ls ((n, Blank) ∷ [])) ∙ since_blank-blank (lines_said ls);
   ended = inr (ls, n, refl);
   done = closed-records ls ((n, Blank) ∷ []) r h refl refl;
   names = closed-names r ∙ h.names ∙ ap set_of (sym (names_stay ls n Blank refl));
@@ -135,9 +135,9 @@ blank_taken ls n r h = record {
 whole_push : (ls : List Line) (r : Reader) (l : Line) → (h : Holds ls r) → ls ++ l ∷ [] ≡ h.front ++ (h.group ++ l ∷ [])
 whole_push ls r l h = ap (λ xs. xs ++ l ∷ []) h.whole ∙ append_assoc h.front h.group (l ∷ [])
 
-since_push : (ls : List Line) (r : Reader) (n : ℕ) (p : Part) → (h : Holds ls r) → is_blank p ≡ false → since_blank (parts_in (ls ++ (n, p) ∷ [])) ≡ parts_in (h.group ++ (n, p) ∷ [])
+since_push : (ls : List Line) (r : Reader) (n : ℕ) (p : RecordLine) → (h : Holds ls r) → is_blank p ≡ false → since_blank (lines_said (ls ++ (n, p) ∷ [])) ≡ lines_said (h.group ++ (n, p) ∷ [])
 since_push ls r n p h e =
-    ap since_blank (parts_in-append ls ((n, p) ∷ [])) ∙ since_blank-push (parts_in ls) p e ∙ ap (λ xs. xs ++ p ∷ []) h.since ∙ sym (parts_in-append h.group ((n, p) ∷ []))
+    ap since_blank (lines_said-append ls ((n, p) ∷ [])) ∙ since_blank-push (lines_said ls) p e ∙ ap (λ xs. xs ++ p ∷ []) h.since ∙ sym (lines_said-append h.group ((n, p) ∷ []))
 
 none_of : {X : Type 0} (o : Option X) → is_some o ≡ false → o ≡ None
 none_of None e = refl
@@ -173,19 +173,19 @@ one_is name (n ∷ names) e all = elim (eq_by_cmp text_cmp name n) as (λ b. eq_
 ] refl e
 
 -- whether the reader has the name
-has_name : (ls : List Line) (r : Reader) (name : List ℕ) → Holds ls r → contains_key r.names name ≡ list_any (eq_by_cmp text_cmp name) (filter_map name_in (parts_in ls))
-has_name ls r name h = ap (λ s. contains_key s name) h.names ∙ contains_key-set_of (filter_map name_in (parts_in ls)) name
+has_name : (ls : List Line) (r : Reader) (name : List ℕ) → Holds ls r → contains_key r.names name ≡ list_any (eq_by_cmp text_cmp name) (filter_map name_in (lines_said ls))
+has_name ls r name h = ap (λ s. contains_key s name) h.names ∙ contains_key-set_of (filter_map name_in (lines_said ls)) name
 
 no_group : (ls : List Line) (r : Reader) → (h : Holds ls r) → r.current ≡ None → h.group ≡ []
 no_group ls r h e = subst (IsCurrent h.group) e h.current
 
 name_taken : (ls : List Line) (n : ℕ) (r : Reader) (name : List ℕ) → Holds ls r → is_some r.current ≡ false → contains_key r.names name ≡ false
-    → Stands (parts_in ls) (Name name) × Holds (ls ++ (n, Name name) ∷ []) (record r { names = insert r.names name tt; current = Some (begun name n) })
+    → Stands (lines_said ls) (Name name) × Holds (ls ++ (n, Name name) ∷ []) (record r { names = insert r.names name tt; current = Some (begun name n) })
 name_taken ls n r name h c new =
     let group : h.group ≡ [] = no_group ls r h (none_of r.current c) in
     let one : h.group ++ (n, Name name) ∷ [] ≡ (n, Name name) ∷ [] = ap (λ xs. xs ++ (n, Name name) ∷ []) group in
-    let parts : parts_in (h.group ++ (n, Name name) ∷ []) ≡ Name name ∷ [] = ap parts_in one in (
-      (h.since ∙ ap parts_in group, none_is name (filter_map name_in (parts_in ls)) (sym (has_name ls r name h) ∙ new)),
+    let parts : lines_said (h.group ++ (n, Name name) ∷ []) ≡ Name name ∷ [] = ap lines_said one in (
+      (h.since ∙ ap lines_said group, none_is name (filter_map name_in (lines_said ls)) (sym (has_name ls r name h) ∙ new)),
       record {
         front = h.front;
         group = h.group ++ (n, Name name) ∷ [];
@@ -193,8 +193,8 @@ name_taken ls n r name h c new =
         since = since_push ls r n (Name name) h refl;
         ended = h.ended;
         done = h.done;
-        names = ap (λ s. insert s name tt) h.names ∙ sym (set_of-push (filter_map name_in (parts_in ls)) name)
-            ∙ ap set_of (sym (ap (filter_map name_in) (parts_in-append ls ((n, Name name) ∷ [])) ∙ filter_map-append name_in (parts_in ls) (Name name ∷ [])));
+        names = ap (λ s. insert s name tt) h.names ∙ sym (set_of-push (filter_map name_in (lines_said ls)) name)
+            ∙ ap set_of (sym (ap (filter_map name_in) (lines_said-append ls ((n, Name name) ∷ [])) ∙ filter_map-append name_in (lines_said ls) (Name name ∷ [])));
         current = record {
           line = n;
           rest = [];
@@ -214,24 +214,24 @@ name_taken ls n r name h c new =
       },
     )
 
-nil_from_parts : (group : List Line) → parts_in group ≡ [] → group ≡ []
+nil_from_parts : (group : List Line) → lines_said group ≡ [] → group ≡ []
 nil_from_parts [] e = refl
 nil_from_parts (l ∷ group) e = absurd (cc)
 
 -- no record is open where the group is empty
-open_has_lines : (ls : List Line) (r : Reader) (o : Open) → (h : Holds ls r) → HasCurrent h.group o → since_blank (parts_in ls) ≡ [] → ⊥
+open_has_lines : (ls : List Line) (r : Reader) (o : Open) → (h : Holds ls r) → HasCurrent h.group o → since_blank (lines_said ls) ≡ [] → ⊥
 open_has_lines ls r o h is none =
     let a : h.group ≡ [] = nil_from_parts h.group (sym h.since ∙ none) in
     let b : h.group ≡ (is.line, Name o.name) ∷ is.rest = is.head in
     cc
 
-name_refused : (ls : List Line) (r : Reader) (name : List ℕ) → Holds ls r → (is_some r.current ≡ true) ⊎ (contains_key r.names name ≡ true) → Stands (parts_in ls) (Name name) → ⊥
+name_refused : (ls : List Line) (r : Reader) (name : List ℕ) → Holds ls r → (is_some r.current ≡ true) ⊎ (contains_key r.names name ≡ true) → Stands (lines_said ls) (Name name) → ⊥
 name_refused ls r name h why stands = elim why as (λ _. ⊥) [
   | inl c ↦ elim r.current as (λ o. is_some o ≡ true → IsCurrent h.group o → ⊥) [
     | None ↦ λ c _. cc
     | Some o ↦ λ _ is. open_has_lines ls r o h is stands.0
   ] c h.current
-  | inr n ↦ one_is name (filter_map name_in (parts_in ls)) (sym (has_name ls r name h) ∙ n) stands.1
+  | inr n ↦ one_is name (filter_map name_in (lines_said ls)) (sym (has_name ls r name h) ∙ n) stands.1
 ]
 
 -- a further line
@@ -265,7 +265,7 @@ name_when : (u b : Bool) (n : List ℕ) (p q : Open) → p.name ≡ n → cond u
 name_when true b n p q is e = name_if b n p q is e
 name_when false b n p q is e = absurd (cc)
 
-name_kept : (p : Part) (o q : Open) → added o p ≡ Some q → o.name ≡ q.name
+name_kept : (p : RecordLine) (o q : Open) → added o p ≡ Some q → o.name ≡ q.name
 name_kept Blank o q e = absurd (cc)
 name_kept (Name name) o q e = absurd (cc)
 name_kept (Owners names) o q e = name_if o.has_owners o.name _ q refl e
@@ -276,15 +276,15 @@ name_kept (Field key value) o q e = name_if (contains_key o.item.fields key) o.n
 name_kept Nothing o q e = absurd (cc)
 
 record Goes (ls : List Line) (l : Line) (t : Reader) : Type 0 where
-  pub fits : FitsGroup (since_blank (parts_in ls)) l.1
-  pub some : since_blank (parts_in ls) ≢ []
+  pub fits : FitsGroup (since_blank (lines_said ls)) l.1
+  pub some : since_blank (lines_said ls) ≢ []
   pub holds : Holds (ls ++ l ∷ []) t
 
-further_taken : (ls : List Line) (n : ℕ) (r t : Reader) (p : Part) → Holds ls r → is_blank p ≡ false → name_in p ≡ None → with_current r (λ o. added o p) ≡ Some t → Goes ls (n, p) t
+further_taken : (ls : List Line) (n : ℕ) (r t : Reader) (p : RecordLine) → Holds ls r → is_blank p ≡ false → name_in p ≡ None → with_current r (λ o. added o p) ≡ Some t → Goes ls (n, p) t
 further_taken ls n r t p h unblank nameless e =
     let w : (o : Open) × (q : Open) × (r.current ≡ Some o) × (added o p ≡ Some q) × (record r { current = Some q } ≡ t) = with_some r t (λ o. added o p) r.current e in
     let is : HasCurrent h.group w.0 = subst (IsCurrent h.group) w.2 h.current in
-    let more : Taken (parts_in h.group) is.line p w.1 = added_taken p (parts_in h.group) is.line w.0 w.1 is.is_open w.3 in
+    let more : Taken (lines_said h.group) is.line p w.1 = added_taken p (lines_said h.group) is.line w.0 w.1 is.is_open w.3 in
     let same_name : (w.0).name ≡ (w.1).name = name_kept p w.0 w.1 w.3 in
     record {
       fits = subst (λ g. FitsGroup g p) (sym h.since) more.0;
@@ -301,29 +301,29 @@ further_taken ls n r t p h unblank nameless e =
           line = is.line;
           rest = is.rest ++ (n, p) ∷ [];
           head = ap (λ g. g ++ (n, p) ∷ []) is.head ∙ ap (λ m. (is.line, Name m) ∷ (is.rest ++ (n, p) ∷ [])) same_name;
-          is_open = subst (λ g. IsOpen g is.line w.1) (sym (parts_in-append h.group ((n, p) ∷ []))) more.1;
+          is_open = subst (λ g. IsOpen g is.line w.1) (sym (lines_said-append h.group ((n, p) ∷ []))) more.1;
         };
       });
     }
 
-further_refused : (ls : List Line) (r : Reader) (p : Part) → Holds ls r → with_current r (λ o. added o p) ≡ None → (Stands (parts_in ls) p → FitsGroup (since_blank (parts_in ls)) p) → (Stands (parts_in ls) p → since_blank (parts_in ls) ≡ [] → ⊥) → Stands (parts_in ls) p → ⊥
+further_refused : (ls : List Line) (r : Reader) (p : RecordLine) → Holds ls r → with_current r (λ o. added o p) ≡ None → (Stands (lines_said ls) p → FitsGroup (since_blank (lines_said ls)) p) → (Stands (lines_said ls) p → since_blank (lines_said ls) ≡ [] → ⊥) → Stands (lines_said ls) p → ⊥
 further_refused ls r p h e fits some stands = elim (with_none r (λ o. added o p) r.current e) as (λ _. ⊥) [
-  | inl c ↦ some stands (h.since ∙ ap parts_in (no_group ls r h c))
+  | inl c ↦ some stands (h.since ∙ ap lines_said (no_group ls r h c))
   | inr (o, c, f) ↦
       let is : HasCurrent h.group o = subst (IsCurrent h.group) c h.current in
-      added_refused p (parts_in h.group) is.line o is.is_open f (subst (λ g. FitsGroup g p) h.since (fits stands))
+      added_refused p (lines_said h.group) is.line o is.is_open f (subst (λ g. FitsGroup g p) h.since (fits stands))
 ]
 
 -- ---- a line that the reader takes stands, and one that it refuses does not
 
 abbrev TakenLine : List Line → Line → Reader → Type 0
-TakenLine ls l t = Stands (parts_in ls) l.1 × Holds (ls ++ l ∷ []) t
+TakenLine ls l t = Stands (lines_said ls) l.1 × Holds (ls ++ l ∷ []) t
 
-part_taken : (ls : List Line) (n : ℕ) (r : Reader) (p : Part) (t : Reader) → Holds ls r → step r n p ≡ Some t → TakenLine ls (n, p) t
+part_taken : (ls : List Line) (n : ℕ) (r : Reader) (p : RecordLine) (t : Reader) → Holds ls r → step r n p ≡ Some t → TakenLine ls (n, p) t
 part_taken ls n r Blank t h e = let same : closed r ≡ t = cc in (tt, subst (Holds (ls ++ (n, Blank) ∷ [])) same (blank_taken ls n r h))
 part_taken ls n r (Name name) t h e =
     let f : (is_some r.current ≡ false) × (contains_key r.names name ≡ false) × (_ ≡ t) = neither (is_some r.current) (contains_key r.names name) _ t e in
-    let g : Stands (parts_in ls) (Name name) × Holds (ls ++ (n, Name name) ∷ []) (record r { names = insert r.names name tt; current = Some (begun name n) }) = name_taken ls n r name h f.0 f.1 in
+    let g : Stands (lines_said ls) (Name name) × Holds (ls ++ (n, Name name) ∷ []) (record r { names = insert r.names name tt; current = Some (begun name n) }) = name_taken ls n r name h f.0 f.1 in
     (g.0, subst (Holds (ls ++ (n, Name name) ∷ [])) f.2 g.1)
 part_taken ls n r (Owners names) t h e = let g : Goes ls (n, Owners names) t = further_taken ls n r t (Owners names) h refl refl e in ((g.some, g.fits), g.holds)
 part_taken ls n r (Flags names) t h e = let g : Goes ls (n, Flags names) t = further_taken ls n r t (Flags names) h refl refl e in ((g.some, g.fits), g.holds)
@@ -332,7 +332,7 @@ part_taken ls n r (Variable key value) t h e = let g : Goes ls (n, Variable key 
 part_taken ls n r (Field key value) t h e = let g : Goes ls (n, Field key value) t = further_taken ls n r t (Field key value) h refl refl e in ((g.some, g.fits), g.holds)
 part_taken ls n r Nothing t h e = absurd (cc)
 
-part_refused : (ls : List Line) (n : ℕ) (r : Reader) (p : Part) → Holds ls r → step r n p ≡ None → Stands (parts_in ls) p → ⊥
+part_refused : (ls : List Line) (n : ℕ) (r : Reader) (p : RecordLine) → Holds ls r → step r n p ≡ None → Stands (lines_said ls) p → ⊥
 part_refused ls n r Blank h e s = cc
 part_refused ls n r (Name name) h e s = name_refused ls r name h (either (is_some r.current) (contains_key r.names name) _ e) s
 part_refused ls n r (Owners names) h e s = further_refused ls r (Owners names) h e (λ x. x.1) (λ x. x.0) s
@@ -393,33 +393,33 @@ some_answer text = answer_from text (read_all (lines_of text)) (machine (lines_o
 
 -- ---- the names of the records
 
-Apart-push : (texts : List (List ℕ)) (text : List ℕ) → Apart texts → AllByRecursion (λ other. other ≢ text) texts → Apart (texts ++ text ∷ [])
-Apart-push [] text a n = (tt, tt)
-Apart-push (t ∷ texts) text a n = (others texts a.0, Apart-push texts text a.1 n.1) where
+AreDistinct-push : (texts : List (List ℕ)) (text : List ℕ) → AreDistinct texts → AllByRecursion (λ other. other ≢ text) texts → AreDistinct (texts ++ text ∷ [])
+AreDistinct-push [] text a n = (tt, tt)
+AreDistinct-push (t ∷ texts) text a n = (others texts a.0, AreDistinct-push texts text a.1 n.1) where
   others : (xs : List (List ℕ)) → AllByRecursion (λ other. other ≢ t) xs → AllByRecursion (λ other. other ≢ t) (xs ++ text ∷ [])
   others [] h = ((λ e. n.0 (sym e)), tt)
   others (x ∷ xs) h = (h.0, others xs h.1)
 
-apart_one : (ps : List Part) (p : Part) → Apart (filter_map name_in ps) → Stands ps p → Apart (filter_map name_in ps ++ cons_option (name_in p) [])
-apart_one ps Blank a s = subst Apart (sym (append-nil (filter_map name_in ps))) a
-apart_one ps (Name name) a s = Apart-push (filter_map name_in ps) name a s.1
-apart_one ps (Owners names) a s = subst Apart (sym (append-nil (filter_map name_in ps))) a
-apart_one ps (Flags names) a s = subst Apart (sym (append-nil (filter_map name_in ps))) a
-apart_one ps Variables a s = subst Apart (sym (append-nil (filter_map name_in ps))) a
-apart_one ps (Variable key value) a s = subst Apart (sym (append-nil (filter_map name_in ps))) a
-apart_one ps (Field key value) a s = subst Apart (sym (append-nil (filter_map name_in ps))) a
+apart_one : (ps : List RecordLine) (p : RecordLine) → AreDistinct (filter_map name_in ps) → Stands ps p → AreDistinct (filter_map name_in ps ++ cons_option (name_in p) [])
+apart_one ps Blank a s = subst AreDistinct (sym (append-nil (filter_map name_in ps))) a
+apart_one ps (Name name) a s = AreDistinct-push (filter_map name_in ps) name a s.1
+apart_one ps (Owners names) a s = subst AreDistinct (sym (append-nil (filter_map name_in ps))) a
+apart_one ps (Flags names) a s = subst AreDistinct (sym (append-nil (filter_map name_in ps))) a
+apart_one ps Variables a s = subst AreDistinct (sym (append-nil (filter_map name_in ps))) a
+apart_one ps (Variable key value) a s = subst AreDistinct (sym (append-nil (filter_map name_in ps))) a
+apart_one ps (Field key value) a s = subst AreDistinct (sym (append-nil (filter_map name_in ps))) a
 apart_one ps Nothing a s = absurd s
 
 abbrev NamesApart : List Line → Type 0
-NamesApart ls = Apart (filter_map name_in (parts_in ls))
+NamesApart ls = AreDistinct (filter_map name_in (lines_said ls))
 
 apart_all : (before rest : List Line) → NamesApart before → AllStand LineStands (before ++ rest) → NamesApart (before ++ rest)
 apart_all before [] a all = subst NamesApart (sym (append-nil before)) a
 apart_all before (l ∷ rest) a all =
-    let here : Stands (parts_in before) l.1 = all before rest l refl in
-    let next : NamesApart (before ++ l ∷ []) = subst Apart (sym (ap (filter_map name_in) (parts_in-append before (l ∷ [])) ∙ filter_map-append name_in (parts_in before) (l.1 ∷ []))) (apart_one (parts_in before) l.1 a here) in
+    let here : Stands (lines_said before) l.1 = all before rest l refl in
+    let next : NamesApart (before ++ l ∷ []) = subst AreDistinct (sym (ap (filter_map name_in) (lines_said-append before (l ∷ [])) ∙ filter_map-append name_in (lines_said before) (l.1 ∷ []))) (apart_one (lines_said before) l.1 a here) in
     subst NamesApart (append_assoc before (l ∷ []) rest) (apart_all (before ++ l ∷ []) rest next (subst (AllStand LineStands) (sym (append_assoc before (l ∷ []) rest)) all))
 
-pub names_apart : (lines : List (List ℕ)) (records : List Entry) → ReadsLines lines records → Apart (names_of records)
+pub names_apart : (lines : List (List ℕ)) (records : List Entry) → ReadsLines lines records → AreDistinct (names_of records)
 names_apart lines records r =
-    subst Apart (names-records_of (numbered lines) ∙ ap names_of (sym r.are)) (apart_all [] (numbered lines) tt r.stand)
+    subst AreDistinct (names-records_of (numbered lines) ∙ ap names_of (sym r.are)) (apart_all [] (numbered lines) tt r.stand)

@@ -6,7 +6,7 @@ use Rattle.std.specs.Cmp.Lexicographic.{pointwise}
 use Rattle.std.specs.FinMap as map
 use Rattle.dc_text.specs.Bytes.{is_nil}
 use Rattle.dc_text.specs.Maps.{Texts, TextSet, set_of}
-use Rattle.dc_item.specs.Item.{Parts}
+use Rattle.dc_item.specs.Item.{ItemParts}
 use Rattle.dc_item.specs.declared.op.Op.{Op}
 use Rattle.dc_item.specs.declared.op.Op.TheVariants.{Put, SetField, DropField, SetFlag, SetVar, AddOwner, DropOwners}
 use Rattle.dc_item.specs.declared.op.After.{After}
@@ -22,7 +22,7 @@ abbrev pub without : TextSet → List (List ℕ) → TextSet
 without owners names = map.retain_keys owners (λ owner. not (map.contains_key (set_of names) owner))
 
 -- the item that is asked for
-abbrev pub asked : Op → Parts → Parts
+abbrev pub asked : Op → ItemParts → ItemParts
 asked (Put item) parts = item
 asked (SetField key value) parts = record parts { fields = map.insert parts.fields key value }
 asked (DropField key) parts = record parts { fields = map.remove parts.fields key }
@@ -44,7 +44,7 @@ abbrev pub set_eq : TextSet → TextSet → Bool
 set_eq s t = pointwise bytes_eq (map.keys s) (map.keys t)
 
 -- whether all four parts are equal
-abbrev pub parts_eq : Parts → Parts → Bool
+abbrev pub parts_eq : ItemParts → ItemParts → Bool
 parts_eq a b = map_eq bytes_eq a.fields b.fields && (set_eq a.flags b.flags && (map_eq bytes_eq a.variables b.variables && set_eq a.owners b.owners))
 
 -- whether an item that the operation leaves without owners goes
@@ -53,7 +53,7 @@ drops_owners (DropOwners names) = true
 drops_owners _ = false
 
 -- what an operation makes of an item
-abbrev pub after : Op → Parts → After
+abbrev pub after : Op → ItemParts → After
 after op parts =
     if parts_eq (asked op parts) parts then Same
     else if drops_owners op && is_nil (map.keys (asked op parts).owners) then Gone
@@ -64,12 +64,12 @@ abbrev pub after_none : Op → After
 after_none (Put item) = Changed item
 after_none _ = Same
 
-abbrev pub after_at : Op → Option Parts → After
+abbrev pub after_at : Op → Option ItemParts → After
 after_at op (Some parts) = after op parts
 after_at op None = after_none op
 
 -- there is an owner, and the operation takes away each of them
-abbrev pub TakesAllOwners : Op → Parts → Type 0
+abbrev pub TakesAllOwners : Op → ItemParts → Type 0
 TakesAllOwners (DropOwners names) parts =
     ((owner : List ℕ) × (map.contains_key parts.owners owner ≡ true))
     × ((owner : List ℕ) → map.contains_key parts.owners owner ≡ true → map.contains_key (set_of names) owner ≡ true)

@@ -8,18 +8,18 @@ use Rattle.dc_text.specs.Names.{is_name, is_field_key, is_flag_name, is_variable
 use Rattle.dc_text.specs.Settled.{is_settled}
 
 -- an item is four things: its fields, the flags that are true, its variables and its owners
-pub record Parts : Type 0 where
+pub record ItemParts : Type 0 where
   pub fields : Texts (List ℕ)
   pub flags : TextSet
   pub variables : Texts (List ℕ)
   pub owners : TextSet
 
 -- the item in which nothing stands
-abbrev pub no_parts : Parts
+abbrev pub no_parts : ItemParts
 no_parts = record { fields = map.empty; flags = map.empty; variables = map.empty; owners = map.empty }
 
 -- What every item keeps: its keys, flags and owners are such that can be written, and its values are settled.
-pub record IsItem (parts : Parts) : Type 0 where
+pub record IsItem (parts : ItemParts) : Type 0 where
   pub fields : (key value : List ℕ) → map.get parts.fields key ≡ Some value → (is_field_key key ≡ true) × (is_settled value ≡ true)
   pub flags : (flag : List ℕ) → map.contains_key parts.flags flag ≡ true → is_flag_name flag ≡ true
   pub variables : (key value : List ℕ) → map.get parts.variables key ≡ Some value → (is_variable_key key ≡ true) × (is_settled value ≡ true)
@@ -33,7 +33,7 @@ abbrev texts_code : Coded (Texts (List ℕ))
 texts_code = map.code (coded_list coded_ℕ) (coded_list coded_ℕ)
 
 -- an item as data: its four parts
-abbrev pub parts_code : Coded Parts
+abbrev pub parts_code : Coded ItemParts
 parts_code =
     code_by (Texts (List ℕ) × (TextSet × (Texts (List ℕ) × TextSet))) (coded× texts_code (coded× set_code (coded× texts_code set_code)))
     (λ p. (p.fields, (p.flags, (p.variables, p.owners)))) (λ q. record { fields = q.0; flags = q.1.0; variables = q.1.1.0; owners = q.1.1.1 }) (λ _. refl)

@@ -1,4 +1,5 @@
--- What the reader of records does with one line after another.
+-- What the reader of records does with one line after another, as functions. The proofs alone speak of it: which lines stand
+-- is said by `Stands` of Records.
 use Rattle.std.specs.Prelude.{◌≡◌, ℕ, ◌||◌, List, [], ◌∷◌, ◌++◌, Option, Some, None, is_some, if◌then◌else◌, Result, Ok, Err, false, true}
 use Rattle.std.specs.Option.{option_map_or}
 use Rattle.std.specs.FinMap as map
@@ -6,8 +7,8 @@ use Rattle.dc_text.specs.Faults.{run}
 use Rattle.dc_text.specs.Maps.{set_of}
 use Rattle.dc_item.specs.Item.{no_parts}
 use Rattle.dc_item.specs.Records.{numbered}
-use Rattle.dc_item.specs.declared.part.Part.{Part}
-use Rattle.dc_item.specs.declared.part.Part.TheVariants.{Blank, Name, Owners, Flags, Variables, Variable, Field, Nothing}
+use Rattle.dc_item.specs.declared.record_line.RecordLine.{RecordLine}
+use Rattle.dc_item.specs.declared.record_line.RecordLine.TheVariants.{Blank, Name, Owners, Flags, Variables, Variable, Field, Nothing}
 use Rattle.dc_item.specs.declared.entry.Entry.{Entry}
 use Rattle.dc_item.specs.declared.records.RecordError.{RecordError}
 use Rattle.dc_item.specs.declared.records.RecordError.TheVariants.{Bad, OutOfMemory}
@@ -22,7 +23,7 @@ abbrev pub entry_of : Open → Entry
 entry_of o = record { name = o.name; item = o.item; line = o.line }
 
 -- the record with what a further line says
-abbrev pub added : Open → Part → Option Open
+abbrev pub added : Open → RecordLine → Option Open
 added o (Field key value) = if map.contains_key o.item.fields key then None
     else Some (record o { item = record o.item { fields = map.insert o.item.fields key value }; in_variables = false })
 added o (Owners names) = if o.has_owners then None
@@ -42,30 +43,30 @@ abbrev pub with_current : Reader → (Open → Option Open) → Option Reader
 with_current r f = option_map_or (λ o. option_map_or (λ p. Some (record r { current = Some p })) (f o) None) r.current None
 
 -- the reader after the line of this number
-abbrev pub step : Reader → ℕ → Part → Option Reader
-step r line Blank = Some (closed r)
-step r line (Name name) = if is_some r.current || map.contains_key r.names name then None
-    else Some (record r { names = map.insert r.names name tt; current = Some (begun name line) })
-step r line Nothing = None
-step r line part = with_current r (λ o. added o part)
+abbrev pub step : Reader → ℕ → RecordLine → Option Reader
+step r number Blank = Some (closed r)
+step r number (Name name) = if is_some r.current || map.contains_key r.names name then None
+    else Some (record r { names = map.insert r.names name tt; current = Some (begun name number) })
+step r number Nothing = None
+step r number line = with_current r (λ o. added o line)
 
 -- the reader before the first line
 abbrev pub at_start : Reader
 at_start = record { done = []; names = map.empty; current = None }
 
 -- the line that isn't taken is the fault
-abbrev pub taken_or : ℕ × Part → Option Reader → Result Reader ((ℕ × Part) × Unit {0})
+abbrev pub taken_or : ℕ × RecordLine → Option Reader → Result Reader ((ℕ × RecordLine) × Unit {0})
 taken_or line None = Err (line, tt)
 taken_or line (Some r) = Ok r
 
-abbrev pub line_step : Reader → ℕ × Part → List (ℕ × Part) → Result Reader ((ℕ × Part) × Unit {0})
+abbrev pub line_step : Reader → ℕ × RecordLine → List (ℕ × RecordLine) → Result Reader ((ℕ × RecordLine) × Unit {0})
 line_step r line after = taken_or line (step r line.0 line.1)
 
 -- what the reader makes of the lines, or the first line that it refuses
-abbrev pub read_all : List (List ℕ) → Result Reader ((ℕ × Part) × Unit {0})
+abbrev pub read_all : List (List ℕ) → Result Reader ((ℕ × RecordLine) × Unit {0})
 read_all lines = run line_step (numbered lines) at_start
 
 -- An error of the reader names the line, unless memory ran out.
-abbrev pub Fails : RecordError → Result Reader ((ℕ × Part) × Unit {0}) → Type 0
-Fails (Bad k) read = (part : Part) × (read ≡ Err ((k, part), tt))
+abbrev pub Fails : RecordError → Result Reader ((ℕ × RecordLine) × Unit {0}) → Type 0
+Fails (Bad k) read = (line : RecordLine) × (read ≡ Err ((k, line), tt))
 Fails OutOfMemory read = Unit {0}

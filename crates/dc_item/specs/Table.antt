@@ -1,25 +1,19 @@
 -- A table: a finite map from names to items.
-use Rattle.std.specs.Prelude.{ℕ, ◌≡◌, ◌≢◌, true, Some, List, [], ◌∷◌, map as each}
-use Rattle.std.specs.List.{AllByRecursion}
+use Rattle.std.specs.Prelude.{ℕ, ◌≡◌, true, Some, List, map as each}
 use Rattle.std.specs.FinMap as map
 use Rattle.dc_text.specs.Maps.{Texts}
 use Rattle.dc_text.specs.Names.{is_name}
-use Rattle.dc_item.specs.Item.{Parts, IsItem}
+use Rattle.dc_item.specs.Item.{ItemParts, IsItem}
 use Rattle.dc_item.specs.Records.{Reads}
 use Rattle.dc_item.specs.declared.entry.Entry.{Entry}
 
 -- a record's name and item, wherever its lines stand
-abbrev pub contents : Entry → List ℕ × Parts
+abbrev pub contents : Entry → List ℕ × ItemParts
 contents entry = (entry.name, entry.item)
 
 -- the table of the records
-abbrev pub table_of : List Entry → Texts Parts
+abbrev pub table_of : List Entry → Texts ItemParts
 table_of entries = map.from_entries (each contents entries)
-
--- no two of the texts are the same
-abbrev pub Apart : List (List ℕ) → Type 0
-Apart [] = Unit {0}
-Apart (text ∷ texts) = AllByRecursion (λ other. other ≢ text) texts × Apart texts
 
 -- the names of the records
 abbrev pub names_of : List Entry → List (List ℕ)
@@ -31,8 +25,8 @@ pub record IsEntry (entry : Entry) : Type 0 where
   pub item : IsItem entry.item
 
 -- what every table keeps
-abbrev pub IsTable : Texts Parts → Type 0
-IsTable table = (name : List ℕ) (item : Parts) → map.get table name ≡ Some item → (is_name name ≡ true) × IsItem item
+abbrev pub IsTable : Texts ItemParts → Type 0
+IsTable table = (name : List ℕ) (item : ItemParts) → map.get table name ≡ Some item → (is_name name ≡ true) × IsItem item
 
 -- the records stand in byte order of their names, which are distinct
 abbrev pub IsInOrder : List Entry → Type 0

@@ -27,9 +27,9 @@ impl Model for Item {
     ghost use Rattle.std.specs.Prelude.{◌≡◌};
     ghost use Rattle.std.specs.FinMap as map;
     ghost use Rattle.dc_text.specs.Maps.{set_of};
-    ghost use Rattle.dc_item.specs.Item.{Parts, IsItem, parts_code};
+    ghost use Rattle.dc_item.specs.Item.{ItemParts, IsItem, parts_code};
 
-    ghost Value = { Parts };
+    ghost Value = { ItemParts };
 
     ghost coded = { parts_code };
 
@@ -105,10 +105,10 @@ impl Item {
     pub fn copy(&self) -> Mem<Self>
         ensures { IfOk result (λ copy. copy ≡ self.now) }
     {
-        let fields = self.fields.copy(self.alloc)?;
-        let flags = self.flags.copy(self.alloc)?;
-        let variables = self.variables.copy(self.alloc)?;
-        let owners = self.owners.copy(self.alloc)?;
+        let fields = self.fields.copy()?;
+        let flags = self.flags.copy()?;
+        let variables = self.variables.copy()?;
+        let owners = self.owners.copy()?;
         Ok(Item {
             alloc: self.alloc,
             fields,
@@ -180,7 +180,7 @@ impl Item {
         ensures ok { OnOk result (self.new ≡ record self.old { owners = map.insert self.old.owners owner.now tt }) }
         ensures err { OnErr result (self.new ≡ self.old) }
     {
-        let mut names = self.owners.copy(self.alloc)?;
+        let mut names = self.owners.copy()?;
         names.push(owner.copy()?)?;
         self.put_owners(&names)?;
         Ok(())

@@ -2,12 +2,12 @@
 ghost use Rattle.std.specs.Prelude.{◌≡◌, ◌↔◌, ◌⊎◌, List, ℕ, map as each};
 ghost use Rattle.std.specs.FinMap as map;
 ghost use Rattle.dc_text.specs.Lines.{lines_of};
-ghost use Rattle.dc_text.specs.Maps.{Texts};
+ghost use Rattle.dc_text.specs.Maps.{AreDistinct, Texts};
 ghost use Rattle.dc_item.specs.After.{after, after_none, asked, TakesAllOwners};
-ghost use Rattle.dc_item.specs.Item.{Parts};
+ghost use Rattle.dc_item.specs.Item.{ItemParts};
 ghost use Rattle.dc_item.specs.Printed.{table_text};
 ghost use Rattle.dc_item.specs.Records.{Reads, IsBad, HasReading};
-ghost use Rattle.dc_item.specs.Table.{Apart, names_of, table_of, contents, IsTable};
+ghost use Rattle.dc_item.specs.Table.{names_of, table_of, contents, IsTable};
 ghost use Rattle.dc_item.specs.declared.entry.Entry.{Entry};
 ghost use Rattle.dc_item.specs.declared.op.Op.{Op};
 ghost use Rattle.dc_item.specs.declared.op.Op.TheVariants.{Put};
@@ -23,7 +23,7 @@ pub fn one_answer()
 
 /// The records of a text are a table: no two have one name, and names, keys and values are such that a table keeps.
 pub fn records_are_a_table()
-    ensures names { (text : List ℕ) (records : List Entry) → Reads text records → Apart (names_of records) }
+    ensures names { (text : List ℕ) (records : List Entry) → Reads text records → AreDistinct (names_of records) }
     ensures table { (text : List ℕ) (records : List Entry) → Reads text records → IsTable (table_of records) }
 {}
 
@@ -31,13 +31,13 @@ pub fn records_are_a_table()
 /// takes away all owners, of which there are some, and else the item that it asks for. Where there is no item, only `Put`
 /// makes one.
 pub fn operations_meet_their_table()
-    ensures same { (op : Op) (parts : Parts) → (after op parts ≡ Same) ↔ (asked op parts ≡ parts) }
-    ensures gone { (op : Op) (parts : Parts) → (after op parts ≡ Gone) ↔ TakesAllOwners op parts }
-    ensures changed { (op : Op) (parts item : Parts) → after op parts ≡ Changed item → item ≡ asked op parts }
-    ensures none { (op : Op) → (after_none op ≡ Same) ⊎ ((item : Parts) × (op ≡ Put item) × (after_none op ≡ Changed item)) }
+    ensures same { (op : Op) (parts : ItemParts) → (after op parts ≡ Same) ↔ (asked op parts ≡ parts) }
+    ensures gone { (op : Op) (parts : ItemParts) → (after op parts ≡ Gone) ↔ TakesAllOwners op parts }
+    ensures changed { (op : Op) (parts item : ItemParts) → after op parts ≡ Changed item → item ≡ asked op parts }
+    ensures none { (op : Op) → (after_none op ≡ Same) ⊎ ((item : ItemParts) × (op ≡ Put item) × (after_none op ≡ Changed item)) }
 {}
 
 /// The printed text of a table is read as its records, in byte order of their names.
 pub fn printed_tables_are_read()
-    ensures { (table : Texts Parts) → IsTable table → (read : List Entry) × Reads (table_text table) read × (each contents read ≡ map.entries table) }
+    ensures { (table : Texts ItemParts) → IsTable table → (read : List Entry) × Reads (table_text table) read × (each contents read ≡ map.entries table) }
 {}

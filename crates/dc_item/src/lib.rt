@@ -6,16 +6,17 @@ pub mod item;
 pub mod laws;
 pub mod op;
 mod owners;
-mod part;
 mod printing;
 mod reader;
 mod reading;
+mod record_line;
 pub mod records;
 mod same;
 
 pub use entry::Entry;
 pub use item::Item;
 pub use op::{After, Op};
+pub use owners::in_order;
 pub use printing::{print_records, print_table};
 pub use records::{RecordError, read_records};
 

@@ -2,9 +2,12 @@
 ghost use Rattle.std.specs.Prelude.{◌≡◌, ◌++◌, ◌∷◌, [], IfOk, OnOk, map as each, if◌then◌else◌};
 ghost use Rattle.std.specs.List.{AllByRecursion};
 ghost use Rattle.std.specs.FinMap as map;
+ghost use Rattle.dc_text.specs.Ascii.{comma, space};
+ghost use Rattle.dc_text.specs.Lines.{text_of};
+ghost use Rattle.dc_text.specs.Maps.{AreDistinct};
 ghost use Rattle.dc_item.specs.Item.{IsItem};
-ghost use Rattle.dc_item.specs.Printed.{canon, table_text, text_of, record_lines, shown_field, shown_variable, variable_lines, list_lines, owners_head, flags_head, joined, capital, upper as upper_of};
-ghost use Rattle.dc_item.specs.Table.{Apart, names_of, table_of, IsEntry, IsInOrder, ReadsAs};
+ghost use Rattle.dc_item.specs.Printed.{canon, table_text, record_lines, shown_field, shown_variable, variable_lines, list_lines, owners_head, flags_head, joined};
+ghost use Rattle.dc_item.specs.Table.{names_of, table_of, IsEntry, IsInOrder, ReadsAs};
 
 use crate::entry::Entry;
 use crate::item::Item;
@@ -16,7 +19,7 @@ use std::alloc::Global;
 pub fn print_records(alloc: Global, list: &List<Entry>) -> Mem<Text>
     ensures printed { IfOk result (λ text. text ≡ canon list.now) }
     ensures table { IfOk result (λ text. IsInOrder list.now → text ≡ table_text (table_of list.now)) }
-    ensures read_again { IfOk result (λ text. Apart (names_of list.now) → ReadsAs text list.now) }
+    ensures read_again { IfOk result (λ text. AreDistinct (names_of list.now) → ReadsAs text list.now) }
 {
     let text = print_all(alloc, list.as_slice())?;
     Ok(text)
@@ -71,32 +74,10 @@ fn print_fields(alloc: Global, text: &mut Text, fields: &SmallMap<Settled>) -> M
 fn print_field(alloc: Global, text: &mut Text, key: &[u8], value: &[u8]) -> Mem<()>
     ensures { OnOk result (text.new ≡ text.old ++ text_of (shown_field (key.now, value.now) ∷ [])) }
 {
-    push_capital(text, key)?;
+    text.append_capital(key)?;
     text.append(b": ")?;
     text.append(show_newlines(alloc, value)?.bytes())?;
     text.push(b'\n')
-}
-
-fn push_capital(text: &mut Text, key: &[u8]) -> Mem<()>
-    ensures { OnOk result (text.new ≡ text.old ++ capital key.now) }
-{
-    match key {
-        [] => Ok(()),
-        [first, rest @ ..] => {
-            text.push(upper(*first))?;
-            text.append(rest)
-        }
-    }
-}
-
-fn upper(byte: u8) -> u8
-    ensures { result ≡ upper_of byte }
-{
-    if b'a' <= byte && byte <= b'z' {
-        byte - 32
-    } else {
-        byte
-    }
 }
 
 fn print_variables(alloc: Global, text: &mut Text, variables: &SmallMap<Settled>) -> Mem<()>
@@ -105,7 +86,8 @@ fn print_variables(alloc: Global, text: &mut Text, variables: &SmallMap<Settled>
     if variables.is_empty() {
         return Ok(());
     }
-    text.append(b"Variables:\n")?;
+    text.append(b"Variables:")?;
+    text.push(b'\n')?;
     print_each_variable(alloc, text, variables)
 }
 
@@ -174,7 +156,7 @@ fn join_flags(text: &mut Text, flags: &SmallMap<()>) -> Mem<()>
 
 // A name of a list, and before it a comma and a space unless it is the first.
 fn push_piece(text: &mut Text, is_first: bool, name: &[u8]) -> Mem<()>
-    ensures { OnOk result (text.new ≡ text.old ++ (if is_first then name.now else 44 ∷ 32 ∷ name.now)) }
+    ensures { OnOk result (text.new ≡ text.old ++ (if is_first then name.now else comma ∷ space ∷ name.now)) }
 {
     if !is_first {
         text.append(b", ")?;

@@ -3,7 +3,7 @@ ghost use Rattle.std.specs.Prelude.{◌≡◌, IfOk, OnOk, None, Some, if◌then
 
 use crate::entry::Entry;
 use crate::item::Item;
-use crate::part::Part;
+use crate::record_line::RecordLine;
 use dc_text::{FieldKey, FlagName, List, Mem, Name, Settled, TextMap, VarKey};
 use std::alloc::Global;
 
@@ -38,21 +38,21 @@ impl Open {
     }
 
     // Adds what a further line says, and answers whether the line stands.
-    fn add(&mut self, part: Part) -> Mem<bool>
+    fn add(&mut self, part: RecordLine) -> Mem<bool>
         ensures { IfOk result (λ stands. added self.old part ≡ (if stands then Some self.new else None)) }
     {
         match part {
-            Part::Field(key, value) => self.add_field(key, value),
-            Part::Owners(names) => self.add_owners(&names),
-            Part::Flags(flags) => self.add_flags(&flags),
-            Part::Variables => Ok(self.begin_variables()),
-            Part::Variable(key, value) => self.add_variable(key, value),
+            RecordLine::Field(key, value) => self.add_field(key, value),
+            RecordLine::Owners(names) => self.add_owners(&names),
+            RecordLine::Flags(flags) => self.add_flags(&flags),
+            RecordLine::Variables => Ok(self.begin_variables()),
+            RecordLine::Variable(key, value) => self.add_variable(key, value),
             _ => Ok(false),
         }
     }
 
     fn add_field(&mut self, key: FieldKey, value: Settled) -> Mem<bool>
-        ensures { IfOk result (λ stands. added self.old (Part.Field key value) ≡ (if stands then Some self.new else None)) }
+        ensures { IfOk result (λ stands. added self.old (RecordLine.Field key value) ≡ (if stands then Some self.new else None)) }
     {
         if self.item.field(key.bytes()).is_some() {
             return Ok(false);
@@ -63,7 +63,7 @@ impl Open {
     }
 
     fn add_owners(&mut self, names: &List<Name>) -> Mem<bool>
-        ensures { IfOk result (λ stands. added self.old (Part.Owners names.now) ≡ (if stands then Some self.new else None)) }
+        ensures { IfOk result (λ stands. added self.old (RecordLine.Owners names.now) ≡ (if stands then Some self.new else None)) }
     {
         if self.has_owners {
             return Ok(false);
@@ -75,7 +75,7 @@ impl Open {
     }
 
     fn add_flags(&mut self, flags: &List<FlagName>) -> Mem<bool>
-        ensures { IfOk result (λ stands. added self.old (Part.Flags flags.now) ≡ (if stands then Some self.new else None)) }
+        ensures { IfOk result (λ stands. added self.old (RecordLine.Flags flags.now) ≡ (if stands then Some self.new else None)) }
     {
         if self.has_flags {
             return Ok(false);
@@ -87,7 +87,7 @@ impl Open {
     }
 
     fn begin_variables(&mut self) -> bool
-        ensures { added self.old Part.Variables ≡ (if result then Some self.new else None) }
+        ensures { added self.old RecordLine.Variables ≡ (if result then Some self.new else None) }
     {
         if self.has_variables {
             return false;
@@ -98,7 +98,7 @@ impl Open {
     }
 
     fn add_variable(&mut self, key: VarKey, value: Settled) -> Mem<bool>
-        ensures { IfOk result (λ stands. added self.old (Part.Variable key value) ≡ (if stands then Some self.new else None)) }
+        ensures { IfOk result (λ stands. added self.old (RecordLine.Variable key value) ≡ (if stands then Some self.new else None)) }
     {
         if !self.in_variables || self.item.var(key.bytes()).is_some() {
             return Ok(false);
@@ -132,15 +132,15 @@ impl Reader {
     }
 
     /// Takes the next line, and answers whether it stands.
-    pub fn take(&mut self, alloc: Global, line: u64, part: Part) -> Mem<bool>
+    pub fn take(&mut self, alloc: Global, line: u64, part: RecordLine) -> Mem<bool>
         ensures { IfOk result (λ stands. step self.old line part ≡ (if stands then Some self.new else None)) }
     {
         match part {
-            Part::Blank => {
+            RecordLine::Blank => {
                 self.close()?;
                 Ok(true)
             }
-            Part::Name(name) => {
+            RecordLine::Name(name) => {
                 if self.current.is_some() || self.names.contains(name.bytes()) {
                     return Ok(false);
                 }
@@ -148,7 +148,7 @@ impl Reader {
                 self.current = Some(Open::new(alloc, name, line));
                 Ok(true)
             }
-            Part::Nothing => Ok(false),
+            RecordLine::Nothing => Ok(false),
             part => match &mut self.current {
                 None => Ok(false),
                 Some(open) => open.add(part),

@@ -4,31 +4,31 @@ ghost use Rattle.std.specs.List.{list_all};
 ghost use Rattle.std.specs.Str.{bytes_eq};
 ghost use Rattle.dc_text.specs.Bytes.{lower};
 ghost use Rattle.dc_text.specs.Lines.{unless_empty};
-ghost use Rattle.dc_text.specs.Names.{is_name, is_flag_name, name_word, owners_word, flags_word, variables_word};
-ghost use Rattle.dc_item.specs.Grammar.{part_of, headed_line, indented_line, name_line, owners_line, flags_line, variables_line, field_line, variable_line, pieces};
+ghost use Rattle.dc_text.specs.Names.{is_name, is_flag_name};
+ghost use Rattle.dc_item.specs.Grammar.{line_said, headed_line, indented_line, name_line, owners_line, flags_line, variables_line, field_line, variable_line, pieces};
 
-use crate::part::Part;
+use crate::record_line::RecordLine;
 use dc_text::bytes::{is_blank, is_indented, split_at_byte, trim, without_space};
 use dc_text::{FieldKey, FlagName, List, Mem, Name, NameRefused, OutOfMemory, VarKey, settle};
 use std::alloc::Global;
 
 /// What a line says.
-pub fn read_part(alloc: Global, line: &[u8]) -> Mem<Part>
-    ensures { IfOk result (λ part. part ≡ part_of line.now) }
+pub fn read_line(alloc: Global, line: &[u8]) -> Mem<RecordLine>
+    ensures { IfOk result (λ part. part ≡ line_said line.now) }
 {
     if is_blank(line) {
-        return Ok(Part::Blank);
+        return Ok(RecordLine::Blank);
     }
     if is_indented(line) {
         return read_indented(alloc, line);
     }
     match split_at_byte(line, b':') {
-        None => Ok(Part::Nothing),
+        None => Ok(RecordLine::Nothing),
         Some((word, rest)) => read_headed(alloc, word, rest),
     }
 }
 
-fn read_headed(alloc: Global, word: &[u8], rest: &[u8]) -> Mem<Part>
+fn read_headed(alloc: Global, word: &[u8], rest: &[u8]) -> Mem<RecordLine>
     ensures { IfOk result (λ part. part ≡ headed_line (each lower word.now) rest.now) }
 {
     if is_word(word, b"name") {
@@ -51,71 +51,71 @@ fn is_word(bytes: &[u8], word: &[u8]) -> bool
     bytes.eq_ignore_ascii_case(word)
 }
 
-fn read_name(alloc: Global, rest: &[u8]) -> Mem<Part>
+fn read_name(alloc: Global, rest: &[u8]) -> Mem<RecordLine>
     ensures { IfOk result (λ part. part ≡ name_line rest.now) }
 {
     match Name::read(alloc, trim(rest)) {
-        Ok(name) => Ok(Part::Name(name)),
-        Err(NameRefused::Bad) => Ok(Part::Nothing),
+        Ok(name) => Ok(RecordLine::Name(name)),
+        Err(NameRefused::Bad) => Ok(RecordLine::Nothing),
         Err(NameRefused::OutOfMemory) => Err(OutOfMemory),
     }
 }
 
-fn read_owners(alloc: Global, rest: &[u8]) -> Mem<Part>
+fn read_owners(alloc: Global, rest: &[u8]) -> Mem<RecordLine>
     ensures { IfOk result (λ part. part ≡ owners_line rest.now) }
 {
     match names_in(alloc, rest) {
-        Ok(names) => Ok(Part::Owners(names)),
-        Err(NameRefused::Bad) => Ok(Part::Nothing),
+        Ok(names) => Ok(RecordLine::Owners(names)),
+        Err(NameRefused::Bad) => Ok(RecordLine::Nothing),
         Err(NameRefused::OutOfMemory) => Err(OutOfMemory),
     }
 }
 
-fn read_flags(alloc: Global, rest: &[u8]) -> Mem<Part>
+fn read_flags(alloc: Global, rest: &[u8]) -> Mem<RecordLine>
     ensures { IfOk result (λ part. part ≡ flags_line rest.now) }
 {
     match flags_in(alloc, rest) {
-        Ok(flags) => Ok(Part::Flags(flags)),
-        Err(NameRefused::Bad) => Ok(Part::Nothing),
+        Ok(flags) => Ok(RecordLine::Flags(flags)),
+        Err(NameRefused::Bad) => Ok(RecordLine::Nothing),
         Err(NameRefused::OutOfMemory) => Err(OutOfMemory),
     }
 }
 
-fn read_variables(rest: &[u8]) -> Part
+fn read_variables(rest: &[u8]) -> RecordLine
     ensures { result ≡ variables_line rest.now }
 {
     if is_blank(rest) {
-        Part::Variables
+        RecordLine::Variables
     } else {
-        Part::Nothing
+        RecordLine::Nothing
     }
 }
 
-fn read_field(alloc: Global, key: &[u8], rest: &[u8]) -> Mem<Part>
+fn read_field(alloc: Global, key: &[u8], rest: &[u8]) -> Mem<RecordLine>
     ensures { IfOk result (λ part. part ≡ field_line (each lower key.now) rest.now) }
 {
     match FieldKey::read(alloc, key) {
-        Ok(key) => Ok(Part::Field(key, settle(alloc, without_space(rest))?)),
-        Err(NameRefused::Bad) => Ok(Part::Nothing),
+        Ok(key) => Ok(RecordLine::Field(key, settle(alloc, without_space(rest))?)),
+        Err(NameRefused::Bad) => Ok(RecordLine::Nothing),
         Err(NameRefused::OutOfMemory) => Err(OutOfMemory),
     }
 }
 
-fn read_indented(alloc: Global, line: &[u8]) -> Mem<Part>
+fn read_indented(alloc: Global, line: &[u8]) -> Mem<RecordLine>
     ensures { IfOk result (λ part. part ≡ indented_line line.now) }
 {
     match split_at_byte(line, b'=') {
-        None => Ok(Part::Nothing),
+        None => Ok(RecordLine::Nothing),
         Some((key, rest)) => read_variable(alloc, trim(key), rest),
     }
 }
 
-fn read_variable(alloc: Global, key: &[u8], rest: &[u8]) -> Mem<Part>
+fn read_variable(alloc: Global, key: &[u8], rest: &[u8]) -> Mem<RecordLine>
     ensures { IfOk result (λ part. part ≡ variable_line key.now rest.now) }
 {
     match VarKey::read(alloc, key) {
-        Ok(key) => Ok(Part::Variable(key, settle(alloc, without_space(rest))?)),
-        Err(NameRefused::Bad) => Ok(Part::Nothing),
+        Ok(key) => Ok(RecordLine::Variable(key, settle(alloc, without_space(rest))?)),
+        Err(NameRefused::Bad) => Ok(RecordLine::Nothing),
         Err(NameRefused::OutOfMemory) => Err(OutOfMemory),
     }
 }

@@ -14,6 +14,7 @@ use Rattle.dc_text.specs.Maps.{text_cmp, set_of}
 use Rattle.dc_text.proofs.FaultLemmas.{run_finds}
 use Rattle.dc_text.proofs.MapLemmas.{get-set_of, set_of-push}
 use Rattle.dc_template.specs.Forms.{forms}
+use Rattle.dc_text.proofs.FirstLemmas.{after_last-cons}
 use Rattle.dc_template.specs.TemplateFaults.{is_blank_form, since_blank, begins_stanza, name_in, key_in, is_indented_form, sets_description, ends_in_description, has_bad_type, until_blank, sets_type, fault, Stands, HasFault}
 use Rattle.dc_template.specs.Machine.{fault_seen, noted, at_start, step_by, step}
 use Rattle.dc_template.proofs.TestLemmas.{and-false, and-true, or-true, or-false, list_any-append, list_all-append}
@@ -43,7 +44,8 @@ contains-set_of ts q = ap is_some (get-set_of ts q) ∙ is_some-cond (list_any (
 since_blank-blank : (fs : List Form) → since_blank (fs ++ Blank ∷ []) ≡ []
 since_blank-blank [] = refl
 since_blank-blank (f ∷ fs) =
-    ap (λ b. cond b (since_blank (fs ++ Blank ∷ [])) (f ∷ (fs ++ Blank ∷ []))) (list_any-append is_blank_form (f ∷ fs) (Blank ∷ []) ∙ or-true (list_any is_blank_form (f ∷ fs)))
+    after_last-cons is_blank_form f (fs ++ Blank ∷ [])
+    ∙ ap (λ b. cond b (since_blank (fs ++ Blank ∷ [])) (f ∷ (fs ++ Blank ∷ []))) (list_any-append is_blank_form (f ∷ fs) (Blank ∷ []) ∙ or-true (list_any is_blank_form (f ∷ fs)))
     ∙ since_blank-blank fs
 
 cond_push : (b : Bool) (xs ys : List Form) (x : Form) → cond b (xs ++ x ∷ []) (ys ++ x ∷ []) ≡ cond b xs ys ++ x ∷ []
@@ -51,11 +53,13 @@ cond_push true xs ys x = refl
 cond_push false xs ys x = refl
 
 since_blank-push : (fs : List Form) (x : Form) → is_blank_form x ≡ false → since_blank (fs ++ x ∷ []) ≡ since_blank fs ++ x ∷ []
-since_blank-push [] x h = ap (λ b. cond (b || false) [] (x ∷ [])) h
+since_blank-push [] x h = after_last-cons is_blank_form x [] ∙ ap (λ b. cond (b || false) [] (x ∷ [])) h
 since_blank-push (f ∷ fs) x h =
-    ap (λ b. cond b (since_blank (fs ++ x ∷ [])) (f ∷ (fs ++ x ∷ []))) (list_any-append is_blank_form (f ∷ fs) (x ∷ []) ∙ ap (λ b. list_any is_blank_form (f ∷ fs) || (b || false)) h ∙ or-false (list_any is_blank_form (f ∷ fs)))
+    after_last-cons is_blank_form f (fs ++ x ∷ [])
+    ∙ ap (λ b. cond b (since_blank (fs ++ x ∷ [])) (f ∷ (fs ++ x ∷ []))) (list_any-append is_blank_form (f ∷ fs) (x ∷ []) ∙ ap (λ b. list_any is_blank_form (f ∷ fs) || (b || false)) h ∙ or-false (list_any is_blank_form (f ∷ fs)))
     ∙ ap (λ xs. cond (list_any is_blank_form (f ∷ fs)) xs (f ∷ (fs ++ x ∷ []))) (since_blank-push fs x h)
     ∙ cond_push (list_any is_blank_form (f ∷ fs)) (since_blank fs) (f ∷ fs) x
+    ∙ ap (λ xs. xs ++ x ∷ []) (sym (after_last-cons is_blank_form f fs))
 
 not_nil : (fs : List Form) (x : Form) → is_nil (fs ++ x ∷ []) ≡ false
 not_nil [] x = refl

@@ -5,7 +5,7 @@ use Rattle.std.specs.List.{position_or_len, prefix_len}
 use Rattle.std.proofs.lemmas.List.{append-nil, take_at}
 use Rattle.dc_text.specs.Maps.{Texts}
 use Rattle.dc_text.proofs.LineLemmas.{to_end}
-use Rattle.dc_template.specs.Expansion.{opens, closes, up_to_brace, behind_opening, value_of, expanded_from, expanded}
+use Rattle.dc_template.specs.Expansion.{opens, closes, up_to_brace, behind_opening, variable_or_nothing, expanded_from, expanded}
 use Rattle.dc_template.proofs.TestLemmas.{both, neither, and-false, or-true, list_any-append}
 
 -- ---- a text and a brace behind it
@@ -48,23 +48,23 @@ module _ (v : Texts (List ℕ)) where
 
   chosen : (b : ℕ) (bytes : List ℕ) (opened closed quoted : Bool) → Type 0
   chosen b bytes opened closed quoted =
-      expanded v (b ∷ bytes) ≡ cond (opened && closed) (value_of v (up_to_brace (behind_opening (b ∷ bytes))) ++ expanded_from v true bytes)
+      expanded v (b ∷ bytes) ≡ cond (opened && closed) (variable_or_nothing v (up_to_brace (behind_opening (b ∷ bytes))) ++ expanded_from v true bytes)
       (cond (b == 92 && (quoted && closed)) (up_to_brace bytes ++ 125 ∷ expanded_from v true bytes) (b ∷ expanded v bytes))
 
   by_tests : (b : ℕ) (bytes : List ℕ) (opened closed quoted : Bool) → opens (b ∷ bytes) ≡ opened → closes bytes ≡ closed → opens bytes ≡ quoted → chosen b bytes opened closed quoted
   unfolding chosen
-  by_tests b bytes opened closed quoted p q r = λ i. cond (p i && q i) (value_of v (up_to_brace (behind_opening (b ∷ bytes))) ++ expanded_from v true bytes)
+  by_tests b bytes opened closed quoted p q r = λ i. cond (p i && q i) (variable_or_nothing v (up_to_brace (behind_opening (b ∷ bytes))) ++ expanded_from v true bytes)
       (cond (b == 92 && (r i && q i)) (up_to_brace bytes ++ 125 ∷ expanded_from v true bytes) (b ∷ expanded v bytes))
 
   -- a reference
-  pub variable : (front after : List ℕ) → opens front ≡ true → closes front ≡ false → expanded v (front ++ 125 ∷ after) ≡ value_of v (behind_opening front) ++ expanded v after
+  pub variable : (front after : List ℕ) → opens front ≡ true → closes front ≡ false → expanded v (front ++ 125 ∷ after) ≡ variable_or_nothing v (behind_opening front) ++ expanded v after
   unfolding chosen
   variable [] after e h = absurd (cc)
   variable (b ∷ front) after e h =
       let free : closes front ≡ false = (neither (b == 125) (closes front) h).1 in
       by_tests b (front ++ 125 ∷ after) true true (opens front) (opens-brace (b ∷ front) after ∙ e) (closes-brace front after) (opens-brace front after)
-      ∙ (λ i. value_of v (up_to_brace (behind_opening-brace (b ∷ front) after e i)) ++ skipped front after free i)
-      ∙ ap (λ k. value_of v k ++ expanded v after) (up_to_brace-at (behind_opening (b ∷ front)) after (closes-behind (b ∷ front) e h))
+      ∙ (λ i. variable_or_nothing v (up_to_brace (behind_opening-brace (b ∷ front) after e i)) ++ skipped front after free i)
+      ∙ ap (λ k. variable_or_nothing v k ++ expanded v after) (up_to_brace-at (behind_opening (b ∷ front)) after (closes-behind (b ∷ front) e h))
 
   -- a reference behind a backslash
   pub quoted : (front after : List ℕ) → opens front ≡ true → closes front ≡ false → expanded v (92 ∷ front ++ 125 ∷ after) ≡ front ++ 125 ∷ expanded v after
@@ -91,7 +91,7 @@ module _ (v : Texts (List ℕ)) where
   unclosed (b ∷ text) h =
       let free : closes text ≡ false = (neither (b == 125) (closes text) h).1 in
       by_tests b text (opens (b ∷ text)) false (opens text) refl free refl
-      ∙ (λ i. cond (and-false (opens (b ∷ text)) i) (value_of v (up_to_brace (behind_opening (b ∷ text))) ++ expanded_from v true text)
+      ∙ (λ i. cond (and-false (opens (b ∷ text)) i) (variable_or_nothing v (up_to_brace (behind_opening (b ∷ text))) ++ expanded_from v true text)
       (cond (b == 92 && and-false (opens text) i) (up_to_brace text ++ 125 ∷ expanded_from v true text) (b ∷ expanded v text)))
       ∙ ap (λ t. cond t (up_to_brace text ++ 125 ∷ expanded_from v true text) (b ∷ expanded v text)) (and-false (b == 92))
       ∙ ap (λ (t : List ℕ). b ∷ t) (unclosed text free)
@@ -108,7 +108,7 @@ module _ (v : Texts (List ℕ)) where
   parted (b ∷ front) after h =
       let free : closes front ≡ false = (neither (b == 125) (closes front) h).1 in
       elim (opens (b ∷ front)) as (λ t. opens (b ∷ front) ≡ t → expanded v (b ∷ front ++ 125 ∷ after) ≡ expanded v (b ∷ front ++ 125 ∷ []) ++ expanded v after) [
-        | true ↦ λ e. variable (b ∷ front) after e h ∙ ap (λ t. t ++ expanded v after) (sym (variable (b ∷ front) [] e h ∙ append-nil (value_of v (behind_opening (b ∷ front)))))
+        | true ↦ λ e. variable (b ∷ front) after e h ∙ ap (λ t. t ++ expanded v after) (sym (variable (b ∷ front) [] e h ∙ append-nil (variable_or_nothing v (behind_opening (b ∷ front)))))
         | false ↦ λ e. elim (b == 92 && opens front) as (λ t. (b == 92 && opens front) ≡ t → expanded v (b ∷ front ++ 125 ∷ after) ≡ expanded v (b ∷ front ++ 125 ∷ []) ++ expanded v after) [
           | true ↦ λ f.
               let g : ((b == 92) ≡ true) × (opens front ≡ true) = both (b == 92) (opens front) f in
@@ -122,8 +122,8 @@ module _ (v : Texts (List ℕ)) where
 
   -- ---- turns of the loop over a text up to a brace
 
-  pub variable_end : (rest out target : List ℕ) → opens rest ≡ true → closes rest ≡ false → out ++ expanded v (rest ++ 125 ∷ []) ≡ target → out ++ value_of v (behind_opening rest) ≡ target
-  variable_end rest out target e h so_far = ap (λ (t : List ℕ). out ++ t) (sym (variable rest [] e h ∙ append-nil (value_of v (behind_opening rest)))) ∙ so_far
+  pub variable_end : (rest out target : List ℕ) → opens rest ≡ true → closes rest ≡ false → out ++ expanded v (rest ++ 125 ∷ []) ≡ target → out ++ variable_or_nothing v (behind_opening rest) ≡ target
+  variable_end rest out target e h so_far = ap (λ (t : List ℕ). out ++ t) (sym (variable rest [] e h ∙ append-nil (variable_or_nothing v (behind_opening rest)))) ∙ so_far
 
   pub quoted_end : (rest tail out target : List ℕ) → rest ≡ 92 ∷ tail → opens tail ≡ true → closes rest ≡ false → out ++ expanded v (rest ++ 125 ∷ []) ≡ target → (out ++ tail) ++ 125 ∷ [] ≡ target
   quoted_end rest tail out target is e h so_far =

@@ -1,15 +1,16 @@
 -- What the lines of a text say is as it should be.
-use Rattle.std.proofs.Common.{◌≡◌, ℕ, ◌+◌, true, false, cond, List, [], ◌∷◌, ◌++◌, map as each, refl, ap, ◌∙◌}
-use Rattle.std.specs.Prelude.{◌||◌, ◌==◌}
+use Rattle.std.proofs.Common.{◌≡◌, ℕ, ◌+◌, true, false, cond, List, [], ◌∷◌, ◌++◌, map as each, refl}
+use Rattle.std.specs.Prelude.{◌==◌}
 use Rattle.std.specs.List.{list_any, before_first, after_first, position_or_len, AllByRecursion}
 use Rattle.std.specs.Str.{bytes_eq}
 use Rattle.dc_text.specs.Bytes.{is_space, is_blank, is_indented, drop_front, trimmed, lower}
 use Rattle.dc_text.specs.Names.{is_name}
-use Rattle.dc_text.specs.Lines.{Parts, parts, onto_first, unless_empty, lines_of}
+use Rattle.dc_text.specs.Lines.{lines_of, has_newline}
+use Rattle.dc_text.proofs.LineLaws.{lines_free}
 use Rattle.dc_template.specs.Forms.{row_of, template_word, is_line_key, headed, form_of, is_comment, lines_from, lines_in, forms}
 use Rattle.dc_template.specs.Stanzas.{IsLine}
 use Rattle.dc_template.proofs.TrimLemmas.{trimmed-twice, any-drop_front, any-drop_back, any-drop}
-use Rattle.dc_template.proofs.RowLemmas.{has_newline, IsSoundRow, row_sound}
+use Rattle.dc_template.proofs.RowLemmas.{IsSoundRow, row_sound}
 use Rattle.dc_template.specs.declared.forms.Form.{Form}
 use Rattle.dc_template.specs.declared.forms.Form.TheVariants.{Blank, Indented, Colonless, Unkeyed, Unnamed, Heads, Sets}
 
@@ -54,31 +55,7 @@ form_sound line h = elim (is_blank line) as (λ t. is_blank line ≡ t → IsSou
           ] refl
     ] refl
 
--- ---- the lines of a text have no newline
-
-abbrev AreLines : Parts → Type 0
-AreLines p = AllByRecursion (λ l. has_newline l ≡ false) p.ended × (has_newline p.rest ≡ false)
-
-onto_lines : (b : ℕ) (ended : List (List ℕ)) (rest : List ℕ) → (b == 10) ≡ false → AllByRecursion (λ l. has_newline l ≡ false) ended → has_newline rest ≡ false → AreLines (onto_first b ended rest)
-onto_lines b [] rest e h r = (tt, ap (λ t. t || has_newline rest) e ∙ r)
-onto_lines b (line ∷ ended) rest e h r = ((ap (λ t. t || has_newline line) e ∙ h.0, h.1), r)
-
-parts_lines : (text : List ℕ) → AreLines (parts text)
-parts_lines [] = (tt, refl)
-parts_lines (b ∷ text) =
-    let more : AreLines (parts text) = parts_lines text in
-    elim (b == 10) as (λ t. (b == 10) ≡ t → AreLines (cond t (record { ended = [] ∷ (parts text).ended; rest = (parts text).rest }) (onto_first b (parts text).ended (parts text).rest))) [
-      | true ↦ λ e. ((refl, more.0), more.1)
-      | false ↦ λ e. onto_lines b (parts text).ended (parts text).rest e more.0 more.1
-    ] refl
-
-with_rest : (ended : List (List ℕ)) (rest : List ℕ) → AllByRecursion (λ l. has_newline l ≡ false) ended → has_newline rest ≡ false → AllByRecursion (λ l. has_newline l ≡ false) (ended ++ unless_empty rest)
-with_rest [] [] h r = tt
-with_rest [] (b ∷ rest) h r = (r, tt)
-with_rest (line ∷ ended) rest h r = (h.0, with_rest ended rest h.1 r)
-
-pub lines_free : (text : List ℕ) → AllByRecursion (λ l. has_newline l ≡ false) (lines_of text)
-lines_free text = with_rest (parts text).ended (parts text).rest (parts_lines text).0 (parts_lines text).1
+-- ---- the lines of a text
 
 from_sound : (n : ℕ) (ls : List (List ℕ)) → AllByRecursion (λ l. has_newline l ≡ false) ls → AllByRecursion IsSoundForm (forms (lines_from n ls))
 from_sound n [] h = tt

@@ -8,10 +8,10 @@ use Rattle.std.proofs.lemmas.List.{append-nil}
 use Rattle.std.proofs.lemmas.List.Elements.{filter-append}
 use Rattle.std.proofs.lemmas.Bool.Decides.{nat_tests}
 use Rattle.dc_text.specs.Bytes.{lower, is_nil}
-use Rattle.dc_text.specs.Names.{is_field_key, is_key_byte, begins_with_letter, is_reserved, is_word, has_length, name_word, owners_word, flags_word, variables_word}
+use Rattle.dc_text.specs.Names.{is_field_key, is_key_byte, begins_with_letter, is_reserved, is_word, has_length}
 use Rattle.dc_template.specs.Forms.{template_word, is_line_key, is_extended, is_description, headed}
 use Rattle.dc_template.specs.declared.forms.Form.TheVariants.{Unkeyed}
-use Rattle.dc_template.specs.Languages.{is_language, is_language_byte, is_short, localised, with_shorter}
+use Rattle.dc_template.specs.Languages.{is_language, is_language_byte, is_short, localised_keys, with_shorter}
 use Rattle.dc_template.proofs.TestLemmas.{both, both_hold, bytes_eq-other, list_any-append, list_all-append, list_all-each, or-true}
 
 lower_key_byte : (b : ℕ) → is_key_byte b ≡ true → lower b ≡ b
@@ -37,16 +37,13 @@ key_is k e =
     let d : (nat_le 1 (length k) ≡ true) × (nat_le (length k) 64 ≡ true) = both _ _ c.0 in
     record { letter = a.0; sized = d.1; bytes = c.1; free = b.1 }
 
-pub lower_field_key : (k : List ℕ) → is_field_key k ≡ true → map lower k ≡ k
-lower_field_key k e = lower_key k (key_is k e).bytes
-
 -- a word with a dash is none that heads a line of its own
 pub dash_free : (k s : List ℕ) → is_reserved (k ++ 45 ∷ s) ≡ false
 dash_free k s =
     let dash : ℕ → Bool = λ b. b == 45 in
     let has : list_any dash (k ++ 45 ∷ s) ≡ true = list_any-append dash k (45 ∷ s) ∙ or-true (list_any dash k) in
-    (λ i. bytes_eq-other dash (k ++ 45 ∷ s) name_word has refl i || (bytes_eq-other dash (k ++ 45 ∷ s) owners_word has refl i
-    || (bytes_eq-other dash (k ++ 45 ∷ s) flags_word has refl i || bytes_eq-other dash (k ++ 45 ∷ s) variables_word has refl i)))
+    (λ i. bytes_eq-other dash (k ++ 45 ∷ s) (codes "name") has refl i || (bytes_eq-other dash (k ++ 45 ∷ s) (codes "owners") has refl i
+    || (bytes_eq-other dash (k ++ 45 ∷ s) (codes "flags") has refl i || bytes_eq-other dash (k ++ 45 ∷ s) (codes "variables") has refl i)))
 
 letter_first : (k s : List ℕ) → begins_with_letter k ≡ true → begins_with_letter (k ++ s) ≡ true
 letter_first [] s e = absurd (cc)
@@ -89,29 +86,26 @@ abbrev has_shorter : List ℕ → Bool
 has_shorter language = list_any (λ b. b == 95) language
 
 pub languages_two : (keys : List (List ℕ)) (key language shorter : List ℕ) → has_shorter language ≡ true → shorter ≡ before_first (λ b. b == 95) language
-    → (keys ++ filter is_short (localised key language)) ++ filter is_short (localised key shorter) ≡ keys ++ filter is_short (flat_map (localised key) (with_shorter language))
+    → (keys ++ filter is_short (localised_keys key language)) ++ filter is_short (localised_keys key shorter) ≡ keys ++ filter is_short (flat_map (localised_keys key) (with_shorter language))
 languages_two keys key language shorter has is =
-    append_assoc keys (filter is_short (localised key language)) (filter is_short (localised key shorter))
-    ∙ ap (λ (ks : List (List ℕ)). keys ++ ks) (sym (filter-append is_short (localised key language) (localised key shorter))
-    ∙ ap (λ s. filter is_short (flat_map (localised key) (language ∷ s ∷ []))) is
-    ∙ ap (λ t. filter is_short (flat_map (localised key) (cond t (language ∷ before_first (λ b. b == 95) language ∷ []) (language ∷ [])))) (sym has))
+    append_assoc keys (filter is_short (localised_keys key language)) (filter is_short (localised_keys key shorter))
+    ∙ ap (λ (ks : List (List ℕ)). keys ++ ks) (sym (filter-append is_short (localised_keys key language) (localised_keys key shorter))
+    ∙ ap (λ s. filter is_short (flat_map (localised_keys key) (language ∷ s ∷ []))) is
+    ∙ ap (λ t. filter is_short (flat_map (localised_keys key) (cond t (language ∷ before_first (λ b. b == 95) language ∷ []) (language ∷ [])))) (sym has))
 
 pub languages_one : (keys : List (List ℕ)) (key language : List ℕ) → has_shorter language ≡ false
-    → keys ++ filter is_short (localised key language) ≡ keys ++ filter is_short (flat_map (localised key) (with_shorter language))
-languages_one keys key language none = ap (λ t. keys ++ filter is_short (flat_map (localised key) (cond t (language ∷ before_first (λ b. b == 95) language ∷ []) (language ∷ [])))) (sym none)
+    → keys ++ filter is_short (localised_keys key language) ≡ keys ++ filter is_short (flat_map (localised_keys key) (with_shorter language))
+languages_one keys key language none = ap (λ t. keys ++ filter is_short (flat_map (localised_keys key) (cond t (language ∷ before_first (λ b. b == 95) language ∷ []) (language ∷ [])))) (sym none)
 
 pub only_language_bytes : (language : List ℕ) → is_language language ≡ true → list_all is_language_byte language ≡ true
 only_language_bytes language e = (both (not (is_nil language || (bytes_eq language (codes "c") || bytes_eq language (codes "posix")))) (list_all is_language_byte language) e).1
 
--- the bytes of a key in a language are in lower case, and a key where they are few enough
+-- the bytes of a key in a language are a key where they are few enough
 pub encoded_key : (bytes k language encoding : List ℕ) → bytes ≡ k ++ 45 ∷ language ++ encoding → is_field_key k ≡ true → list_all is_language_byte language ≡ true → list_all is_key_byte encoding ≡ true
-    → (map lower bytes ≡ bytes) × (is_field_key bytes ≡ is_short bytes)
+    → is_field_key bytes ≡ is_short bytes
 encoded_key bytes k language encoding is e f g =
     let whole : bytes ≡ k ++ 45 ∷ (language ++ encoding) = is ∙ append_assoc k (45 ∷ language) encoding in
-    let added : list_all is_key_byte (language ++ encoding) ≡ true = language_bytes language encoding f g in (
-      ap (map lower) whole ∙ lower_key (k ++ 45 ∷ (language ++ encoding)) (key_bytes k (language ++ encoding) (key_is k e).bytes added) ∙ sym whole,
-      ap is_field_key whole ∙ longer_key k (language ++ encoding) e added ∙ ap is_short (sym whole),
-    )
+    ap is_field_key whole ∙ longer_key k (language ++ encoding) e (language_bytes language encoding f g) ∙ ap is_short (sym whole)
 
 pub plain_key : (bytes k language : List ℕ) → bytes ≡ k ++ 45 ∷ language ++ [] → bytes ≡ k ++ 45 ∷ language
 plain_key bytes k language is = is ∙ append-nil (k ++ 45 ∷ language)

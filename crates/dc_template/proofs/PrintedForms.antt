@@ -8,17 +8,19 @@ use Rattle.std.specs.FinMap as map
 use Rattle.std.proofs.lemmas.List.{append-nil}
 use Rattle.dc_text.specs.Bytes.{is_blank}
 use Rattle.dc_text.specs.Maps.{Texts, text_cmp}
+use Rattle.dc_text.specs.Lines.{has_newline}
 use Rattle.dc_template.specs.Kinds.{kind_word, kind_of}
 use Rattle.dc_template.specs.Forms.{type_word, is_description, is_extended, row_of, form_of, is_comment}
-use Rattle.dc_template.specs.Stanzas.{Stanza, flowed, extended_key, extended_text, rows_first, as_field, fields_in, kind_in, fields_of, stanza, IsExtendedText, IsFieldAmong, field_map, IsTemplate, text_lines, row_line}
+use Rattle.dc_template.specs.Stanzas.{Stanza, flowed, extended_key, extended_text, rows_first, as_field, fields_in, kind_in, fields_of, stanza, IsExtendedText, IsFieldAmong, field_map, IsTemplate, lines_between_newlines, row_line}
+use Rattle.dc_text.proofs.FirstLemmas.{before_first-later}
 use Rattle.dc_template.specs.TemplateFaults.{is_blank_form, until_blank}
 use Rattle.dc_template.specs.Reading.{template_at, templates_in}
 use Rattle.dc_template.specs.Printed.{field_line, extended_lines, field_lines, template_lines}
+use Rattle.dc_template.proofs.RowLemmas.{extended_again, extended_solid}
 use Rattle.dc_template.proofs.TestLemmas.{both, neither, not_true}
 use Rattle.dc_template.proofs.FieldLemmas.{each_field}
-use Rattle.dc_template.proofs.RowLemmas.{has_newline}
 use Rattle.dc_template.proofs.PrintedFields.{is_skipped, text_under, printed_at, printed_fields, same_fields}
-use Rattle.dc_template.proofs.PrintedLines.{field_said, field_comment, field_newline, template_said, template_newline, row_said, row_comment, row_newline, text_lines_free}
+use Rattle.dc_template.proofs.PrintedLines.{field_said, field_comment, field_newline, template_said, template_newline, row_said, row_comment, row_newline, lines_between_newlines_free}
 use Rattle.dc_template.specs.declared.kinds.Kind.{Kind}
 use Rattle.dc_template.specs.declared.kinds.Kind.TheVariants.{Str, Bool as Boolean, Select, Multiselect, Password, Note, Txt, Error, Title}
 use Rattle.dc_template.specs.declared.forms.Row.{Row}
@@ -29,7 +31,7 @@ use Rattle.dc_template.specs.declared.forms.Form.TheVariants.{Blank, Indented, H
 
 -- the lines of an extended text
 abbrev pub rows_said : List ℕ → List Row
-rows_said text = each (λ line. row_of (row_line line)) (text_lines text)
+rows_said text = each (λ line. row_of (row_line line)) (lines_between_newlines text)
 
 abbrev pub as_rows : List Row → List Form
 as_rows rows = each (λ row. Indented row) rows
@@ -97,7 +99,7 @@ under_printed : (t : Stanza) (key : List ℕ) → IsTemplate t → ArePrinted (c
 under_printed t key h = elim (is_description key) as (λ b. is_description key ≡ b → ArePrinted (cond b (extended_lines (map.get (field_map t) (extended_key key))) []) (under_forms (cond b (map.get (field_map t) (extended_key key)) None))) [
   | true ↦ λ d. elim (map.get (field_map t) (extended_key key)) as (λ o. map.get (field_map t) (extended_key key) ≡ o → ArePrinted (extended_lines o) (under_forms o)) [
     | None ↦ λ e. tt
-    | Some text ↦ λ e. rows_printed (text_lines text) (text_sound t key text h d e).solid (text_lines_free text)
+    | Some text ↦ λ e. rows_printed (lines_between_newlines text) (extended_solid text (text_sound t key text h d e)) (lines_between_newlines_free text)
   ] refl
   | false ↦ λ d. tt
 ] refl
@@ -153,21 +155,21 @@ no_rows_first : (m : Texts (List ℕ)) (es : List (List ℕ × List ℕ)) → ro
 no_rows_first m [] = refl
 no_rows_first m (e ∷ es) = elim (is_skipped e.0) as (λ b. rows_first (cond b [] (Sets e.0 e.1 ∷ under_forms (text_under m e.0)) ++ flat_map (field_forms m) es) ≡ []) [ true ↦ no_rows_first m es | false ↦ refl ]
 
-text_lines-some : (text : List ℕ) → (x : List ℕ) × (xs : List (List ℕ)) × (text_lines text ≡ x ∷ xs)
-text_lines-some [] = ([], [], refl)
-text_lines-some (b ∷ text) = elim (b == 10) as (λ t. (x : List ℕ) × (xs : List (List ℕ)) × (cond t ([] ∷ text_lines text) (onto_part b (text_lines text)) ≡ x ∷ xs)) [
-  | true ↦ ([], text_lines text, refl)
-  | false ↦ (let more = text_lines-some text in (b ∷ more.0, more.1, ap (onto_part b) more.2))
+lines_between_newlines-some : (text : List ℕ) → (x : List ℕ) × (xs : List (List ℕ)) × (lines_between_newlines text ≡ x ∷ xs)
+lines_between_newlines-some [] = ([], [], refl)
+lines_between_newlines-some (b ∷ text) = elim (b == 10) as (λ t. (x : List ℕ) × (xs : List (List ℕ)) × (cond t ([] ∷ lines_between_newlines text) (onto_part b (lines_between_newlines text)) ≡ x ∷ xs)) [
+  | true ↦ ([], lines_between_newlines text, refl)
+  | false ↦ (let more = lines_between_newlines-some text in (b ∷ more.0, more.1, ap (onto_part b) more.2))
 ]
 
 -- the text is read again
 rows_text : (text : List ℕ) → IsExtendedText text → extended_text (rows_said text) ≡ Some text
 rows_text text h =
-    let some : (x : List ℕ) × (xs : List (List ℕ)) × (text_lines text ≡ x ∷ xs) = text_lines-some text in
+    let some : (x : List ℕ) × (xs : List (List ℕ)) × (lines_between_newlines text ≡ x ∷ xs) = lines_between_newlines-some text in
     let row : List ℕ → Row = λ line. row_of (row_line line) in
     ap (λ ls. extended_text (each row ls)) some.2
     ∙ ap (λ ls. Some (flowed (each row ls))) (sym some.2)
-    ∙ ap (λ (x : List ℕ). Some x) h.again
+    ∙ ap (λ (x : List ℕ). Some x) (extended_again text h)
 
 -- what the rows under a field make
 under_text : (t : Stanza) (key : List ℕ) → IsTemplate t → extended_text (rows_first (under_forms (text_under (field_map t) key))) ≡ text_under (field_map t) key
@@ -248,7 +250,7 @@ body_further t = (record { solid = refl; none = λ fs. refl }, fields_further (f
 
 until-body : (fs rest : List Form) → AllByRecursion IsFurther fs → until_blank (fs ++ Blank ∷ rest) ≡ fs
 until-body [] rest h = refl
-until-body (f ∷ fs) rest h = ap (λ b. cond b [] (f ∷ until_blank (fs ++ Blank ∷ rest))) (IsFurther.solid h.0) ∙ ap (λ (gs : List Form). f ∷ gs) (until-body fs rest h.1)
+until-body (f ∷ fs) rest h = before_first-later is_blank_form f (fs ++ Blank ∷ rest) (IsFurther.solid h.0) ∙ ap (λ (gs : List Form). f ∷ gs) (until-body fs rest h.1)
 
 templates-body : (fs rest : List Form) → AllByRecursion IsFurther fs → templates_in (fs ++ Blank ∷ rest) ≡ templates_in rest
 templates-body [] rest h = refl

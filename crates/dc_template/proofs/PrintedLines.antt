@@ -5,32 +5,18 @@ use Rattle.std.specs.List.{list_any, list_all, before_first, after_first, positi
 use Rattle.std.specs.Str.{bytes_eq}
 use Rattle.std.proofs.lemmas.List.{take_at, drop_at}
 use Rattle.std.proofs.lemmas.Bool.Decides.{nat_tests}
-use Rattle.dc_text.specs.Bytes.{is_space, is_blank, is_indented, trimmed, lower}
+use Rattle.dc_text.specs.Bytes.{is_space, is_blank, is_indented, trimmed, lower, upper, capital}
 use Rattle.dc_text.specs.Names.{is_name, is_word, is_name_byte, is_name_part, has_length, is_field_key, is_key_byte, is_lower_letter}
-use Rattle.dc_text.specs.Lines.{Parts, parts, onto_first, unless_empty, lines_of}
+use Rattle.dc_text.specs.Lines.{has_newline}
 use Rattle.dc_template.specs.Forms.{row_of, template_word, is_line_key, headed, form_of, is_comment, lines_from, forms}
-use Rattle.dc_template.specs.Stanzas.{IsLine, text_lines, row_line}
-use Rattle.dc_template.specs.Printed.{upper, capital, field_line, text_of}
+use Rattle.dc_template.specs.Stanzas.{IsLine, lines_between_newlines, row_line}
+use Rattle.dc_template.specs.Printed.{field_line}
 use Rattle.dc_template.proofs.TestLemmas.{both, neither, or-true, list_any-append}
 use Rattle.dc_template.proofs.KeyLemmas.{IsKey, key_is, lower_key}
-use Rattle.dc_template.proofs.RowLemmas.{has_newline}
 use Rattle.dc_template.specs.declared.forms.Form.{Form}
 use Rattle.dc_template.specs.declared.forms.Form.TheVariants.{Blank, Indented, Unnamed, Heads, Sets}
 
--- ---- lines that stand one after another in a text
-
-parts-line : (line text : List ℕ) → has_newline line ≡ false → parts (line ++ 10 ∷ text) ≡ record { ended = line ∷ (parts text).ended; rest = (parts text).rest }
-parts-line [] text h = refl
-parts-line (b ∷ line) text h =
-    let f : ((b == 10) ≡ false) × (has_newline line ≡ false) = neither _ _ h in
-    ap (λ t. cond t (record { ended = [] ∷ (parts (line ++ 10 ∷ text)).ended; rest = (parts (line ++ 10 ∷ text)).rest }) (onto_first b (parts (line ++ 10 ∷ text)).ended (parts (line ++ 10 ∷ text)).rest)) f.0
-    ∙ ap (λ (p : Parts). onto_first b p.ended p.rest) (parts-line line text f.1)
-
-pub lines_of-text_of : (lines : List (List ℕ)) → AllByRecursion (λ l. has_newline l ≡ false) lines → lines_of (text_of lines) ≡ lines
-lines_of-text_of [] h = refl
-lines_of-text_of (l ∷ lines) h =
-    ap lines_of (append_assoc l (10 ∷ []) (text_of lines)) ∙ ap (λ (p : Parts). p.ended ++ unless_empty p.rest) (parts-line l (text_of lines) h.0)
-    ∙ ap (λ (ls : List (List ℕ)). l ∷ ls) (lines_of-text_of lines h.1)
+-- ---- lines of a file
 
 pub forms-from : (n : ℕ) (lines : List (List ℕ)) → AllByRecursion (λ l. is_comment l ≡ false) lines → forms (lines_from n lines) ≡ each form_of lines
 forms-from n [] h = refl
@@ -189,9 +175,9 @@ onto_free : (b : ℕ) (lines : List (List ℕ)) → (b == 10) ≡ false → AllB
 onto_free b [] e h = (ap (λ t. t || false) e, tt)
 onto_free b (line ∷ lines) e h = (ap (λ t. t || has_newline line) e ∙ h.0, h.1)
 
-pub text_lines_free : (text : List ℕ) → AllByRecursion (λ l. has_newline l ≡ false) (text_lines text)
-text_lines_free [] = (refl, tt)
-text_lines_free (b ∷ text) = elim (b == 10) as (λ t. (b == 10) ≡ t → AllByRecursion (λ l. has_newline l ≡ false) (cond t ([] ∷ text_lines text) (onto_part b (text_lines text)))) [
-  | true ↦ λ e. (refl, text_lines_free text)
-  | false ↦ λ e. onto_free b (text_lines text) e (text_lines_free text)
+pub lines_between_newlines_free : (text : List ℕ) → AllByRecursion (λ l. has_newline l ≡ false) (lines_between_newlines text)
+lines_between_newlines_free [] = (refl, tt)
+lines_between_newlines_free (b ∷ text) = elim (b == 10) as (λ t. (b == 10) ≡ t → AllByRecursion (λ l. has_newline l ≡ false) (cond t ([] ∷ lines_between_newlines text) (onto_part b (lines_between_newlines text)))) [
+  | true ↦ λ e. (refl, lines_between_newlines_free text)
+  | false ↦ λ e. onto_free b (lines_between_newlines text) e (lines_between_newlines_free text)
 ] refl

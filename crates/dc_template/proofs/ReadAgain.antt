@@ -1,7 +1,9 @@
 -- What is printed is read again.
 use Rattle.std.proofs.Common.{◌≡◌, ℕ, Bool, true, false, cond, not, ◌&&◌, List, [], ◌∷◌, ◌++◌, Some, None, Option, Ok, refl, sym, ap, ◌∙◌, subst, append_assoc}
 use Rattle.std.specs.Prelude.{◌||◌, ◌≢◌, T, is_some, is_none}
-use Rattle.std.specs.List.{flat_map, AllByRecursion}
+use Rattle.std.specs.List.{flat_map, list_any, AllByRecursion}
+use Rattle.dc_text.proofs.FirstLemmas.{before_first-later}
+use Rattle.dc_template.specs.TemplateFaults.{is_blank_form, sets_type}
 use Rattle.std.specs.Str.{bytes_eq}
 use Rattle.std.specs.Cmp.Lexicographic.{nat_list_cmp_total}
 use Rattle.std.specs.Ordering.{is_lt}
@@ -10,20 +12,21 @@ use Rattle.std.specs.FinMap as map
 use Rattle.std.specs.FinMap.{is_sorted}
 use Rattle.std.specs.FinMap.Entries.{below_all}
 use Rattle.dc_text.specs.Faults.{run, goes_on}
+use Rattle.dc_text.proofs.LineLaws.{lines_of-text_of}
 use Rattle.dc_text.specs.Lines.{lines_of}
-use Rattle.dc_text.specs.Maps.{Texts, TextSet, text_cmp}
+use Rattle.dc_text.specs.Maps.{AreDistinct, Texts, TextSet, text_cmp}
 use Rattle.dc_template.specs.Kinds.{kind_word, kind_of}
 use Rattle.dc_template.specs.Forms.{type_word, is_description, is_extended, lines_from, lines_in, forms}
 use Rattle.dc_template.specs.Stanzas.{Stanza, extended_key, field_map, IsTemplate}
 use Rattle.dc_template.specs.Reading.{Reads, templates_in}
 use Rattle.dc_template.specs.Machine.{fault_seen, noted, at_start, step_by, step}
-use Rattle.dc_template.specs.Printed.{template_lines, canon, AreApart, names}
+use Rattle.dc_template.specs.Printed.{template_lines, canon, names}
 use Rattle.dc_template.proofs.TestLemmas.{neither}
 use Rattle.dc_template.proofs.FieldLemmas.{T_both, not_below}
 use Rattle.dc_template.proofs.FaultLaws.{all_stand}
 use Rattle.dc_template.proofs.SoundLemmas.{same_key, key_same}
 use Rattle.dc_template.proofs.PrintedFields.{is_skipped, text_under}
-use Rattle.dc_template.proofs.PrintedLines.{lines_of-text_of, forms-from}
+use Rattle.dc_template.proofs.PrintedLines.{forms-from}
 use Rattle.dc_template.proofs.PrintedForms.{rows_said, as_rows, under_forms, field_forms, template_forms, ArePrinted, printed_forms, printed_plain, printed_one, templates_printed, templates_again, kind_again}
 use Rattle.dc_template.specs.declared.kinds.Kind.{Kind}
 use Rattle.dc_template.specs.declared.forms.Row.{Row}
@@ -31,7 +34,7 @@ use Rattle.dc_template.specs.declared.forms.Form.{Form}
 use Rattle.dc_template.specs.declared.forms.Form.TheVariants.{Blank, Sets}
 use Rattle.dc_template.specs.declared.forms.Line.{Line}
 use Rattle.dc_template.specs.declared.checking.Seen.{Seen}
-use Rattle.dc_template.specs.declared.faults.TemplateKind.TheVariants.{NoTemplate, BadType, Twice, StrayIndent}
+use Rattle.dc_template.specs.declared.faults.TemplateKind.TheVariants.{NoTemplate, NoType, BadType, Twice, StrayIndent}
 
 -- ---- the reader takes the lines
 
@@ -151,7 +154,9 @@ template_taken t known rest h new more =
     let typed : Seen = record { names = map.insert known t.name tt; keys = map.insert map.empty type_word tt; is_open = true; describes = false } in
     let fields : List Form = flat_map (field_forms (field_map t)) t.fields in
     let body : IsTaken typed ((fields ++ Blank ∷ []) ++ rest) = subst (IsTaken typed) (sym (append_assoc fields (Blank ∷ []) rest)) (fields_taken (field_map t) t.fields typed rest refl (fields_new t h) more) in (
-      ap (λ b. cond b (Some Twice) None) new,
+      ap (λ fs. cond (not (list_any sets_type fs)) (Some NoType) (cond (map.contains_key known t.name) (Some Twice) None))
+          (before_first-later is_blank_form (Sets type_word (kind_word t.kind)) ((fields ++ Blank ∷ []) ++ rest) refl)
+          ∙ ap (λ b. cond b (Some Twice) None) new,
       (type_fault opened t.kind ((fields ++ Blank ∷ []) ++ rest) refl refl, body),
     )
 
@@ -166,7 +171,7 @@ still_unknown : (known : TextSet) (name : List ℕ) (ts : List Stanza) → AllBy
 still_unknown known name [] a h = tt
 still_unknown known name (t ∷ ts) a h = (contains-insert known name t.name ∙ (λ i. other_name t.name name a.0 i || h.0 i), still_unknown known name ts a.1 h.1)
 
-templates_taken : (ts : List Stanza) (known : TextSet) → AllByRecursion IsTemplate ts → AreApart (names ts) → AreUnknown known ts → IsTaken (between known) (flat_map template_forms ts)
+templates_taken : (ts : List Stanza) (known : TextSet) → AllByRecursion IsTemplate ts → AreDistinct (names ts) → AreUnknown known ts → IsTaken (between known) (flat_map template_forms ts)
 templates_taken [] known h apart new = tt
 templates_taken (t ∷ ts) known h apart new =
     template_taken t known (flat_map template_forms ts) h.0 new.0
@@ -176,7 +181,7 @@ none_known : (ts : List Stanza) → AreUnknown map.empty ts
 none_known [] = tt
 none_known (t ∷ ts) = (contains-empty t.name, none_known ts)
 
-pub read_again : (ts : List Stanza) → AllByRecursion IsTemplate ts → AreApart (names ts) → Reads (canon ts) ts
+pub read_again : (ts : List Stanza) → AllByRecursion IsTemplate ts → AreDistinct (names ts) → Reads (canon ts) ts
 read_again ts h apart =
     let printed : List (List ℕ) = flat_map template_lines ts in
     let said : List Form = flat_map template_forms ts in

@@ -9,15 +9,13 @@ use Rattle.std.proofs.lemmas.List.Elements.{All-from_recursion}
 use Rattle.std.proofs.lemmas.List.Sums.{take_while-cons}
 use Rattle.std.proofs.lemmas.Bool.Decides.{nat_tests}
 use Rattle.dc_text.specs.Bytes.{is_space, is_blank, is_indented, drop_front, drop_back, trimmed}
+use Rattle.dc_text.specs.Lines.{has_newline}
 use Rattle.dc_template.specs.Forms.{indentation, row_of}
-use Rattle.dc_template.specs.Stanzas.{shown, parting, flowed, flowed_after, text_lines, row_line, IsExtendedText}
+use Rattle.dc_template.specs.Stanzas.{shown, parting, flowed, flowed_after, lines_between_newlines, row_line, IsTextLine, IsExtendedLine, IsExtendedText, flows_on, NoneFlowTogether, read_from_rows}
 use Rattle.dc_template.proofs.TestLemmas.{neither, or-true, bytes_eq-other, list_any-append, list_all-append}
 use Rattle.dc_template.proofs.TrimLemmas.{drop_back-append, blank-drop_back, drop_back-first, drop_back-twice, trimmed-end, drop_front-append, any-drop_back}
 use Rattle.dc_template.specs.declared.forms.Row.{Row}
 use Rattle.dc_template.specs.declared.forms.Row.TheVariants.{Empty, Flowing, Kept}
-
-abbrev pub has_newline : List ℕ → Bool
-has_newline bytes = list_any (λ b. b == 10) bytes
 
 -- the text of a line that flows on
 pub record IsFlowing (text : List ℕ) : Type 0 where
@@ -118,32 +116,33 @@ kept_again : (text : List ℕ) → IsKept text → row_of (row_line text) ≡ Ke
 kept_again text is =
     ap row_of (not_nil text is.solid) ∙ row_by_tests 32 text true (bytes_eq (trimmed (32 ∷ text)) (46 ∷ [])) (indented_twice 32 text refl ∙ is.indented) refl ∙ ap (λ (t : List ℕ). Kept t) is.end
 
-record IsRowLine (line : List ℕ) : Type 0 where
-  shows : shown (row_of (row_line line)) ≡ line
-  solid : is_blank (row_line line) ≡ false
-
-abbrev line_flows : List ℕ → Bool
-line_flows line = flows (row_of (row_line line))
-
--- the text of a row is a line that says the row
+-- the text of a row is such a line
 record Says (row : Row) (line : List ℕ) : Type 0 where
-  is : IsRowLine line
-  flow : line_flows line ≡ flows row
+  is : IsExtendedLine line
+  flow : flows_on line ≡ flows row
   text : flows row ≡ true → IsFlowing line
+
+text_line : (line : List ℕ) → IsTextLine line → IsExtendedLine line
+text_line [] is = tt
+text_line (b ∷ line) is = is
+
+flow_is : (line : List ℕ) → is_blank line ≡ false → flows_on line ≡ not (is_indented line)
+flow_is [] h = absurd (cc)
+flow_is (b ∷ line) h = refl
 
 flowing_says : (row : Row) (line : List ℕ) → flows row ≡ true → IsFlowing line → Says row line
 flowing_says row line f is = record {
-  is = record { shows = ap shown (flowing_again line is); solid = ap is_blank (not_nil line is.solid) ∙ is.solid };
-  flow = ap flows (flowing_again line is) ∙ sym f;
+  is = text_line line (record { solid = is.solid; end = is.end; dot = λ _. is.dot });
+  flow = flow_is line is.solid ∙ ap not is.plain ∙ sym f;
   text = λ _. is;
 }
 
 row_says : (row : Row) → IsSoundRow row → Says row (shown row)
-row_says Empty s = record { is = record { shows = refl; solid = refl }; flow = refl; text = λ e. absurd (cc) }
+row_says Empty s = record { is = tt; flow = refl; text = λ e. absurd (cc) }
 row_says (Flowing text) s = flowing_says (Flowing text) text refl s
 row_says (Kept text) s = record {
-  is = record { shows = ap shown (kept_again text s); solid = ap is_blank (not_nil text s.solid) ∙ s.solid };
-  flow = ap flows (kept_again text s);
+  is = text_line text (record { solid = s.solid; end = s.end; dot = λ plain. absurd (let off : true ≡ false = sym s.indented ∙ plain in cc) });
+  flow = flow_is text s.solid ∙ ap not s.indented;
   text = λ e. absurd (cc);
 }
 
@@ -154,51 +153,45 @@ free_row (Kept text) s = s.one
 
 -- ---- the lines of the text
 
--- no two lines in a row flow
-abbrev NoRun : List (List ℕ) → Type 0
-NoRun [] = Unit {0}
-NoRun (line ∷ []) = Unit {0}
-NoRun (line ∷ next ∷ lines) = ((line_flows line && line_flows next) ≡ false) × NoRun (next ∷ lines)
-
 -- these lines begin with one that says the row
 record Begins (row : Row) (lines : List (List ℕ)) : Type 0 where
   first : List ℕ
   rest : List (List ℕ)
   whole : lines ≡ first ∷ rest
   says : Says row first
-  each : AllByRecursion IsRowLine rest
-  apart : NoRun (first ∷ rest)
+  each : AllByRecursion IsExtendedLine rest
+  apart : NoneFlowTogether (first ∷ rest)
 
 free_all : (text : List ℕ) → has_newline text ≡ false → AllByRecursion (λ b. (b == 10) ≡ false) text
 free_all [] h = tt
 free_all (b ∷ text) h = let f : ((b == 10) ≡ false) × (has_newline text ≡ false) = neither _ _ h in (f.0, free_all text f.1)
 
-pub one_line : (text : List ℕ) → has_newline text ≡ false → text_lines text ≡ text ∷ []
+pub one_line : (text : List ℕ) → has_newline text ≡ false → lines_between_newlines text ≡ text ∷ []
 one_line text h = slice_split_none (λ b. b == 10) text (All-from_recursion (λ b. (b == 10) ≡ false) text (free_all text h))
 
-pub line_first : (text rest : List ℕ) → has_newline text ≡ false → text_lines (text ++ 10 ∷ rest) ≡ text ∷ text_lines rest
+pub line_first : (text rest : List ℕ) → has_newline text ≡ false → lines_between_newlines (text ++ 10 ∷ rest) ≡ text ∷ lines_between_newlines rest
 line_first text rest h = slice_split_at (λ b. b == 10) text 10 rest (All-from_recursion (λ b. (b == 10) ≡ false) text (free_all text h)) refl
 
 -- bytes go in front of the first line
-line_longer : (text rest first : List ℕ) (lines : List (List ℕ)) → has_newline text ≡ false → text_lines rest ≡ first ∷ lines → text_lines (text ++ rest) ≡ (text ++ first) ∷ lines
+line_longer : (text rest first : List ℕ) (lines : List (List ℕ)) → has_newline text ≡ false → lines_between_newlines rest ≡ first ∷ lines → lines_between_newlines (text ++ rest) ≡ (text ++ first) ∷ lines
 line_longer [] rest first lines h e = e
 line_longer (b ∷ text) rest first lines h e =
     let f : ((b == 10) ≡ false) × (has_newline text ≡ false) = neither _ _ h in
-    ap (λ t. cond t ([] ∷ text_lines (text ++ rest)) (Rattle.std.specs.List.onto_first b (text_lines (text ++ rest)))) f.0
+    ap (λ t. cond t ([] ∷ lines_between_newlines (text ++ rest)) (Rattle.std.specs.List.onto_first b (lines_between_newlines (text ++ rest)))) f.0
     ∙ ap (Rattle.std.specs.List.onto_first b) (line_longer text rest first lines f.1 e)
 
-single : (row : Row) → IsSoundRow row → Begins row (text_lines (shown row ++ []))
+single : (row : Row) → IsSoundRow row → Begins row (lines_between_newlines (shown row ++ []))
 single row s = record {
   first = shown row;
   rest = [];
-  whole = ap text_lines (append-nil (shown row)) ∙ one_line (shown row) (free_row row s);
+  whole = ap lines_between_newlines (append-nil (shown row)) ∙ one_line (shown row) (free_row row s);
   says = row_says row s;
   each = tt;
   apart = tt;
 }
 
 -- a line that doesn't flow on comes first
-parted : (row next : Row) (tail : List ℕ) → IsSoundRow row → (flows row && flows next) ≡ false → Begins next (text_lines tail) → Begins row (text_lines (shown row ++ 10 ∷ tail))
+parted : (row next : Row) (tail : List ℕ) → IsSoundRow row → (flows row && flows next) ≡ false → Begins next (lines_between_newlines tail) → Begins row (lines_between_newlines (shown row ++ 10 ∷ tail))
 parted row next tail s off h = record {
   first = shown row;
   rest = h.first ∷ h.rest;
@@ -230,23 +223,23 @@ flowing_more text next a b = record {
   one = list_any-append (λ c. c == 10) text (32 ∷ next) ∙ (λ i. a.one i || b.one i);
 }
 
-joined : (text next tail : List ℕ) → IsFlowing text → Begins (Flowing next) (text_lines tail) → Begins (Flowing text) (text_lines (text ++ 32 ∷ tail))
+joined : (text next tail : List ℕ) → IsFlowing text → Begins (Flowing next) (lines_between_newlines tail) → Begins (Flowing text) (lines_between_newlines (text ++ 32 ∷ tail))
 joined text next tail s h =
     let more : IsFlowing (text ++ 32 ∷ h.first) = flowing_more text h.first s (h.says.text refl) in
-    let whole : text_lines (text ++ 32 ∷ tail) ≡ (text ++ 32 ∷ h.first) ∷ h.rest = line_longer text (32 ∷ tail) (32 ∷ h.first) h.rest s.one (line_longer (32 ∷ []) tail h.first h.rest refl h.whole) in
+    let whole : lines_between_newlines (text ++ 32 ∷ tail) ≡ (text ++ 32 ∷ h.first) ∷ h.rest = line_longer text (32 ∷ tail) (32 ∷ h.first) h.rest s.one (line_longer (32 ∷ []) tail h.first h.rest refl h.whole) in
     record {
       first = text ++ 32 ∷ h.first;
       rest = h.rest;
       whole = whole;
       says = flowing_says (Flowing text) (text ++ 32 ∷ h.first) refl more;
       each = h.each;
-      apart = again (text ++ 32 ∷ h.first) h.first h.rest (ap flows (flowing_again (text ++ 32 ∷ h.first) more) ∙ sym h.says.flow) h.apart;
+      apart = again (text ++ 32 ∷ h.first) h.first h.rest ((flowing_says (Flowing text) (text ++ 32 ∷ h.first) refl more).flow ∙ sym h.says.flow) h.apart;
     } where
-      again : (line first : List ℕ) (rest : List (List ℕ)) → line_flows line ≡ line_flows first → NoRun (first ∷ rest) → NoRun (line ∷ rest)
+      again : (line first : List ℕ) (rest : List (List ℕ)) → flows_on line ≡ flows_on first → NoneFlowTogether (first ∷ rest) → NoneFlowTogether (line ∷ rest)
       again line first [] e a = tt
-      again line first (next ∷ rest) e a = (ap (λ t. t && line_flows next) e ∙ a.0, a.1)
+      again line first (next ∷ rest) e a = (ap (λ t. t && flows_on next) e ∙ a.0, a.1)
 
-lines_begin : (row : Row) (rows : List Row) → IsSoundRow row → AllByRecursion IsSoundRow rows → Begins row (text_lines (flowed (row ∷ rows)))
+lines_begin : (row : Row) (rows : List Row) → IsSoundRow row → AllByRecursion IsSoundRow rows → Begins row (lines_between_newlines (flowed (row ∷ rows)))
 lines_begin row [] s h = single row s
 lines_begin Empty (next ∷ rows) s h = parted Empty next (flowed (next ∷ rows)) s refl (lines_begin next rows h.0 h.1)
 lines_begin (Kept text) (next ∷ rows) s h = parted (Kept text) next (flowed (next ∷ rows)) s refl (lines_begin next rows h.0 h.1)
@@ -266,24 +259,59 @@ parting-apart (Flowing text) (Flowing next) e = absurd (cc)
 abbrev rows_of : List (List ℕ) → List Row
 rows_of lines = each (λ line. row_of (row_line line)) lines
 
-read_after : (line : List ℕ) (lines : List (List ℕ)) → AllByRecursion IsRowLine lines → NoRun (line ∷ lines) → line ++ flowed_after (row_of (row_line line)) (rows_of lines) ≡ join_with_byte 10 (line ∷ lines)
-read_after line [] h a = append-nil line
-read_after line (next ∷ lines) h a =
-    (λ i. line ++ (parting-apart (row_of (row_line line)) (row_of (row_line next)) a.0 i ∷ (IsRowLine.shows h.0 i ++ flowed_after (row_of (row_line next)) (rows_of lines))))
-    ∙ ap (λ (t : List ℕ). line ++ 10 ∷ t) (read_after next lines h.1 a.1)
+-- ---- a line, as it is read again
 
-all_solid : (lines : List (List ℕ)) → AllByRecursion IsRowLine lines → list_all (λ line. not (is_blank (row_line line))) lines ≡ true
+record IsReadAgain (line : List ℕ) : Type 0 where
+  shows : shown (row_of (row_line line)) ≡ line
+  solid : is_blank (row_line line) ≡ false
+  flow : flows (row_of (row_line line)) ≡ flows_on line
+
+text_again : (b : ℕ) (line : List ℕ) → IsTextLine (b ∷ line) → IsReadAgain (b ∷ line)
+text_again b line is =
+    let text : List ℕ = b ∷ line in
+    let dotted : Bool = bytes_eq (trimmed (32 ∷ text)) (46 ∷ []) in
+    elim (is_indented text) as (λ t. is_indented text ≡ t → IsReadAgain text) [
+      | true ↦ λ e.
+          let row : row_of (32 ∷ text) ≡ Kept text = row_by_tests 32 text true dotted (indented_twice 32 text refl ∙ e) refl ∙ ap (λ (t : List ℕ). Kept t) is.end in
+          record { shows = ap shown row; solid = is.solid; flow = ap flows row ∙ ap not (sym e) }
+      | false ↦ λ e.
+          let row : row_of (32 ∷ text) ≡ Flowing text = row_by_tests 32 text false false (indented_twice 32 text refl ∙ e) (is.dot e) ∙ ap (λ (t : List ℕ). Flowing t) is.end in
+          record { shows = ap shown row; solid = is.solid; flow = ap flows row ∙ ap not (sym e) }
+    ] refl
+
+line_again : (line : List ℕ) → IsExtendedLine line → IsReadAgain line
+line_again [] is = record { shows = refl; solid = refl; flow = refl }
+line_again (b ∷ line) is = text_again b line is
+
+read_after : (line : List ℕ) (lines : List (List ℕ)) → IsExtendedLine line → AllByRecursion IsExtendedLine lines → NoneFlowTogether (line ∷ lines)
+    → line ++ flowed_after (row_of (row_line line)) (rows_of lines) ≡ join_with_byte 10 (line ∷ lines)
+read_after line [] s h a = append-nil line
+read_after line (next ∷ lines) s h a =
+    let one : IsReadAgain line = line_again line s in
+    let two : IsReadAgain next = line_again next h.0 in
+    (λ i. line ++ (parting-apart (row_of (row_line line)) (row_of (row_line next)) ((λ j. one.flow j && two.flow j) ∙ a.0) i ∷ (two.shows i ++ flowed_after (row_of (row_line next)) (rows_of lines))))
+    ∙ ap (λ (t : List ℕ). line ++ 10 ∷ t) (read_after next lines h.0 h.1 a.1)
+
+all_read : (lines : List (List ℕ)) → AllByRecursion IsExtendedLine lines → NoneFlowTogether lines → flowed (rows_of lines) ≡ join_with_byte 10 lines
+all_read [] h a = refl
+all_read (line ∷ lines) h a = ap (λ (t : List ℕ). t ++ flowed_after (row_of (row_line line)) (rows_of lines)) (line_again line h.0).shows ∙ read_after line lines h.0 h.1 a
+
+-- an extended description is read again from its lines as they stand in a file
+pub extended_again : (text : List ℕ) → IsExtendedText text → read_from_rows text ≡ text
+extended_again text is = all_read (lines_between_newlines text) is.lines is.apart ∙ join_with_byte-slice_split 10 text
+
+all_solid : (lines : List (List ℕ)) → AllByRecursion IsExtendedLine lines → list_all (λ line. not (is_blank (row_line line))) lines ≡ true
 all_solid [] h = refl
-all_solid (line ∷ lines) h = (λ i. not (IsRowLine.solid h.0 i) && list_all (λ l. not (is_blank (row_line l))) lines) ∙ all_solid lines h.1
+all_solid (line ∷ lines) h = (λ i. not ((line_again line h.0).solid i) && list_all (λ l. not (is_blank (row_line l))) lines) ∙ all_solid lines h.1
+
+-- and none of those lines is blank
+pub extended_solid : (text : List ℕ) → IsExtendedText text → list_all (λ line. not (is_blank (row_line line))) (lines_between_newlines text) ≡ true
+extended_solid text is = all_solid (lines_between_newlines text) is.lines
 
 pub extended_sound : (row : Row) (rows : List Row) → IsSoundRow row → AllByRecursion IsSoundRow rows → IsExtendedText (flowed (row ∷ rows))
 extended_sound row rows s h =
-    let b : Begins row (text_lines (flowed (row ∷ rows))) = lines_begin row rows s h in
+    let b : Begins row (lines_between_newlines (flowed (row ∷ rows))) = lines_begin row rows s h in
     record {
-      solid = ap (list_all (λ line. not (is_blank (row_line line)))) b.whole ∙ all_solid (b.first ∷ b.rest) (b.says.is, b.each);
-      again = ap (λ ls. flowed (rows_of ls)) b.whole
-          ∙ ap (λ (t : List ℕ). t ++ flowed_after (row_of (row_line b.first)) (rows_of b.rest)) b.says.is.shows
-          ∙ read_after b.first b.rest b.each b.apart
-          ∙ ap (join_with_byte 10) (sym b.whole)
-          ∙ join_with_byte-slice_split 10 (flowed (row ∷ rows));
+      lines = subst (AllByRecursion IsExtendedLine) (sym b.whole) (b.says.is, b.each);
+      apart = subst NoneFlowTogether (sym b.whole) b.apart;
     }

@@ -18,6 +18,7 @@ use Rattle.dc_text.proofs.MapLemmas.{from_entries-entries}
 use Rattle.dc_template.specs.Kinds.{kind_word, kind_of, all_kinds}
 use Rattle.dc_template.specs.Forms.{type_word, template_word, is_description, is_extended, is_line_key, forms}
 use Rattle.dc_template.specs.Stanzas.{Stanza, flowed, extended_key, described_by, extended_text, rows_first, as_field, fields_in, kind_in, fields_of, stanza, IsLine, IsExtendedText, IsFieldAmong, field_map, IsTemplate}
+use Rattle.dc_text.proofs.FirstLemmas.{before_first-cons, before_first-later}
 use Rattle.dc_template.specs.TemplateFaults.{is_blank_form, until_blank}
 use Rattle.dc_template.specs.Reading.{template_at, templates_in, AreSound}
 use Rattle.dc_template.specs.Machine.{fault_seen, noted, step}
@@ -76,16 +77,18 @@ run_under (l ∷ lines) s t e = let f : (fault_seen s l.form (forms lines) ≡ N
 until_under : (describes : Bool) (lines : List Form) → IsUnder describes lines → IsUnder describes (until_blank lines)
 until_under d [] h = tt
 until_under d (Blank ∷ lines) h = tt
-until_under d (Indented row ∷ lines) h = (h.0, until_under d lines h.1)
-until_under d (Colonless ∷ lines) h = until_under false lines h
-until_under d (Unkeyed ∷ lines) h = until_under false lines h
-until_under d (Unnamed ∷ lines) h = until_under false lines h
-until_under d (Heads name ∷ lines) h = until_under false lines h
-until_under d (Sets key value ∷ lines) h = until_under (is_description key) lines h
+until_under d (Indented row ∷ lines) h = subst (IsUnder d) (sym (before_first-later is_blank_form (Indented row) lines refl)) (h.0, until_under d lines h.1)
+until_under d (Colonless ∷ lines) h = subst (IsUnder d) (sym (before_first-later is_blank_form Colonless lines refl)) (until_under false lines h)
+until_under d (Unkeyed ∷ lines) h = subst (IsUnder d) (sym (before_first-later is_blank_form Unkeyed lines refl)) (until_under false lines h)
+until_under d (Unnamed ∷ lines) h = subst (IsUnder d) (sym (before_first-later is_blank_form Unnamed lines refl)) (until_under false lines h)
+until_under d (Heads name ∷ lines) h = subst (IsUnder d) (sym (before_first-later is_blank_form (Heads name) lines refl)) (until_under false lines h)
+until_under d (Sets key value ∷ lines) h = subst (IsUnder d) (sym (before_first-later is_blank_form (Sets key value) lines refl)) (until_under (is_description key) lines h)
 
 until_sound : (lines : List Form) → AllByRecursion IsSoundForm lines → AllByRecursion IsSoundForm (until_blank lines)
 until_sound [] h = tt
-until_sound (f ∷ lines) h = elim (is_blank_form f) as (λ t. AllByRecursion IsSoundForm (cond t [] (f ∷ until_blank lines))) [ true ↦ tt | false ↦ (h.0, until_sound lines h.1) ]
+until_sound (f ∷ lines) h =
+    subst (AllByRecursion IsSoundForm) (sym (before_first-cons is_blank_form f lines))
+    (elim (is_blank_form f) as (λ t. AllByRecursion IsSoundForm (cond t [] (f ∷ until_blank lines))) [ true ↦ tt | false ↦ (h.0, until_sound lines h.1) ])
 
 -- ---- keys
 

@@ -2,6 +2,7 @@
 use Rattle.std.specs.Prelude.{ℕ, ◌+◌, Bool, false, not, ◌&&◌, ◌||◌, ◌==◌, nat_eq, nat_le, nat_lt, List, [], ◌∷◌, ◌++◌, length, map, drop, codes, if◌then◌else◌}
 use Rattle.std.specs.List.{list_any, take_while, before_first, after_first, starts_with}
 use Rattle.std.specs.Str.{bytes_eq}
+use Rattle.dc_text.specs.Ascii.{tab, space, hash, dash, colon}
 use Rattle.dc_text.specs.Bytes.{is_space, is_blank, is_indented, trimmed, drop_back, lower}
 use Rattle.dc_text.specs.Names.{is_name, is_field_key}
 use Rattle.dc_text.specs.Lines.{lines_of}
@@ -15,7 +16,7 @@ use Rattle.dc_template.specs.declared.forms.Line.{Line}
 
 -- the spaces and tabs at the front
 abbrev pub indentation : List ℕ → List ℕ
-indentation line = take_while (λ byte. byte == 32 || byte == 9) line
+indentation line = take_while (λ byte. byte == space || byte == tab) line
 
 -- without the first byte, and without whitespace at the end
 abbrev pub row_text : List ℕ → List ℕ
@@ -39,7 +40,7 @@ type_word = codes "type"
 
 -- the key, or the key and a dash with more: the field itself, or the field in a language
 abbrev pub is_field_of : List ℕ → List ℕ → Bool
-is_field_of field key = bytes_eq key field || starts_with nat_eq key (field ++ 45 ∷ [])
+is_field_of field key = bytes_eq key field || starts_with nat_eq key (field ++ dash ∷ [])
 
 abbrev pub is_description : List ℕ → Bool
 is_description key = is_field_of (codes "description") key
@@ -65,13 +66,13 @@ abbrev pub form_of : List ℕ → Form
 form_of line =
     if is_blank line then Blank
     else if is_indented line then Indented (row_of line)
-    else if list_any (λ byte. byte == 58) line
-    then headed (map lower (before_first (λ byte. byte == 58) line)) (trimmed (after_first (λ byte. byte == 58) line))
+    else if list_any (λ byte. byte == colon) line
+    then headed (map lower (before_first (λ byte. byte == colon) line)) (trimmed (after_first (λ byte. byte == colon) line))
     else Colonless
 
 abbrev pub is_comment : List ℕ → Bool
 is_comment [] = false
-is_comment (byte ∷ bytes) = byte == 35
+is_comment (byte ∷ bytes) = byte == hash
 
 -- a line and its number, unless it is a comment
 abbrev pub line_at : ℕ → List ℕ → List Line

@@ -2,16 +2,17 @@
 use Rattle.std.specs.Prelude.{ℕ, Bool, not, ◌&&◌, ◌||◌, ◌==◌, nat_le, List, [], ◌∷◌, ◌++◌, map, length, codes, if◌then◌else◌}
 use Rattle.std.specs.List.{list_any, list_all, filter, flat_map, before_first}
 use Rattle.std.specs.Str.{bytes_eq}
+use Rattle.dc_text.specs.Ascii.{dash, dot, at_sign, underscore}
 use Rattle.dc_text.specs.Bytes.{lower, is_nil}
 use Rattle.dc_text.specs.Names.{is_lower_letter}
 
 -- a language without its encoding and variant, in lower case: `de_at` of `de_AT.UTF-8`
 abbrev pub language_of : List ℕ → List ℕ
-language_of lang = map lower (before_first (λ byte. byte == 46 || byte == 64) lang)
+language_of lang = map lower (before_first (λ byte. byte == dot || byte == at_sign) lang)
 
 -- a letter, a digit, `_` or `-`
 abbrev pub is_language_byte : ℕ → Bool
-is_language_byte byte = is_lower_letter byte || ((nat_le 48 byte && nat_le byte 57) || (byte == 95 || byte == 45))
+is_language_byte byte = is_lower_letter byte || ((nat_le 48 byte && nat_le byte 57) || (byte == underscore || byte == dash))
 
 -- not empty, `c` or `posix`, and of such bytes alone
 abbrev pub is_language : List ℕ → Bool
@@ -21,11 +22,11 @@ is_language language =
 -- the language, and the part before its first underscore: `de_at` and `de`
 abbrev pub with_shorter : List ℕ → List (List ℕ)
 with_shorter language =
-    if list_any (λ byte. byte == 95) language then language ∷ before_first (λ byte. byte == 95) language ∷ [] else language ∷ []
+    if list_any (λ byte. byte == underscore) language then language ∷ before_first (λ byte. byte == underscore) language ∷ [] else language ∷ []
 
--- the key in a language, for UTF-8 texts first
-abbrev pub localised : List ℕ → List ℕ → List (List ℕ)
-localised key language = (key ++ 45 ∷ language ++ codes ".utf-8") ∷ (key ++ 45 ∷ language) ∷ []
+-- the keys in a language, that for UTF-8 texts first
+abbrev pub localised_keys : List ℕ → List ℕ → List (List ℕ)
+localised_keys key language = (key ++ dash ∷ language ++ codes ".utf-8") ∷ (key ++ dash ∷ language) ∷ []
 
 -- as long as a key may be
 abbrev pub is_short : List ℕ → Bool
@@ -34,4 +35,4 @@ is_short key = nat_le (length key) 64
 -- the keys in the languages of a user's language, without those that would be too long, and then the plain key
 abbrev pub keys_tried_of : List ℕ → List ℕ → List (List ℕ)
 keys_tried_of lang key =
-    (if is_language (language_of lang) then filter is_short (flat_map (localised key) (with_shorter (language_of lang))) else []) ++ key ∷ []
+    (if is_language (language_of lang) then filter is_short (flat_map (localised_keys key) (with_shorter (language_of lang))) else []) ++ key ∷ []

@@ -1,9 +1,11 @@
 -- A template: what the lines of a stanza make.
-use Rattle.std.specs.Prelude.{◌≡◌, ℕ, true, false, not, List, [], ◌∷◌, ◌++◌, map as each, drop, Option, Some, None, codes, if◌then◌else◌, ◌==◌}
-use Rattle.std.specs.List.{list_any, list_all, slice_split}
+use Rattle.std.specs.Prelude.{◌≡◌, ℕ, Bool, true, false, not, ◌&&◌, List, [], ◌∷◌, ◌++◌, map as each, drop, Option, Some, None, codes, if◌then◌else◌, ◌==◌}
+use Rattle.std.specs.List.{slice_split, AllByRecursion}
 use Rattle.std.specs.Str.{bytes_eq}
 use Rattle.std.specs.FinMap as map
-use Rattle.dc_text.specs.Bytes.{is_blank, trimmed}
+use Rattle.dc_text.specs.Ascii.{newline, space, dot}
+use Rattle.dc_text.specs.Bytes.{is_space, is_blank, is_indented, drop_back, trimmed}
+use Rattle.dc_text.specs.Lines.{has_newline}
 use Rattle.dc_text.specs.Names.{is_name, is_field_key}
 use Rattle.dc_text.specs.Maps.{Texts}
 use Rattle.dc_template.specs.Kinds.{kind_word, kind_of}
@@ -29,8 +31,8 @@ shown (Kept text) = text
 
 -- what parts a line from the one before it: a space where both flow on, and else a newline
 abbrev pub parting : Row → Row → ℕ
-parting (Flowing text) (Flowing next) = 32
-parting _ _ = 10
+parting (Flowing text) (Flowing next) = space
+parting _ _ = newline
 
 abbrev pub flowed_after : Row → List Row → List ℕ
 flowed_after last [] = []
@@ -95,21 +97,47 @@ stanza name kind lines = record { name = name; kind = kind; fields = map.entries
 -- a value of one line
 pub record IsLine (value : List ℕ) : Type 0 where
   pub trim : trimmed value ≡ value
-  pub one : list_any (λ byte. byte == 10) value ≡ false
+  pub one : has_newline value ≡ false
 
 -- the texts between newlines
-abbrev pub text_lines : List ℕ → List (List ℕ)
-text_lines text = slice_split (λ byte. byte == 10) text
+abbrev pub lines_between_newlines : List ℕ → List (List ℕ)
+lines_between_newlines text = slice_split (λ byte. byte == newline) text
 
 -- a line of an extended description as it stands in a file: behind a space, and a dot where it is empty
 abbrev pub row_line : List ℕ → List ℕ
-row_line [] = 32 ∷ 46 ∷ []
-row_line (byte ∷ bytes) = 32 ∷ byte ∷ bytes
+row_line [] = space ∷ dot ∷ []
+row_line (byte ∷ bytes) = space ∷ byte ∷ bytes
 
--- an extended description, which is read again from its lines as they stand in a file
+-- a line that isn't empty: it isn't blank and doesn't end in whitespace, and where it begins without a blank it isn't a dot
+pub record IsTextLine (line : List ℕ) : Type 0 where
+  pub solid : is_blank line ≡ false
+  pub end : drop_back is_space line ≡ line
+  pub dot : is_indented line ≡ false → bytes_eq (trimmed line) (codes ".") ≡ false
+
+-- a line of an extended description
+abbrev pub IsExtendedLine : List ℕ → Type 0
+IsExtendedLine [] = Unit {0}
+IsExtendedLine (byte ∷ bytes) = IsTextLine (byte ∷ bytes)
+
+-- a line that isn't empty and begins without a blank would be joined to one like it
+abbrev pub flows_on : List ℕ → Bool
+flows_on [] = false
+flows_on (byte ∷ bytes) = not (is_indented (byte ∷ bytes))
+
+-- no such lines stand next to each other
+abbrev pub NoneFlowTogether : List (List ℕ) → Type 0
+NoneFlowTogether [] = Unit {0}
+NoneFlowTogether (line ∷ []) = Unit {0}
+NoneFlowTogether (line ∷ next ∷ lines) = ((flows_on line && flows_on next) ≡ false) × NoneFlowTogether (next ∷ lines)
+
+-- an extended description
 pub record IsExtendedText (text : List ℕ) : Type 0 where
-  pub solid : list_all (λ line. not (is_blank (row_line line))) (text_lines text) ≡ true
-  pub again : flowed (each (λ line. row_of (row_line line)) (text_lines text)) ≡ text
+  pub lines : AllByRecursion IsExtendedLine (lines_between_newlines text)
+  pub apart : NoneFlowTogether (lines_between_newlines text)
+
+-- what is made of the lines of an extended description as they stand in a file
+abbrev pub read_from_rows : List ℕ → List ℕ
+read_from_rows text = flowed (each (λ line. row_of (row_line line)) (lines_between_newlines text))
 
 -- a field of a template, among all its fields: an extended description stands beside its description, and any other
 -- field is a line

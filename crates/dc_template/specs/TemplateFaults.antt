@@ -1,6 +1,6 @@
 -- Which fault a line of a template file has where it stands.
 use Rattle.std.specs.Prelude.{◌≡◌, ℕ, Bool, true, false, not, ◌&&◌, ◌||◌, List, [], ◌∷◌, Option, Some, None, is_none, if◌then◌else◌}
-use Rattle.std.specs.List.{list_any, list_all, filter_map}
+use Rattle.std.specs.List.{list_any, list_all, filter_map, before_first, after_last}
 use Rattle.std.specs.Str.{bytes_eq}
 use Rattle.dc_text.specs.Bytes.{is_nil}
 use Rattle.dc_template.specs.Kinds.{kind_of}
@@ -19,13 +19,11 @@ is_blank_form _ = false
 
 -- the lines since the last blank one
 abbrev pub since_blank : List Form → List Form
-since_blank [] = []
-since_blank (line ∷ lines) = if list_any is_blank_form (line ∷ lines) then since_blank lines else line ∷ lines
+since_blank lines = after_last is_blank_form lines
 
 -- the lines before the first blank one
 abbrev pub until_blank : List Form → List Form
-until_blank [] = []
-until_blank (line ∷ lines) = if is_blank_form line then [] else line ∷ until_blank lines
+until_blank lines = before_first is_blank_form lines
 
 -- no line of the stanza comes before
 abbrev pub begins_stanza : List Form → Bool

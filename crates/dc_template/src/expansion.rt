@@ -1,6 +1,6 @@
 // Variables in the text of a field.
 ghost use Rattle.std.specs.Prelude.{◌≡◌, ◌∷◌, ◌++◌, [], OnOk, IfOk, false};
-ghost use Rattle.dc_template.specs.Expansion.{opens as opens_of, closes, value_of, expanded};
+ghost use Rattle.dc_template.specs.Expansion.{opens as opens_of, closes, variable_or_nothing, expanded};
 
 use dc_text::bytes::split_at_byte;
 use dc_text::{Mem, Settled, SmallMap, Text};
@@ -43,7 +43,7 @@ fn append_expanded(out: &mut Text, front: &[u8], variables: &SmallMap<Settled>) 
 
 // Appends the value of a variable, where it is set.
 fn append_value(out: &mut Text, key: &[u8], variables: &SmallMap<Settled>) -> Mem<()>
-    ensures { OnOk result (out.new ≡ out.old ++ value_of variables.now key.now) }
+    ensures { OnOk result (out.new ≡ out.old ++ variable_or_nothing variables.now key.now) }
 {
     match variables.get(key) {
         Some(value) => out.append(value.bytes()),

@@ -27,7 +27,7 @@ pub enum TemplateKind {
 #[derive(Clone, Copy, Debug, PartialEq, Eq, Error)]
 pub enum TemplateError {
     /// The first line with a fault, counted from 1.
-    #[error("bad template, line {line}")]
+    #[error("a bad template")]
     Bad { line: u64, kind: TemplateKind },
     #[error("out of memory")]
     OutOfMemory,

@@ -1,12 +1,13 @@
 // The keys under which a field is looked for in the user's language.
 ghost use Rattle.std.specs.Prelude.{◌≡◌, ◌++◌, ◌∷◌, ◌||◌, ◌==◌, [], map, position, IfOk, OnOk, true};
 ghost use Rattle.std.specs.List.{list_all, filter, flat_map, before_first};
+ghost use Rattle.dc_text.specs.Ascii.{dash, dot, at_sign};
 ghost use Rattle.dc_text.specs.Bytes.{lower};
 ghost use Rattle.dc_text.specs.Names.{is_field_key};
-ghost use Rattle.dc_template.specs.Languages.{is_language as is_language_of, is_language_byte as is_language_byte_of, localised, with_shorter, is_short, keys_tried_of};
+ghost use Rattle.dc_template.specs.Languages.{is_language as is_language_of, is_language_byte as is_language_byte_of, localised_keys, with_shorter, is_short, keys_tried_of};
 
 use dc_text::bytes::{lowered, split_at_byte};
-use dc_text::{FieldKey, List, Mem, NameRefused, OutOfMemory, Text};
+use dc_text::{FieldKey, List, Mem, Text};
 use std::alloc::Global;
 
 /// The keys under which a field is looked for in a language such as `de_AT.UTF-8`, in order: those in the language, then
@@ -18,7 +19,7 @@ pub fn keys_tried(alloc: Global, lang: &[u8], key: &FieldKey) -> Mem<List<FieldK
     let mut keys = List::new(alloc);
     let language = lowered(alloc, without_encoding(lang))?;
     if is_language(language.bytes()) {
-        add_languages(alloc, &mut keys, key, language.bytes())?;
+        add_languages(&mut keys, key, language.bytes())?;
     }
     keys.push(key.copy()?)?;
     Ok(keys)
@@ -26,7 +27,7 @@ pub fn keys_tried(alloc: Global, lang: &[u8], key: &FieldKey) -> Mem<List<FieldK
 
 // What stands before the first `.` or `@`.
 fn without_encoding(lang: &[u8]) -> &[u8]
-    ensures { result.now ≡ before_first (λ byte. byte == 46 || byte == 64) lang.now }
+    ensures { result.now ≡ before_first (λ byte. byte == dot || byte == at_sign) lang.now }
 {
     match place_of_encoding(lang) {
         Some(at) => &lang[..at],
@@ -35,7 +36,7 @@ fn without_encoding(lang: &[u8]) -> &[u8]
 }
 
 fn place_of_encoding(lang: &[u8]) -> Option<usize>
-    ensures { result ≡ position (λ byte. byte == 46 || byte == 64) lang.now }
+    ensures { result ≡ position (λ byte. byte == dot || byte == at_sign) lang.now }
 {
     lang.iter().position(|byte| *byte == b'.' || *byte == b'@')
 }
@@ -60,41 +61,31 @@ fn is_language_byte(byte: u8) -> bool
 }
 
 // Adds the keys in a language, and those in the language before its first underscore.
-fn add_languages(
-    alloc: Global,
-    keys: &mut List<FieldKey>,
-    key: &FieldKey,
-    language: &[u8],
-) -> Mem<()>
+fn add_languages(keys: &mut List<FieldKey>, key: &FieldKey, language: &[u8]) -> Mem<()>
     requires { list_all is_language_byte_of language.now ≡ true }
-    ensures { OnOk result (keys.new ≡ keys.old ++ filter is_short (flat_map (localised key.now) (with_shorter language.now))) }
+    ensures { OnOk result (keys.new ≡ keys.old ++ filter is_short (flat_map (localised_keys key.now) (with_shorter language.now))) }
 {
-    add_localised(alloc, keys, key, language)?;
+    add_localised(keys, key, language)?;
     if let Some((shorter, _)) = split_at_byte(language, b'_') {
-        add_localised(alloc, keys, key, shorter)?;
+        add_localised(keys, key, shorter)?;
     }
     Ok(())
 }
 
 // Adds the keys in a language.
-fn add_localised(
-    alloc: Global,
-    keys: &mut List<FieldKey>,
-    key: &FieldKey,
-    language: &[u8],
-) -> Mem<()>
+fn add_localised(keys: &mut List<FieldKey>, key: &FieldKey, language: &[u8]) -> Mem<()>
     requires { list_all is_language_byte_of language.now ≡ true }
-    ensures { OnOk result (keys.new ≡ keys.old ++ filter is_short (localised key.now language.now)) }
+    ensures { OnOk result (keys.new ≡ keys.old ++ filter is_short (localised_keys key.now language.now)) }
 {
     let plain = localised_bytes(key, language, b"")?;
     let encoded = localised_bytes(key, language, b".utf-8")?;
-    add_key(alloc, keys, encoded.bytes())?;
-    add_key(alloc, keys, plain.bytes())
+    add_key(keys, encoded)?;
+    add_key(keys, plain)
 }
 
 // The bytes of a key in a language, which may be too many.
 fn localised_bytes(key: &FieldKey, language: &[u8], encoding: &[u8]) -> Mem<Text>
-    ensures value { IfOk result (λ bytes. bytes ≡ key.now ++ 45 ∷ language.now ++ encoding.now) }
+    ensures value { IfOk result (λ bytes. bytes ≡ key.now ++ dash ∷ language.now ++ encoding.now) }
     ensures key { OnOk result (is_field_key key.now ≡ true) }
 {
     let mut bytes = key.copy()?.into_text();
@@ -105,14 +96,12 @@ fn localised_bytes(key: &FieldKey, language: &[u8], encoding: &[u8]) -> Mem<Text
 }
 
 // Adds a key, unless it is too long.
-fn add_key(alloc: Global, keys: &mut List<FieldKey>, bytes: &[u8]) -> Mem<()>
-    requires lower { map lower bytes.now ≡ bytes.now }
-    requires key { is_field_key bytes.now ≡ is_short bytes.now }
-    ensures { OnOk result (keys.new ≡ keys.old ++ filter is_short (bytes.now ∷ [])) }
+fn add_key(keys: &mut List<FieldKey>, text: Text) -> Mem<()>
+    requires { is_field_key text ≡ is_short text }
+    ensures { OnOk result (keys.new ≡ keys.old ++ filter is_short (text ∷ [])) }
 {
-    match FieldKey::read(alloc, bytes) {
-        Ok(key) => keys.push(key),
-        Err(NameRefused::Bad) => Ok(()),
-        Err(NameRefused::OutOfMemory) => Err(OutOfMemory),
+    match FieldKey::from_text(text) {
+        Some(key) => keys.push(key),
+        None => Ok(()),
     }
 }

@@ -1,11 +1,12 @@
 //! Laws of the definitions, which show that they mean what they say.
 ghost use Rattle.std.specs.Prelude.{◌≡◌, ◌∷◌, ◌++◌, ◌&&◌, ◌==◌, ◌⊎◌, [], List, ℕ, Some, true, false};
 ghost use Rattle.std.specs.List.{AllByRecursion};
-ghost use Rattle.dc_text.specs.Maps.{Texts};
+ghost use Rattle.dc_text.specs.Ascii.{dollar_sign, backslash, opening_brace, closing_brace};
+ghost use Rattle.dc_text.specs.Maps.{AreDistinct, Texts};
 ghost use Rattle.dc_template.specs.Kinds.{kind_of, kind_word};
-ghost use Rattle.dc_template.specs.Expansion.{opens, closes, value_of, expanded};
-ghost use Rattle.dc_template.specs.Printed.{canon, names, AreApart};
-ghost use Rattle.dc_template.specs.Stanzas.{Stanza, IsTemplate};
+ghost use Rattle.dc_template.specs.Expansion.{opens, closes, variable_or_nothing, expanded};
+ghost use Rattle.dc_template.specs.Printed.{canon, names};
+ghost use Rattle.dc_template.specs.Stanzas.{Stanza, IsTemplate, IsExtendedText, read_from_rows};
 ghost use Rattle.dc_template.specs.Reading.{Reads, IsBad};
 ghost use Rattle.dc_template.specs.declared.faults.TemplateKind.{TemplateKind};
 ghost use Rattle.dc_template.specs.declared.kinds.Kind.{Kind};
@@ -20,7 +21,12 @@ pub fn texts_have_one_answer()
 
 /// What is printed of templates with names of their own is read again as the same templates.
 pub fn printed_templates_are_read()
-    ensures { (templates : List Stanza) → AllByRecursion IsTemplate templates → AreApart (names templates) → Reads (canon templates) templates }
+    ensures { (templates : List Stanza) → AllByRecursion IsTemplate templates → AreDistinct (names templates) → Reads (canon templates) templates }
+{}
+
+/// An extended description is read again from its lines as they stand in a file.
+pub fn extended_texts_are_read_again()
+    ensures { (text : List ℕ) → IsExtendedText text → read_from_rows text ≡ text }
 {}
 
 /// Each kind has a word of its own, and a word with a kind is that kind's.
@@ -33,10 +39,10 @@ pub fn kinds_have_words()
 /// without a `}` by itself, and any other byte by itself.
 pub fn references_are_replaced()
     ensures variable { (variables : Texts (List ℕ)) (key rest : List ℕ) → closes key ≡ false
-        → expanded variables (36 ∷ 123 ∷ key ++ 125 ∷ rest) ≡ value_of variables key ++ expanded variables rest }
+        → expanded variables (dollar_sign ∷ opening_brace ∷ key ++ closing_brace ∷ rest) ≡ variable_or_nothing variables key ++ expanded variables rest }
     ensures quoted { (variables : Texts (List ℕ)) (key rest : List ℕ) → closes key ≡ false
-        → expanded variables (92 ∷ 36 ∷ 123 ∷ key ++ 125 ∷ rest) ≡ 36 ∷ 123 ∷ key ++ 125 ∷ expanded variables rest }
+        → expanded variables (backslash ∷ dollar_sign ∷ opening_brace ∷ key ++ closing_brace ∷ rest) ≡ dollar_sign ∷ opening_brace ∷ key ++ closing_brace ∷ expanded variables rest }
     ensures unclosed { (variables : Texts (List ℕ)) (text : List ℕ) → closes text ≡ false → expanded variables text ≡ text }
-    ensures other { (variables : Texts (List ℕ)) (byte : ℕ) (rest : List ℕ) → opens (byte ∷ rest) ≡ false → (byte == 92 && opens rest) ≡ false
+    ensures other { (variables : Texts (List ℕ)) (byte : ℕ) (rest : List ℕ) → opens (byte ∷ rest) ≡ false → (byte == backslash && opens rest) ≡ false
         → expanded variables (byte ∷ rest) ≡ byte ∷ expanded variables rest }
 {}

@@ -2,8 +2,10 @@
 ghost use Rattle.std.specs.Prelude.{◌≡◌, ◌∷◌, ◌++◌, [], IfOk, OnOk, map as each};
 ghost use Rattle.std.specs.List.{flat_map};
 ghost use Rattle.std.specs.FinMap as map;
-ghost use Rattle.dc_template.specs.Stanzas.{IsTemplate, field_map as field_map_of, row_line, text_lines};
-ghost use Rattle.dc_template.specs.Printed.{canon, text_of, template_lines, field_lines, field_line, extended_lines, capital, upper as upper_of, names, AreApart};
+ghost use Rattle.dc_text.specs.Lines.{text_of};
+ghost use Rattle.dc_text.specs.Maps.{AreDistinct};
+ghost use Rattle.dc_template.specs.Stanzas.{IsTemplate, field_map as field_map_of, row_line, lines_between_newlines};
+ghost use Rattle.dc_template.specs.Printed.{canon, template_lines, field_lines, field_line, extended_lines, names};
 ghost use Rattle.dc_template.specs.Reading.{Reads};
 
 use crate::checking::is_type;
@@ -17,7 +19,7 @@ use std::alloc::Global;
 /// The templates as a file, for distinct names: `read_templates` reads the same templates from it.
 pub fn print_templates(alloc: Global, list: &List<Template>) -> Mem<Text>
     ensures printed { IfOk result (λ text. text ≡ canon list.now) }
-    ensures again { IfOk result (λ text. AreApart (names list.now) → Reads text list.now) }
+    ensures again { IfOk result (λ text. AreDistinct (names list.now) → Reads text list.now) }
 {
     let mut out = Text::new(alloc);
     for template in list.as_slice() {
@@ -90,7 +92,7 @@ fn print_field(
 fn print_field_line(out: &mut Text, key: &[u8], value: &[u8]) -> Mem<()>
     ensures { OnOk result (out.new ≡ out.old ++ text_of (field_line key.now value.now ∷ [])) }
 {
-    print_capital(out, key)?;
+    out.append_capital(key)?;
     out.push(b':')?;
     if !value.is_empty() {
         out.push(b' ')?;
@@ -99,31 +101,9 @@ fn print_field_line(out: &mut Text, key: &[u8], value: &[u8]) -> Mem<()>
     out.push(b'\n')
 }
 
-fn print_capital(out: &mut Text, key: &[u8]) -> Mem<()>
-    ensures { OnOk result (out.new ≡ out.old ++ capital key.now) }
-{
-    match key {
-        [] => Ok(()),
-        [first, rest @ ..] => {
-            out.push(upper(*first))?;
-            out.append(rest)
-        }
-    }
-}
-
-fn upper(byte: u8) -> u8
-    ensures { result ≡ upper_of byte }
-{
-    if b'a' <= byte && byte <= b'z' {
-        byte - 32
-    } else {
-        byte
-    }
-}
-
 // Prints an extended description as indented lines.
 fn print_rows(out: &mut Text, text: &[u8]) -> Mem<()>
-    ensures { OnOk result (out.new ≡ out.old ++ text_of (each row_line (text_lines text.now))) }
+    ensures { OnOk result (out.new ≡ out.old ++ text_of (each row_line (lines_between_newlines text.now))) }
 {
     let mut rest = text;
     while let Some((line, after)) = split_at_byte(rest, b'\n') {

@@ -1,10 +1,12 @@
 // The templates of a file.
-ghost use Rattle.std.specs.Prelude.{◌≡◌, true, IfOk, MatchOption, OnOk, [], ◌∷◌, ◌++◌, ◌<◌, length, List as Listed, map as each};
+ghost use Rattle.std.specs.Prelude.{◌≡◌, true, false, IfOk, MatchOption, OnOk, [], ◌∷◌, ◌++◌, ◌<◌, length, List as Listed, map as each};
 ghost use Rattle.std.specs.List.{AllByRecursion};
 ghost use Rattle.std.specs.FinMap as map;
 ghost use Rattle.dc_text.specs.Names.{is_field_key};
 ghost use Rattle.dc_template.specs.Forms.{forms};
-ghost use Rattle.dc_template.specs.TemplateFaults.{until_blank};
+ghost use Rattle.dc_template.specs.Kinds.{kind_of};
+ghost use Rattle.dc_template.specs.TemplateFaults.{until_blank, sets_type};
+ghost use Rattle.dc_template.specs.declared.forms.Form.{Form as FormOf};
 ghost use Rattle.dc_template.specs.Stanzas.{stanza, IsTemplate, kind_in as kind_in_of, fields_in, fields_at, extended_key as extended_key_of, extended_text as extended_text_of, rows_first, shown as shown_of, parting as parting_of};
 ghost use Rattle.dc_template.specs.Reading.{IsAnswer, AreSound, template_at, templates_in};
 
@@ -65,18 +67,25 @@ fn kind_in(lines: &[Line]) -> Option<Kind>
 {
     let mut rest = lines;
     while let [line, tail @ ..] = rest {
-        match &line.form {
-            Form::Blank => return None,
-            Form::Sets(key, value) => {
-                if is_type(key) {
-                    return Kind::read(value.bytes());
-                }
-            }
-            _ => {}
+        if is_blank(&line.form) {
+            return None;
+        }
+        if let Some(word) = type_set(&line.form) {
+            return Kind::read(word.bytes());
         }
         rest = tail;
     }
     None
+}
+
+// The word of a line that sets the type.
+fn type_set(form: &Form) -> Option<&Text>
+    ensures { MatchOption result (sets_type form.now ≡ false) (λ word. (lines : Listed FormOf) → kind_in_of (form.now ∷ lines) ≡ kind_of word.now) }
+{
+    match form {
+        Form::Sets(key, value) => { if is_type(key) { Some(value) } else { None } }
+        _ => None,
+    }
 }
 
 fn read_template(alloc: Global, name: &Name, kind: Kind, after: &[Line]) -> Mem<Template>
@@ -201,18 +210,7 @@ fn listed(alloc: Global, fields: &TextMap<Text>) -> Mem<List<(FieldKey, Text)>>
 {
     let mut list = List::new(alloc);
     for (key, value) in fields.iter() {
-        list.push((field_key(alloc, key)?, value.copy()?))?;
+        list.push((FieldKey::known(alloc, key)?, value.copy()?))?;
     }
     Ok(list)
-}
-
-fn field_key(alloc: Global, bytes: &[u8]) -> Mem<FieldKey>
-    requires { is_field_key bytes.now ≡ true }
-    ensures { IfOk result (λ key. key ≡ bytes.now) }
-{
-    match FieldKey::read(alloc, bytes) {
-        Ok(key) => Ok(key),
-        Err(NameRefused::OutOfMemory) => Err(OutOfMemory),
-        Err(NameRefused::Bad) => unreachable!(),
-    }
 }

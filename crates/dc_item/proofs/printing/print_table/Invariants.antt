@@ -1,7 +1,8 @@
 use Rattle.std.proofs.Common.{◌≡◌, ◌++◌}
 use Rattle.std.specs.List.{flat_map}
 use Rattle.dc_text.proofs.MapLemmas.{seen}
-use Rattle.dc_item.specs.Printed.{text_of, record_lines, table_text}
+use Rattle.dc_text.specs.Lines.{text_of}
+use Rattle.dc_item.specs.Printed.{record_lines, table_text}
 use Rattle.dc_item.proofs.printing.print_table.Given as goal
 
 abbrev pub invariant-loop-name : goal.invariant-loop-name

@@ -1,7 +1,7 @@
 use Rattle.std.proofs.Common.{◌∷◌, ◌++◌, ◌-◌, ◌<◌, [], length, take, drop, sym, ap, ◌∙◌, arith}
 use Rattle.std.proofs.lemmas.Result.{on_ok_weaker}
 use Rattle.dc_text.proofs.LineLemmas.{head_apart}
-use Rattle.dc_template.specs.Expansion.{value_of}
+use Rattle.dc_template.specs.Expansion.{variable_or_nothing}
 use Rattle.dc_template.proofs.ExpansionLemmas.{variable_end, quoted_end, empty_end, behind_is}
 use Rattle.dc_template.proofs.expansion.append_expanded.Goals as goal
 use Rattle.dc_template.proofs.expansion.append_expanded.Goals.{in_default, in-len1-up+else-opens+then-first-eq92+then-opens-2+in_ok-append}
@@ -10,7 +10,7 @@ pub returns-then-opens : goal.returns-then-opens
 returns-then-opens c =
     let opened = sym c.opens.ensures ∙ c.if-opens.true in
     on_ok_weaker c.append_value.result
-    (λ e. e ∙ ap (λ k. c.loop-rest.out ++ value_of c.args.variables.now k) (sym (behind_is c.loop-rest.rest.now opened))
+    (λ e. e ∙ ap (λ k. c.loop-rest.out ++ variable_or_nothing c.args.variables.now k) (sym (behind_is c.loop-rest.rest.now opened))
     ∙ variable_end c.args.variables.now c.loop-rest.rest.now c.loop-rest.out _ opened c.loop-rest.invariant.closed c.loop-rest.invariant.so_far)
     c.append_value.ensures
 

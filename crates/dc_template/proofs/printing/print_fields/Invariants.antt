@@ -1,6 +1,7 @@
 use Rattle.std.proofs.Common.{◌≡◌, ◌++◌, drop}
 use Rattle.std.specs.List.{flat_map}
-use Rattle.dc_template.specs.Printed.{text_of, field_lines}
+use Rattle.dc_text.specs.Lines.{text_of}
+use Rattle.dc_template.specs.Printed.{field_lines}
 use Rattle.dc_template.proofs.printing.print_fields.Given as goal
 
 abbrev pub invariant-loop-key : goal.invariant-loop-key

@@ -1,6 +1,6 @@
 use Rattle.std.proofs.Common.{ap, ◌∙◌}
 use Rattle.dc_text.specs.Maps.{set_of}
-use Rattle.dc_item.specs.Item.{Parts}
+use Rattle.dc_item.specs.Item.{ItemParts}
 use Rattle.dc_item.proofs.ItemLemmas.{with_owners, set_of-is_keys}
 use Rattle.dc_item.proofs.item.Item.put_owners.Goals as goal
 
@@ -10,6 +10,6 @@ invariant_of-self c = with_owners c.self.inside.fields c.self.inside.variables c
 
 pub returns-clause-ok : goal.returns-clause-ok
 returns-clause-ok c =
-    let parts : Parts = record { fields = c.self.inside.fields; flags = c.self.inside.flags; variables = c.self.inside.variables; owners = set_of c.self.inside.owners } in
+    let parts : ItemParts = record { fields = c.self.inside.fields; flags = c.self.inside.flags; variables = c.self.inside.variables; owners = set_of c.self.inside.owners } in
     ap (λ os. record parts { owners = os }) (set_of-is_keys c.in_ok-self-inside.field-0 (set_of c.args.owners.now) c.in_ok-self-inside.ensures.value)
-    ∙ ap (λ (p : Parts). record p { owners = set_of c.args.owners.now }) c.self.view_is
+    ∙ ap (λ (p : ItemParts). record p { owners = set_of c.args.owners.now }) c.self.view_is

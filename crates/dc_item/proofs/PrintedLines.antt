@@ -14,50 +14,50 @@ use Rattle.std.specs.FinMap.Entries.{is_sorted, below_all}
 use Rattle.dc_text.specs.Bytes.{is_nil}
 use Rattle.dc_text.specs.Faults.{AllStand}
 use Rattle.dc_text.proofs.FaultLemmas.{not_in_nil, snoc_apart}
-use Rattle.dc_text.specs.Maps.{Texts, set_of}
+use Rattle.dc_text.specs.Maps.{AreDistinct, Texts, set_of}
 use Rattle.dc_text.proofs.MapLemmas.{from_entries-entries}
-use Rattle.dc_item.specs.Records.{until_blank, since_blank, name_in, field_in, variable_in, owners_in, flags_in, item_of, parts_in, record_at, records_of, Stands, LineStands, IsNew, IsNewName, EndsInVariables, slot_of, Slot, OfName, OfOwners, OfFlags, OfVariables, OfVariable, OfField}
-use Rattle.dc_item.specs.Table.{Apart, contents}
-use Rattle.dc_item.proofs.Groups.{Line, parts_in-append, IsFurther, since_blank-blank, since_blank-push, until_blank-body}
+use Rattle.dc_item.specs.Records.{until_blank, since_blank, name_in, field_in, variable_in, owners_in, flags_in, item_of, lines_said, record_at, records_of, Stands, LineStands, IsNew, IsNewName, EndsInVariables, slot_of, Slot, OfName, OfOwners, OfFlags, OfVariables, OfVariable, OfField}
+use Rattle.dc_item.specs.Table.{contents}
+use Rattle.dc_item.proofs.Groups.{Line, lines_said-append, IsFurther, since_blank-blank, since_blank-push, until_blank-body}
 use Rattle.dc_item.proofs.OpenRecord.{FitsGroup, IsNew-push, ends_to}
-use Rattle.dc_item.specs.declared.part.Part.{Part}
-use Rattle.dc_item.specs.declared.part.Part.TheVariants.{Blank, Name, Owners, Flags, Variables, Variable, Field, Nothing}
-use Rattle.dc_item.specs.Item.{Parts}
+use Rattle.dc_item.specs.declared.record_line.RecordLine.{RecordLine}
+use Rattle.dc_item.specs.declared.record_line.RecordLine.TheVariants.{Blank, Name, Owners, Flags, Variables, Variable, Field, Nothing}
+use Rattle.dc_item.specs.Item.{ItemParts}
 use Rattle.dc_item.specs.declared.entry.Entry.{Entry}
 
 -- ---- the parts of a record
 
-abbrev pub field_part : List ℕ × List ℕ → Part
+abbrev pub field_part : List ℕ × List ℕ → RecordLine
 field_part e = Field e.0 e.1
 
-abbrev pub variable_part : List ℕ × List ℕ → Part
+abbrev pub variable_part : List ℕ × List ℕ → RecordLine
 variable_part e = Variable e.0 e.1
 
-abbrev pub owners_part : List (List ℕ) → List Part
+abbrev pub owners_part : List (List ℕ) → List RecordLine
 owners_part names = cond (is_nil names) [] (Owners names ∷ [])
 
-abbrev pub flags_part : List (List ℕ) → List Part
+abbrev pub flags_part : List (List ℕ) → List RecordLine
 flags_part names = cond (is_nil names) [] (Flags names ∷ [])
 
-abbrev pub variables_part : List (List ℕ × List ℕ) → List Part
+abbrev pub variables_part : List (List ℕ × List ℕ) → List RecordLine
 variables_part es = cond (is_nil es) [] (Variables ∷ map variable_part es)
 
-abbrev pub body_of : Parts → List Part
+abbrev pub body_of : ItemParts → List RecordLine
 body_of i = ((map field_part (entries i.fields) ++ owners_part (fin.keys i.owners)) ++ flags_part (fin.keys i.flags)) ++ variables_part (entries i.variables)
 
-abbrev pub parts_of : Entry → List Part
+abbrev pub parts_of : Entry → List RecordLine
 parts_of e = (Name e.name ∷ body_of e.item) ++ Blank ∷ []
 
 -- ---- each line stands
 
 -- each part stands after those before it
-abbrev pub PartsStand : List Part → Type 0
-PartsStand parts = (before after : List Part) (p : Part) → parts ≡ before ++ p ∷ after → Stands before p
+abbrev pub PartsStand : List RecordLine → Type 0
+PartsStand parts = (before after : List RecordLine) (p : RecordLine) → parts ≡ before ++ p ∷ after → Stands before p
 
 pub PartsStand-nil : PartsStand []
 PartsStand-nil before after p e = absurd (not_in_nil before after p e)
 
-PartsStand-push : (ps : List Part) (p : Part) → PartsStand ps → Stands ps p → PartsStand (ps ++ p ∷ [])
+PartsStand-push : (ps : List RecordLine) (p : RecordLine) → PartsStand ps → Stands ps p → PartsStand (ps ++ p ∷ [])
 PartsStand-push ps p all here before after q e =
     elim (snoc_apart ps before after p q e) as (λ _. Stands before q) [
       | inl f ↦ subst (λ b. Stands b q) (sym f.0) (subst (λ x. Stands ps x) (sym f.1) here)
@@ -65,14 +65,14 @@ PartsStand-push ps p all here before after q e =
     ]
 
 -- lines of such parts stand, whatever their numbers
-pub lines_stand : (ls : List Line) → PartsStand (parts_in ls) → AllStand LineStands ls
-lines_stand ls all before after line e = all (parts_in before) (parts_in after) line.1 (ap parts_in e ∙ parts_in-append before (line ∷ after))
+pub lines_stand : (ls : List Line) → PartsStand (lines_said ls) → AllStand LineStands ls
+lines_stand ls all before after line e = all (lines_said before) (lines_said after) line.1 (ap lines_said e ∙ lines_said-append before (line ∷ after))
 
-abbrev pub FitAll : List Part → List Part → Type 0
+abbrev pub FitAll : List RecordLine → List RecordLine → Type 0
 FitAll g [] = Unit {0}
 FitAll g (p ∷ ps) = IsFurther p × FitsGroup g p × FitAll (g ++ p ∷ []) ps
 
-stands_from : (before : List Part) (p : Part) → since_blank before ≢ [] → FitsGroup (since_blank before) p → Stands before p
+stands_from : (before : List RecordLine) (p : RecordLine) → since_blank before ≢ [] → FitsGroup (since_blank before) p → Stands before p
 stands_from before Blank some fits = tt
 stands_from before (Name name) some fits = absurd fits
 stands_from before (Owners names) some fits = (some, fits)
@@ -82,11 +82,11 @@ stands_from before (Variable key value) some fits = fits
 stands_from before (Field key value) some fits = (some, fits)
 stands_from before Nothing some fits = fits
 
-snoc_not_nil : (g : List Part) (p : Part) → g ++ p ∷ [] ≢ []
+snoc_not_nil : (g : List RecordLine) (p : RecordLine) → g ++ p ∷ [] ≢ []
 snoc_not_nil [] p e = cc
 snoc_not_nil (q ∷ g) p e = cc
 
-pub stand_all : (before g ps : List Part) → PartsStand before → since_blank before ≡ g → g ≢ [] → FitAll g ps → PartsStand (before ++ ps) × (since_blank (before ++ ps) ≡ g ++ ps)
+pub stand_all : (before g ps : List RecordLine) → PartsStand before → since_blank before ≡ g → g ≢ [] → FitAll g ps → PartsStand (before ++ ps) × (since_blank (before ++ ps) ≡ g ++ ps)
 stand_all before g [] all is some fits = (subst PartsStand (sym (append-nil before)) all, ap since_blank (append-nil before) ∙ is ∙ sym (append-nil g))
 stand_all before g (p ∷ ps) all is some fits =
     let here : Stands before p = stands_from before p (λ n. some (sym is ∙ n)) (subst (λ h. FitsGroup h p) (sym is) fits.1) in
@@ -98,23 +98,23 @@ stand_all before g (p ∷ ps) all is some fits =
     )
 
 -- what fits after the first parts, and then after all
-FitAll-append : (g ps qs : List Part) → FitAll g ps → FitAll (g ++ ps) qs → FitAll g (ps ++ qs)
+FitAll-append : (g ps qs : List RecordLine) → FitAll g ps → FitAll (g ++ ps) qs → FitAll g (ps ++ qs)
 FitAll-append g [] qs a b = subst (λ h. FitAll h qs) (append-nil g) b
 FitAll-append g (p ∷ ps) qs a b = (a.0, a.1, FitAll-append (g ++ p ∷ []) ps qs a.2 (subst (λ h. FitAll h qs) (sym (append_assoc g (p ∷ []) ps)) b))
 
-IsNew-append : (g ps : List Part) (s : Slot) → IsNew g s → IsNew ps s → IsNew (g ++ ps) s
+IsNew-append : (g ps : List RecordLine) (s : Slot) → IsNew g s → IsNew ps s → IsNew (g ++ ps) s
 IsNew-append [] ps s a b = b
 IsNew-append (q ∷ g) ps s a b = (a.0, IsNew-append g ps s a.1 b)
 
-none_of_map : (f : List ℕ × List ℕ → Part) (s : Slot) → ((e : List ℕ × List ℕ) → slot_of (f e) ≢ s) → (es : List (List ℕ × List ℕ)) → IsNew (map f es) s
+none_of_map : (f : List ℕ × List ℕ → RecordLine) (s : Slot) → ((e : List ℕ × List ℕ) → slot_of (f e) ≢ s) → (es : List (List ℕ × List ℕ)) → IsNew (map f es) s
 none_of_map f s d [] = tt
 none_of_map f s d (e ∷ es) = (d e, none_of_map f s d es)
 
 -- distinct fields fit, one after another
-abbrev AllNew : List Part → (List ℕ → Slot) → List (List ℕ) → Type 0
+abbrev AllNew : List RecordLine → (List ℕ → Slot) → List (List ℕ) → Type 0
 AllNew g mk ks = AllByRecursion (λ k. IsNew g (mk k)) ks
 
-all_new_push : (g : List Part) (p : Part) (mk : List ℕ → Slot) (ks : List (List ℕ)) → AllNew g mk ks → AllByRecursion (λ l. slot_of p ≢ mk l) ks → AllNew (g ++ p ∷ []) mk ks
+all_new_push : (g : List RecordLine) (p : RecordLine) (mk : List ℕ → Slot) (ks : List (List ℕ)) → AllNew g mk ks → AllByRecursion (λ l. slot_of p ≢ mk l) ks → AllNew (g ++ p ∷ []) mk ks
 all_new_push g p mk [] a d = tt
 all_new_push g p mk (k ∷ ks) a d = (IsNew-push g p (mk k) a.0 d.0, all_new_push g p mk ks a.1 d.1)
 
@@ -125,7 +125,7 @@ other_slots mk inj k (l ∷ ks) d = ((λ e. d.0 (sym (inj k l e))), other_slots 
 abbrev keys_in : {X : Type 0} → List (List ℕ × X) → List (List ℕ)
 keys_in {X} es = map (λ (e : List ℕ × X). e.0) es
 
-fields_fit : (g : List Part) (es : List (List ℕ × List ℕ)) → AllNew g OfField (keys_in es) → Apart (keys_in es) → FitAll g (map field_part es)
+fields_fit : (g : List RecordLine) (es : List (List ℕ × List ℕ)) → AllNew g OfField (keys_in es) → AreDistinct (keys_in es) → FitAll g (map field_part es)
 fields_fit g [] new apart = tt
 fields_fit g (e ∷ es) new apart = (
   record { unblank = refl; nameless = refl },
@@ -133,7 +133,7 @@ fields_fit g (e ∷ es) new apart = (
   fields_fit (g ++ field_part e ∷ []) es (all_new_push g (field_part e) OfField (keys_in es) new.1 (other_slots OfField (λ j k e. cc) e.0 (keys_in es) apart.0)) apart.1,
 )
 
-variables_fit : (g : List Part) (es : List (List ℕ × List ℕ)) → EndsInVariables g → AllNew g OfVariable (keys_in es) → Apart (keys_in es) → FitAll g (map variable_part es)
+variables_fit : (g : List RecordLine) (es : List (List ℕ × List ℕ)) → EndsInVariables g → AllNew g OfVariable (keys_in es) → AreDistinct (keys_in es) → FitAll g (map variable_part es)
 variables_fit g [] ends new apart = tt
 variables_fit g (e ∷ es) ends new apart = (
   record { unblank = refl; nameless = refl },
@@ -142,15 +142,15 @@ variables_fit g (e ∷ es) ends new apart = (
       (all_new_push g (variable_part e) OfVariable (keys_in es) new.1 (other_slots OfVariable (λ j k e. cc) e.0 (keys_in es) apart.0)) apart.1,
 )
 
-all_new_from : (g : List Part) (mk : List ℕ → Slot) → ((k : List ℕ) → IsNew g (mk k)) → (ks : List (List ℕ)) → AllNew g mk ks
+all_new_from : (g : List RecordLine) (mk : List ℕ → Slot) → ((k : List ℕ) → IsNew g (mk k)) → (ks : List (List ℕ)) → AllNew g mk ks
 all_new_from g mk h [] = tt
 all_new_from g mk h (k ∷ ks) = (h k, all_new_from g mk h ks)
 
-owners_fit : (g : List Part) (names : List (List ℕ)) → IsNew g OfOwners → FitAll g (owners_part names)
+owners_fit : (g : List RecordLine) (names : List (List ℕ)) → IsNew g OfOwners → FitAll g (owners_part names)
 owners_fit g [] n = tt
 owners_fit g (k ∷ ks) n = (record { unblank = refl; nameless = refl }, n, tt)
 
-flags_fit : (g : List Part) (names : List (List ℕ)) → IsNew g OfFlags → FitAll g (flags_part names)
+flags_fit : (g : List RecordLine) (names : List (List ℕ)) → IsNew g OfFlags → FitAll g (flags_part names)
 flags_fit g [] n = tt
 flags_fit g (k ∷ ks) n = (record { unblank = refl; nameless = refl }, n, tt)
 
@@ -162,7 +162,7 @@ flags_new : (names : List (List ℕ)) (s : Slot) → OfFlags ≢ s → IsNew (fl
 flags_new [] s d = tt
 flags_new (k ∷ ks) s d = (d, tt)
 
-variables_part_fit : (g : List Part) (es : List (List ℕ × List ℕ)) → IsNew g OfVariables → ((k : List ℕ) → IsNew g (OfVariable k)) → Apart (keys_in es) → FitAll g (variables_part es)
+variables_part_fit : (g : List RecordLine) (es : List (List ℕ × List ℕ)) → IsNew g OfVariables → ((k : List ℕ) → IsNew g (OfVariable k)) → AreDistinct (keys_in es) → FitAll g (variables_part es)
 variables_part_fit g [] n h apart = tt
 variables_part_fit g (e ∷ es) n h apart = (
   record { unblank = refl; nameless = refl },
@@ -188,19 +188,19 @@ below_apart : {X : Type 0} (k : List ℕ) (es : List (List ℕ × X)) → T (bel
 below_apart k [] h = tt
 below_apart k (e ∷ es) h = (less_other k e.0 (first_of_and _ _ h), below_apart k es (second_of_and _ _ h))
 
-sorted_apart : {X : Type 0} (es : List (List ℕ × X)) → T (is_sorted (slice_cmp nat_cmp) es) → Apart (keys_in es)
+sorted_apart : {X : Type 0} (es : List (List ℕ × X)) → T (is_sorted (slice_cmp nat_cmp) es) → AreDistinct (keys_in es)
 sorted_apart [] h = tt
 sorted_apart (e ∷ es) h = (below_apart e.0 es (first_of_and _ _ h), sorted_apart es (second_of_and _ _ h))
 
-pub keys_apart : {X : Type 0} (m : Texts X) → Apart (keys_in (entries m))
+pub keys_apart : {X : Type 0} (m : Texts X) → AreDistinct (keys_in (entries m))
 keys_apart m = sorted_apart (entries m) (entries_sorted m)
 
-pub body_fits : (name : List ℕ) (i : Parts) → FitAll (Name name ∷ []) (body_of i)
+pub body_fits : (name : List ℕ) (i : ItemParts) → FitAll (Name name ∷ []) (body_of i)
 body_fits name i =
-    let g : List Part = Name name ∷ [] in
-    let f : List Part = map field_part (entries i.fields) in
-    let o : List Part = owners_part (fin.keys i.owners) in
-    let fl : List Part = flags_part (fin.keys i.flags) in
+    let g : List RecordLine = Name name ∷ [] in
+    let f : List RecordLine = map field_part (entries i.fields) in
+    let o : List RecordLine = owners_part (fin.keys i.owners) in
+    let fl : List RecordLine = flags_part (fin.keys i.flags) in
     let new_f : (s : Slot) → OfName ≢ s → ((k : List ℕ) → OfField k ≢ s) → IsNew (g ++ f) s = λ s d e. (d, none_of_map field_part s (λ x. e x.0) (entries i.fields)) in
     let new_o : (s : Slot) → OfName ≢ s → ((k : List ℕ) → OfField k ≢ s) → OfOwners ≢ s → IsNew (g ++ (f ++ o)) s
     = λ s d e u. subst (λ xs. IsNew xs s) (append_assoc g f o) (IsNew-append (g ++ f) o s (new_f s d e) (owners_new (fin.keys i.owners) s u)) in
@@ -217,37 +217,37 @@ body_fits name i =
 
 -- ---- the item is made again
 
-all_further : (g ps : List Part) → FitAll g ps → AllByRecursion IsFurther ps
+all_further : (g ps : List RecordLine) → FitAll g ps → AllByRecursion IsFurther ps
 all_further g [] f = tt
 all_further g (p ∷ ps) f = (f.0, all_further (g ++ p ∷ []) ps f.2)
 
-picked : (h : Part → Option (List ℕ × List ℕ)) (f : List ℕ × List ℕ → Part) → ((e : List ℕ × List ℕ) → h (f e) ≡ Some e) → (es : List (List ℕ × List ℕ)) → filter_map h (map f es) ≡ es
+picked : (h : RecordLine → Option (List ℕ × List ℕ)) (f : List ℕ × List ℕ → RecordLine) → ((e : List ℕ × List ℕ) → h (f e) ≡ Some e) → (es : List (List ℕ × List ℕ)) → filter_map h (map f es) ≡ es
 picked h f is [] = refl
 picked h f is (e ∷ es) = ap (λ o. cons_option o (filter_map h (map f es))) (is e) ∙ ap (λ xs. e ∷ xs) (picked h f is es)
 
-passed : (h : Part → Option (List ℕ × List ℕ)) (f : List ℕ × List ℕ → Part) → ((e : List ℕ × List ℕ) → h (f e) ≡ None) → (es : List (List ℕ × List ℕ)) → filter_map h (map f es) ≡ []
+passed : (h : RecordLine → Option (List ℕ × List ℕ)) (f : List ℕ × List ℕ → RecordLine) → ((e : List ℕ × List ℕ) → h (f e) ≡ None) → (es : List (List ℕ × List ℕ)) → filter_map h (map f es) ≡ []
 passed h f is [] = refl
 passed h f is (e ∷ es) = ap (λ o. cons_option o (filter_map h (map f es))) (is e) ∙ passed h f is es
 
-unlisted : (h : Part → List (List ℕ)) (f : List ℕ × List ℕ → Part) → ((e : List ℕ × List ℕ) → h (f e) ≡ []) → (es : List (List ℕ × List ℕ)) → flat_map h (map f es) ≡ []
+unlisted : (h : RecordLine → List (List ℕ)) (f : List ℕ × List ℕ → RecordLine) → ((e : List ℕ × List ℕ) → h (f e) ≡ []) → (es : List (List ℕ × List ℕ)) → flat_map h (map f es) ≡ []
 unlisted h f is [] = refl
 unlisted h f is (e ∷ es) = ap (λ o. o ++ flat_map h (map f es)) (is e) ∙ unlisted h f is es
 
 -- what four parts after another pick is what each picks
-pick_four : (h : Part → Option (List ℕ × List ℕ)) (a b c d : List Part) → filter_map h (((a ++ b) ++ c) ++ d) ≡ ((filter_map h a ++ filter_map h b) ++ filter_map h c) ++ filter_map h d
+pick_four : (h : RecordLine → Option (List ℕ × List ℕ)) (a b c d : List RecordLine) → filter_map h (((a ++ b) ++ c) ++ d) ≡ ((filter_map h a ++ filter_map h b) ++ filter_map h c) ++ filter_map h d
 pick_four h a b c d = filter_map-append h ((a ++ b) ++ c) d ∙ ap (λ xs. xs ++ filter_map h d) (filter_map-append h (a ++ b) c ∙ ap (λ xs. xs ++ filter_map h c) (filter_map-append h a b))
 
-list_four : (h : Part → List (List ℕ)) (a b c d : List Part) → flat_map h (((a ++ b) ++ c) ++ d) ≡ ((flat_map h a ++ flat_map h b) ++ flat_map h c) ++ flat_map h d
+list_four : (h : RecordLine → List (List ℕ)) (a b c d : List RecordLine) → flat_map h (((a ++ b) ++ c) ++ d) ≡ ((flat_map h a ++ flat_map h b) ++ flat_map h c) ++ flat_map h d
 list_four h a b c d = flat_map-append h ((a ++ b) ++ c) d ∙ ap (λ xs. xs ++ flat_map h d) (flat_map-append h (a ++ b) c ∙ ap (λ xs. xs ++ flat_map h c) (flat_map-append h a b))
 
 joins : {X : Type 0} (a b c d w x y z : List X) → a ≡ w → b ≡ x → c ≡ y → d ≡ z → ((a ++ b) ++ c) ++ d ≡ ((w ++ x) ++ y) ++ z
 joins a b c d w x y z p q r s = λ i. ((p i ++ q i) ++ r i) ++ s i
 
-pick_owners : (h : Part → Option (List ℕ × List ℕ)) → ((ns : List (List ℕ)) → h (Owners ns) ≡ None) → (names : List (List ℕ)) → filter_map h (owners_part names) ≡ []
+pick_owners : (h : RecordLine → Option (List ℕ × List ℕ)) → ((ns : List (List ℕ)) → h (Owners ns) ≡ None) → (names : List (List ℕ)) → filter_map h (owners_part names) ≡ []
 pick_owners h is [] = refl
 pick_owners h is (k ∷ ks) = ap (λ o. cons_option o []) (is (k ∷ ks))
 
-pick_flags : (h : Part → Option (List ℕ × List ℕ)) → ((ns : List (List ℕ)) → h (Flags ns) ≡ None) → (names : List (List ℕ)) → filter_map h (flags_part names) ≡ []
+pick_flags : (h : RecordLine → Option (List ℕ × List ℕ)) → ((ns : List (List ℕ)) → h (Flags ns) ≡ None) → (names : List (List ℕ)) → filter_map h (flags_part names) ≡ []
 pick_flags h is [] = refl
 pick_flags h is (k ∷ ks) = ap (λ o. cons_option o []) (is (k ∷ ks))
 
@@ -259,7 +259,7 @@ variables_of_variables : (es : List (List ℕ × List ℕ)) → filter_map varia
 variables_of_variables [] = refl
 variables_of_variables (e ∷ es) = picked variable_in variable_part (λ x. refl) (e ∷ es)
 
-lists_of_variables : (h : Part → List (List ℕ)) → h Variables ≡ [] → ((e : List ℕ × List ℕ) → h (variable_part e) ≡ []) → (es : List (List ℕ × List ℕ)) → flat_map h (variables_part es) ≡ []
+lists_of_variables : (h : RecordLine → List (List ℕ)) → h Variables ≡ [] → ((e : List ℕ × List ℕ) → h (variable_part e) ≡ []) → (es : List (List ℕ × List ℕ)) → flat_map h (variables_part es) ≡ []
 lists_of_variables h v is [] = refl
 lists_of_variables h v is (e ∷ es) = ap (λ o. o ++ flat_map h (map variable_part (e ∷ es))) v ∙ unlisted h variable_part is (e ∷ es)
 
@@ -286,12 +286,12 @@ set_of_keys (e ∷ es) = ap (λ s. fin.insert s e.0 tt) (set_of_keys es)
 set_again : (s : Texts (Unit {0})) → set_of (fin.keys s) ≡ s
 set_again s = set_of_keys (entries s) ∙ from_entries-entries s
 
-pub item_again : (i : Parts) → item_of (body_of i) ≡ i
+pub item_again : (i : ItemParts) → item_of (body_of i) ≡ i
 item_again i =
-    let f : List Part = map field_part (entries i.fields) in
-    let o : List Part = owners_part (fin.keys i.owners) in
-    let fl : List Part = flags_part (fin.keys i.flags) in
-    let v : List Part = variables_part (entries i.variables) in
+    let f : List RecordLine = map field_part (entries i.fields) in
+    let o : List RecordLine = owners_part (fin.keys i.owners) in
+    let fl : List RecordLine = flags_part (fin.keys i.flags) in
+    let v : List RecordLine = variables_part (entries i.variables) in
     let a : from_entries {R = slice_cmp nat_cmp} (filter_map field_in (((f ++ o) ++ fl) ++ v)) ≡ i.fields
     = ap (from_entries {R = slice_cmp nat_cmp}) (pick_four field_in f o fl v ∙ joins _ _ _ _ (entries i.fields) [] [] [] (picked field_in field_part (λ x. refl) (entries i.fields)) (pick_owners field_in (λ x. refl) (fin.keys i.owners)) (pick_flags field_in (λ x. refl) (fin.keys i.flags)) (fields_of_variables (entries i.variables))
     ∙ append-nil _ ∙ append-nil _ ∙ append-nil _) ∙ from_entries-entries i.fields in
@@ -308,16 +308,16 @@ item_again i =
 
 -- ---- the records are read again
 
-abbrev pub content_at : Part → List Part → List (List ℕ × Parts)
+abbrev pub content_at : RecordLine → List RecordLine → List (List ℕ × ItemParts)
 content_at (Name name) after = (name, item_of (until_blank after)) ∷ []
 content_at _ after = []
 
 -- the names and items of the records, which the numbers of lines don't matter to
-abbrev pub contents_of : List Part → List (List ℕ × Parts)
+abbrev pub contents_of : List RecordLine → List (List ℕ × ItemParts)
 contents_of [] = []
 contents_of (p ∷ ps) = content_at p ps ++ contents_of ps
 
-contents-record_at : (n : ℕ) (p : Part) (ps : List Part) → map contents (record_at n p ps) ≡ content_at p ps
+contents-record_at : (n : ℕ) (p : RecordLine) (ps : List RecordLine) → map contents (record_at n p ps) ≡ content_at p ps
 contents-record_at n Blank ps = refl
 contents-record_at n (Name name) ps = refl
 contents-record_at n (Owners names) ps = refl
@@ -327,12 +327,12 @@ contents-record_at n (Variable key value) ps = refl
 contents-record_at n (Field key value) ps = refl
 contents-record_at n Nothing ps = refl
 
-pub contents-records_of : (ls : List Line) → map contents (records_of ls) ≡ contents_of (parts_in ls)
+pub contents-records_of : (ls : List Line) → map contents (records_of ls) ≡ contents_of (lines_said ls)
 contents-records_of [] = refl
 contents-records_of (l ∷ ls) =
-    map-append contents (record_at l.0 l.1 (parts_in ls)) (records_of ls) ∙ (λ i. contents-record_at l.0 l.1 (parts_in ls) i ++ contents-records_of ls i)
+    map-append contents (record_at l.0 l.1 (lines_said ls)) (records_of ls) ∙ (λ i. contents-record_at l.0 l.1 (lines_said ls) i ++ contents-records_of ls i)
 
-content_at-nameless : (p : Part) (xs : List Part) → name_in p ≡ None → content_at p xs ≡ []
+content_at-nameless : (p : RecordLine) (xs : List RecordLine) → name_in p ≡ None → content_at p xs ≡ []
 content_at-nameless Blank xs e = refl
 content_at-nameless (Name name) xs e = absurd (cc)
 content_at-nameless (Owners names) xs e = refl
@@ -343,15 +343,15 @@ content_at-nameless (Field key value) xs e = refl
 content_at-nameless Nothing xs e = refl
 
 -- further lines begin no record
-contents_of-body : (rest tail : List Part) → AllByRecursion IsFurther rest → contents_of (rest ++ tail) ≡ contents_of tail
+contents_of-body : (rest tail : List RecordLine) → AllByRecursion IsFurther rest → contents_of (rest ++ tail) ≡ contents_of tail
 contents_of-body [] tail h = refl
 contents_of-body (p ∷ rest) tail h = ap (λ xs. xs ++ contents_of (rest ++ tail)) (content_at-nameless p (rest ++ tail) h.0.nameless) ∙ contents_of-body rest tail h.1
 
 pub contents_again : (es : List Entry) → contents_of (flat_map parts_of es) ≡ map contents es
 contents_again [] = refl
 contents_again (e ∷ es) =
-    let body : List Part = body_of e.item in
-    let tail : List Part = Blank ∷ flat_map parts_of es in
+    let body : List RecordLine = body_of e.item in
+    let tail : List RecordLine = Blank ∷ flat_map parts_of es in
     let further : AllByRecursion IsFurther body = all_further (Name e.name ∷ []) body (body_fits e.name e.item) in
     let item : item_of (until_blank (body ++ tail)) ≡ e.item = ap item_of (until_blank-body body tail further ∙ append-nil body) ∙ item_again e.item in
     ap contents_of (append_assoc (Name e.name ∷ body) (Blank ∷ []) (flat_map parts_of es))
@@ -359,7 +359,7 @@ contents_again (e ∷ es) =
 
 -- ---- each part of a table stands
 
-nameless : (ps : List Part) → AllByRecursion IsFurther ps → filter_map name_in ps ≡ []
+nameless : (ps : List RecordLine) → AllByRecursion IsFurther ps → filter_map name_in ps ≡ []
 nameless [] h = refl
 nameless (p ∷ ps) h = ap (λ o. cons_option o (filter_map name_in ps)) h.0.nameless ∙ nameless ps h.1
 
@@ -371,7 +371,7 @@ all_append : {X : Type 0} (P : X → Type 0) (xs ys : List X) → AllByRecursion
 all_append P [] ys a b = b
 all_append P (x ∷ xs) ys a b = (a.0, all_append P xs ys a.1 b)
 
-later_names : (before : List Part) (e : Entry) (names : List (List ℕ)) → AllByRecursion (IsNewName before) names → AllByRecursion (λ l. l ≢ e.name) names → AllByRecursion (IsNewName (before ++ parts_of e)) names
+later_names : (before : List RecordLine) (e : Entry) (names : List (List ℕ)) → AllByRecursion (IsNewName before) names → AllByRecursion (λ l. l ≢ e.name) names → AllByRecursion (IsNewName (before ++ parts_of e)) names
 later_names before e [] a d = tt
 later_names before e (n ∷ names) a d = (
   subst (AllByRecursion (λ m. m ≢ n)) (sym (filter_map-append name_in before (parts_of e) ∙ ap (λ xs. filter_map name_in before ++ xs) (names_of_parts e)))
@@ -379,12 +379,12 @@ later_names before e (n ∷ names) a d = (
   later_names before e names a.1 d.1,
 )
 
-pub parts_stand : (before : List Part) (es : List Entry) → PartsStand before → since_blank before ≡ [] → AllByRecursion (IsNewName before) (map (λ (e : Entry). e.name) es)
-    → Apart (map (λ (e : Entry). e.name) es) → PartsStand (before ++ flat_map parts_of es)
+pub parts_stand : (before : List RecordLine) (es : List Entry) → PartsStand before → since_blank before ≡ [] → AllByRecursion (IsNewName before) (map (λ (e : Entry). e.name) es)
+    → AreDistinct (map (λ (e : Entry). e.name) es) → PartsStand (before ++ flat_map parts_of es)
 parts_stand before [] all none new apart = subst PartsStand (sym (append-nil before)) all
 parts_stand before (e ∷ es) all none new apart =
-    let n : Part = Name e.name in
-    let body : List Part = body_of e.item in
+    let n : RecordLine = Name e.name in
+    let body : List RecordLine = body_of e.item in
     let first : PartsStand (before ++ n ∷ []) = PartsStand-push before n all (none, new.0) in
     let group : since_blank (before ++ n ∷ []) ≡ n ∷ [] = since_blank-push before n refl ∙ ap (λ xs. xs ++ n ∷ []) none in
     let rest : PartsStand ((before ++ n ∷ []) ++ body) × (since_blank ((before ++ n ∷ []) ++ body) ≡ (n ∷ []) ++ body)

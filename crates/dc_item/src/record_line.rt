@@ -3,7 +3,7 @@ use dc_text::{FieldKey, FlagName, List, Name, Settled, VarKey};
 
 /// What a line of a database text says, wherever it stands.
 #[derive(Drop)]
-pub enum Part {
+pub enum RecordLine {
     Blank,
     Name(Name),
     Owners(List<Name>),
