@@ -7,12 +7,12 @@ use Rattle.dc_conf.specs.declared.faults.ConfError.{ConfError}
 use Rattle.dc_conf.specs.declared.faults.ConfError.TheVariants.{Refused, OutOfMemory}
 use Rattle.dc_conf.specs.Stanzas.{Stanza, stanzas, fields_of}
 use Rattle.dc_conf.specs.ConfFaults.{fault, passes, Decides, first_pass}
-use Rattle.dc_conf.specs.Configuration.{Configuration, IsAnswer, configuration, are_apart}
+use Rattle.dc_conf.specs.Configuration.{Configuration, IsAnswer, configuration, is_sound}
 use Rattle.dc_conf.specs.Machine.{stanzas_read, least_of, or_else, decided, later_passes, IsRefusal, AreModes}
-use Rattle.dc_conf.proofs.ApartLemmas.{databases_apart}
 use Rattle.dc_conf.proofs.CleanLemmas.{modes_are}
 use Rattle.dc_conf.proofs.LeastLemmas.{least_is, decided_none, decided_some}
 use Rattle.dc_conf.proofs.ReadLemmas.{IsRead, read_is}
+use Rattle.dc_conf.proofs.SoundLemmas.{sound}
 
 pub ok_read : (text : List ℕ) (read : List Stanza) → stanzas_read text ≡ Ok read → IsRead text read
 ok_read text read e = MatchResult-at_ok (IsRead text) (λ f. least_of (first_pass (stanzas text)) ≡ Some f) read e (read_is text)
@@ -44,10 +44,11 @@ none_is text read is e = (is.clean, decided_none (later_passes (each fields_of (
 pub modes_read : (read : List Stanza) → decided (later_passes read) ≡ None → AreModes read
 modes_read read e = modes_are read (decided_none (later_passes read) e).0
 
-pub apart_read : (read : List Stanza) → decided (later_passes read) ≡ None → are_apart (configuration read).databases ≡ true
-apart_read read e = databases_apart read (decided_none (later_passes read) e).0
+pub sound_read : (read : List Stanza) → decided (later_passes read) ≡ None → is_sound (configuration read) ≡ true
+sound_read read e = let none = decided_none (later_passes read) e in sound read none.0 none.1.0 none.1.1.0
 
 -- the same of a text that was read
-pub apart_answer : (text : List ℕ) (conf : Configuration) → IsAnswer text (Ok conf) → are_apart conf.databases ≡ true
-apart_answer text conf is =
-    ap (λ (c : Configuration). are_apart c.databases) is.1 ∙ databases_apart (each fields_of (stanzas text)) is.0.1.0
+pub sound_answer : (text : List ℕ) (conf : Configuration) → IsAnswer text (Ok conf) → is_sound conf ≡ true
+sound_answer text conf is =
+    let read : List Stanza = each fields_of (stanzas text) in
+    ap is_sound is.1 ∙ sound read is.0.1.0 is.0.1.1.0 is.0.1.1.1.0

@@ -5,10 +5,7 @@ use Rattle.std.proofs.lemmas.List.{append-nil}
 use Rattle.std.specs.List.{AllByRecursion, flat_map}
 use Rattle.std.proofs.lemmas.Bool.{leb-true, leb-false, le-leb, lt-leb}
 use Rattle.dc_conf.specs.declared.faults.Fault.{Fault}
-use Rattle.dc_conf.specs.declared.fields.Field.{Field}
-use Rattle.dc_conf.specs.declared.faults.ConfKind.TheVariants.{BadValue}
-use Rattle.dc_conf.specs.Stanzas.{Stanza}
-use Rattle.dc_conf.specs.ConfFaults.{fault_if, IsLeast, Decides}
+use Rattle.dc_conf.specs.ConfFaults.{IsLeast, Decides}
 use Rattle.dc_conf.specs.Machine.{earlier_of, least_of, or_else, decided}
 use Rattle.dc_conf.proofs.TestLemmas.{all_each, all-append}
 
@@ -167,16 +164,15 @@ some_decides all = elim (decided all) as (λ r. decided all ≡ r → AllByRecur
   | Some f ↦ λ e. inr (f, decided_some all f e)
 ] refl
 
--- ---- one field after another
+-- ---- one after another
 
--- a turn of the loop over fields
-pub bad_turn : (is : Field → Bool) (rest tail : Stanza) (field : Field) (least new all : Option Fault) → rest ≡ field ∷ tail
-    → new ≡ earlier_of least (least_of (fault_if (is field) field.line BadValue))
-    → earlier_of least (least_of (flat_map (λ f. fault_if (is f) f.line BadValue) rest)) ≡ all
-    → earlier_of new (least_of (flat_map (λ f. fault_if (is f) f.line BadValue) tail)) ≡ all
-bad_turn is rest tail field least new all whole e so_far =
-    let others : List Fault = flat_map (λ f. fault_if (is f) f.line BadValue) tail in
-    let own : List Fault = fault_if (is field) field.line BadValue in
-    ap (λ a. earlier_of a (least_of others)) e ∙ earlier-assoc least (least_of own) (least_of others)
-    ∙ ap (earlier_of least) (sym (least_of-append own others) ∙ ap (λ (s : Stanza). least_of (flat_map (λ f. fault_if (is f) f.line BadValue) s)) (sym whole))
+-- a turn of a loop over what may have faults
+pub faults_turn : {X : Type 0} (faults : X → List Fault) (rest tail : List X) (x : X) (least new all : Option Fault) → rest ≡ x ∷ tail
+    → new ≡ earlier_of least (least_of (faults x))
+    → earlier_of least (least_of (flat_map faults rest)) ≡ all
+    → earlier_of new (least_of (flat_map faults tail)) ≡ all
+faults_turn {X} faults rest tail x least new all whole e so_far =
+    let others : List Fault = flat_map faults tail in
+    ap (λ a. earlier_of a (least_of others)) e ∙ earlier-assoc least (least_of (faults x)) (least_of others)
+    ∙ ap (earlier_of least) (sym (least_of-append (faults x) others) ∙ ap (λ (xs : List X). least_of (flat_map faults xs)) (sym whole))
     ∙ so_far

@@ -8,3 +8,5 @@ pub mod ReadLemmas
 pub mod ResolveLemmas
 pub mod RiseLemmas
 pub mod TestLemmas
+pub mod SoundLemmas
+pub mod ResolvedLemmas

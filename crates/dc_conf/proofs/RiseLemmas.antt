@@ -3,13 +3,14 @@ use Rattle.std.proofs.Common.{◌≡◌, ℕ, ◌≤◌, Bool, true, false, List
 use Rattle.std.specs.List.{AllByRecursion, flat_map, list_any}
 use Rattle.std.specs.Option.{option_map_or}
 use Rattle.std.specs.Prelude.{codes, nat_le, length, not}
+use Rattle.dc_conf.specs.declared.drivers.Driver.TheVariants.{File, Stack}
 use Rattle.dc_conf.specs.declared.faults.Fault.{Fault}
 use Rattle.dc_conf.specs.declared.faults.ConfKind.{ConfKind}
 use Rattle.dc_conf.specs.declared.faults.ConfKind.TheVariants.{TooMany, NoConfig, NoTemplates, NoName, NoDriver, UnknownDriver, MissingField, BadValue, Twice, SamePlace}
 use Rattle.dc_conf.specs.declared.fields.Field.{Field}
 use Rattle.dc_conf.specs.Stanzas.{Stanza, field_at, first_line}
 use Rattle.dc_conf.specs.Values.{driver_of}
-use Rattle.dc_conf.specs.ConfFaults.{fault_if, along, missing, at_field, is_there, lacks_field, rules_in, is_bad, unknown_driver, bad_values, is_named, driver_in, place_key, share_place, same_place, lone_faults, database_faults, head_faults, second_pass}
+use Rattle.dc_conf.specs.ConfFaults.{fault_if, along, missing, at_field, is_there, lacks_field, rules_in, is_bad, unknown_driver, bad_values, is_named, driver_in, place_by, share_place, same_place, lone_faults, database_faults, head_faults, second_pass}
 use Rattle.dc_conf.specs.Machine.{IsBetween, Rise, earlier_of, least_of}
 use Rattle.dc_conf.proofs.LeastLemmas.{least_in, least_keeps, least_of-append}
 use Rattle.dc_conf.proofs.TestLemmas.{all_each, all-append, find_all}
@@ -49,9 +50,13 @@ module _ (low high : ℕ) where
 
   same_within : (before : List Stanza) (s : Stanza) → IsBetween low high s → AllByRecursion Within (same_place before s)
   same_within before s is =
-      elim (driver_in s) as (λ r. AllByRecursion Within (option_map_or (λ driver. at_field (place_key driver) s (λ field. list_any (λ earlier. share_place earlier s) before) SamePlace) r [])) [
+      let shares : Bool = list_any (λ earlier. share_place earlier s) before in
+      elim (driver_in s) as (λ r. AllByRecursion Within (option_map_or (λ (field : Field). fault_if shares field.line SamePlace) (place_by r s) [])) [
         | None ↦ tt
-        | Some driver ↦ at_field_within (place_key driver) s (λ field. list_any (λ earlier. share_place earlier s) before) SamePlace is
+        | Some driver ↦ elim driver as (λ d. AllByRecursion Within (option_map_or (λ (field : Field). fault_if shares field.line SamePlace) (place_by (Some d) s) [])) [
+          | File ↦ at_field_within (codes "filename") s (λ field. shares) SamePlace is
+          | Stack ↦ tt
+        ]
       ]
 
   lone_within : (count : ℕ) (s : Stanza) → IsBetween low high s → AllByRecursion Within (lone_faults count s)

@@ -1,7 +1,7 @@
 -- Tests of lists, what holds of each element, and lists that are taken apart.
-use Rattle.std.proofs.Common.{◌≡◌, ℕ, ◌+◌, ◌-◌, ◌<◌, ◌≤◌, Bool, true, false, cond, List, [], ◌∷◌, ◌++◌, length, get_or, take, drop, Option, Some, None, refl, sym, ap, ◌∙◌, subst, arith}
+use Rattle.std.proofs.Common.{◌≡◌, ℕ, ◌+◌, ◌-◌, ◌<◌, ◌≤◌, Bool, true, false, cond, List, [], ◌∷◌, ◌++◌, length, get_or, take, drop, Option, Some, None, refl, sym, ap, ◌∙◌, subst, append_assoc, arith}
 use Rattle.std.specs.Prelude.{◌||◌}
-use Rattle.std.specs.List.{list_any, find, AllByRecursion}
+use Rattle.std.specs.List.{list_any, filter, find, AllByRecursion}
 use Rattle.std.proofs.lemmas.Slice.{between_to_end}
 use Rattle.std.proofs.Math.Nat.{le_refl}
 use Rattle.std.proofs.lemmas.List.{get_or_at, length-take-le, take_more}
@@ -63,3 +63,16 @@ not_some (Some x) h = absurd (h x refl)
 pub list_any-append : {X : Type 0} (p : X → Bool) (xs ys : List X) → list_any p (xs ++ ys) ≡ (list_any p xs || list_any p ys)
 list_any-append p [] ys = refl
 list_any-append p (x ∷ xs) ys = elim (p x) as (λ t. (t || list_any p (xs ++ ys)) ≡ ((t || list_any p xs) || list_any p ys)) [ true ↦ refl | false ↦ list_any-append p xs ys ]
+
+-- ---- what passes is kept
+
+pub keep_turn : {X : Type 0} (p : X → Bool) (so_far new rest tail : List X) (x y : X) (all : List X) → rest ≡ x ∷ tail → p x ≡ true → y ≡ x → new ≡ so_far ++ y ∷ []
+    → so_far ++ filter p rest ≡ all → new ++ filter p tail ≡ all
+keep_turn {X} p so_far new rest tail x y all whole is same pushed e =
+    ap (λ (xs : List X). xs ++ filter p tail) (pushed ∙ ap (λ z. so_far ++ z ∷ []) same) ∙ append_assoc so_far (x ∷ []) (filter p tail)
+    ∙ ap (λ (xs : List X). so_far ++ xs) (sym (ap (filter p) whole ∙ ap (λ b. cond b (x ∷ filter p tail) (filter p tail)) is)) ∙ e
+
+pub pass_turn : {X : Type 0} (p : X → Bool) (so_far rest tail : List X) (x : X) (all : List X) → rest ≡ x ∷ tail → p x ≡ false → so_far ++ filter p rest ≡ all
+    → so_far ++ filter p tail ≡ all
+pass_turn {X} p so_far rest tail x all whole is e =
+    ap (λ (xs : List X). so_far ++ xs) (sym (ap (filter p) whole ∙ ap (λ b. cond b (x ∷ filter p tail) (filter p tail)) is)) ∙ e

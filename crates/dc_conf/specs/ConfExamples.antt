@@ -1,12 +1,8 @@
 -- Configurations whose faults are worked out.
-use Rattle.std.specs.Prelude.{◌≡◌, ℕ, List, [], ◌∷◌, ◌++◌, codes}
+use Rattle.std.specs.Prelude.{◌≡◌, [], ◌∷◌, codes}
+use Rattle.dc_text.specs.Lines.{text_of}
 use Rattle.dc_conf.specs.ConfFaults.{fault, passes}
 use Rattle.dc_conf.specs.declared.faults.ConfKind.TheVariants.{NoColon, Twice, NoConfig, NoTemplates, NoName, UnknownDriver, MissingField, BadValue, SamePlace, UnknownDatabase, SharedDatabase}
-
--- the text of these lines
-abbrev pub text_of : List (List ℕ) → List ℕ
-text_of [] = []
-text_of (line ∷ lines) = line ++ 10 ∷ text_of lines
 
 -- no text at all; no Templates; a driver that isn't known; one database for both
 pub record Examples : Type 0 where

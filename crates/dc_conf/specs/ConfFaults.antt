@@ -1,17 +1,17 @@
 -- The faults of a configuration. They come in four passes: the first pass with a fault decides, and in it the least line. At
 -- one line the first kind decides, in the order in which a pass lists them.
-use Rattle.std.specs.Prelude.{◌≡◌, ◌<◌, ◌≤◌, ℕ, Bool, true, false, not, ◌||◌, ◌&&◌, nat_le, List, [], ◌∷◌, ◌++◌, Option, None, map as each, length, codes, ◌==◌, if◌then◌else◌}
+use Rattle.std.specs.Prelude.{◌≡◌, ◌<◌, ◌≤◌, ℕ, Bool, true, false, not, ◌||◌, ◌&&◌, nat_le, List, [], ◌∷◌, ◌++◌, Option, Some, None, is_some, map as each, length, codes, ◌==◌, if◌then◌else◌}
 use Rattle.std.specs.Option.{option_map_or}
-use Rattle.std.specs.List.{list_any, flat_map, AllByRecursion}
+use Rattle.std.specs.List.{list_any, find, flat_map, AllByRecursion}
 use Rattle.std.specs.Str.{bytes_eq}
 use Rattle.dc_conf.specs.declared.drivers.Driver.{Driver}
-use Rattle.dc_conf.specs.declared.drivers.Driver.TheVariants.{File}
+use Rattle.dc_conf.specs.declared.drivers.Driver.TheVariants.{File, Stack}
 use Rattle.dc_conf.specs.declared.faults.ConfKind.{ConfKind}
-use Rattle.dc_conf.specs.declared.faults.ConfKind.TheVariants.{NoColon, Twice, TooMany, NoConfig, NoTemplates, NoName, NoDriver, UnknownDriver, MissingField, BadValue, SamePlace, UnknownDatabase, SharedDatabase}
+use Rattle.dc_conf.specs.declared.faults.ConfKind.TheVariants.{NoColon, Twice, TooMany, NoConfig, NoTemplates, NoName, NoDriver, UnknownDriver, MissingField, BadValue, SamePlace, UnknownDatabase, Nested, SharedDatabase}
 use Rattle.dc_conf.specs.declared.faults.Fault.{Fault}
 use Rattle.dc_conf.specs.declared.fields.Field.{Field}
 use Rattle.dc_conf.specs.Stanzas.{Line, Stanza, stanzas, has_colon, field_in, fields_of, field_at, first_line}
-use Rattle.dc_conf.specs.Values.{FieldRule, rules_of, driver_of}
+use Rattle.dc_conf.specs.Values.{FieldRule, rules_of, driver_of, names_in}
 
 abbrev pub fault : ℕ → ConfKind → Fault
 fault line kind = record { line = line; kind = kind }
@@ -85,17 +85,22 @@ is_named databases name = list_any (has_name name) databases
 abbrev pub repeated_name : List Stanza → Stanza → List Fault
 repeated_name before stanza = at_field (codes "name") stanza (λ field. is_named before field.value) Twice
 
--- the key of the field that says where a driver keeps its database, and the paths that it uses there
-abbrev pub place_key : Driver → List ℕ
-place_key File = codes "filename"
+-- the field that says where a database is kept, if its driver keeps one
+abbrev pub place_by : Option Driver → Stanza → Option Field
+place_by None stanza = None
+place_by (Some File) stanza = field_at (codes "filename") stanza
+place_by (Some Stack) stanza = None
 
-abbrev pub paths_of : Driver → List ℕ → List (List ℕ)
-paths_of File place = place ∷ (place ++ codes "-new") ∷ (place ++ codes "-old") ∷ []
+abbrev pub place_in : Stanza → Option Field
+place_in stanza = place_by (driver_in stanza) stanza
 
--- the paths of a database, none where it has no driver or no place
+-- the paths of a database in one file
+abbrev pub file_paths : List ℕ → List (List ℕ)
+file_paths place = place ∷ (place ++ codes "-new") ∷ (place ++ codes "-old") ∷ []
+
+-- the paths of a database, none where it isn't kept in a place
 abbrev pub paths_in : Stanza → List (List ℕ)
-paths_in stanza =
-    option_map_or (λ driver. option_map_or (λ field. paths_of driver field.value) (field_at (place_key driver) stanza) []) (driver_in stanza) []
+paths_in stanza = option_map_or (λ field. file_paths field.value) (place_in stanza) []
 
 -- the second text begins with the first
 abbrev pub is_front : List ℕ → List ℕ → Bool
@@ -114,7 +119,7 @@ share_place one other = list_any (λ path. list_any (meet path) (paths_in other)
 -- the database is kept where an earlier one is
 abbrev pub same_place : List Stanza → Stanza → List Fault
 same_place before stanza =
-    option_map_or (λ driver. at_field (place_key driver) stanza (λ field. list_any (λ earlier. share_place earlier stanza) before) SamePlace) (driver_in stanza) []
+    option_map_or (λ field. fault_if (list_any (λ earlier. share_place earlier stanza) before) field.line SamePlace) (place_in stanza) []
 
 -- the faults of a database that stands behind so many others, by itself
 abbrev pub lone_faults : ℕ → Stanza → List Fault
@@ -140,27 +145,71 @@ second_pass (head ∷ databases) = head_faults head ++ along database_faults [] 
 
 -- ---- the third pass: names of databases
 
--- the field of the first stanza names no database
+-- the field names no database
 abbrev pub unknown_database : List ℕ → Stanza → List Stanza → List Fault
 unknown_database key head databases = at_field key head (λ field. not (is_named databases field.value)) UnknownDatabase
-
-abbrev pub third_pass : List Stanza → List Fault
-third_pass [] = []
-third_pass (head ∷ databases) =
-    unknown_database (codes "config") head databases ++ unknown_database (codes "templates") head databases
-
--- ---- the fourth pass: no database is shared
 
 -- the value of a field, empty where it isn't there
 abbrev pub value_at : List ℕ → Stanza → List ℕ
 value_at key stanza = option_map_or (λ field. field.value) (field_at key stanza) []
 
-abbrev pub shared_database : Stanza → List Fault
-shared_database head = at_field (codes "templates") head (λ field. bytes_eq field.value (value_at (codes "config") head)) SharedDatabase
+abbrev pub is_stack_driver : Option Driver → Bool
+is_stack_driver None = false
+is_stack_driver (Some File) = false
+is_stack_driver (Some Stack) = true
+
+abbrev pub is_stack : Stanza → Bool
+is_stack stanza = is_stack_driver (driver_in stanza)
+
+-- the databases that a stack names
+abbrev pub members : Stanza → List (List ℕ)
+members stanza = names_in (value_at (codes "stack") stanza)
+
+-- the stack with this name, if it is one of the databases
+abbrev pub stack_named : List Stanza → List ℕ → Option Stanza
+stack_named databases name = find (λ stanza. has_name name stanza && is_stack stanza) databases
+
+-- a name stands twice
+abbrev pub repeats : List (List ℕ) → Bool
+repeats [] = false
+repeats (name ∷ names) = list_any (bytes_eq name) names || repeats names
+
+-- one of the names is that of no database, or of a stack, or stands twice
+abbrev pub names_faults : List Stanza → List (List ℕ) → ℕ → List Fault
+names_faults databases names line =
+    fault_if (list_any (λ name. not (is_named databases name)) names) line UnknownDatabase
+    ++ fault_if (list_any (λ name. is_some (stack_named databases name)) names) line Nested
+    ++ fault_if (repeats names) line SharedDatabase
+
+-- the faults of what a stack names, where the database is one
+abbrev pub stack_faults : List Stanza → Stanza → List Fault
+stack_faults databases stanza =
+    if is_stack stanza then option_map_or (λ field. names_faults databases (names_in field.value) field.line) (field_at (codes "stack") stanza) [] else []
+
+abbrev pub third_pass : List Stanza → List Fault
+third_pass [] = []
+third_pass (head ∷ databases) =
+    unknown_database (codes "config") head databases ++ unknown_database (codes "templates") head databases
+    ++ flat_map (stack_faults databases) databases
+
+-- ---- the fourth pass: no database is shared
+
+-- the databases that hold the items of the database with this name: those that a stack names, and else itself
+abbrev pub reached_by : List Stanza → List ℕ → List (List ℕ)
+reached_by databases name =
+    option_map_or members (stack_named databases name) (name ∷ [])
+
+-- some database is among both
+abbrev pub share : List (List ℕ) → List (List ℕ) → Bool
+share names others = list_any (λ name. list_any (bytes_eq name) others) names
+
+abbrev pub shared_database : Stanza → List Stanza → List Fault
+shared_database head databases =
+    at_field (codes "templates") head (λ field. share (reached_by databases field.value) (reached_by databases (value_at (codes "config") head))) SharedDatabase
 
 abbrev pub fourth_pass : List Stanza → List Fault
 fourth_pass [] = []
-fourth_pass (head ∷ databases) = shared_database head
+fourth_pass (head ∷ databases) = shared_database head databases
 
 -- ---- which fault decides
 

@@ -1,31 +1,35 @@
 -- What a configuration is, and which databases its names reach.
 use Rattle.std.specs.Prelude.{◌≡◌, ℕ, Bool, true, false, not, ◌&&◌, List, [], ◌∷◌, ◌++◌, Option, None, map as each, length, codes, Result, Ok, Err, ⊤}
 use Rattle.std.specs.Option.{option_map, option_map_or}
-use Rattle.std.specs.List.{list_any, filter, position_or_len, AllByRecursion}
+use Rattle.std.specs.List.{list_all, list_any, filter, find, position_or_len, AllByRecursion}
 use Rattle.std.specs.Str.{bytes_eq}
 use Rattle.dc_conf.specs.declared.faults.ConfError.{ConfError}
 use Rattle.dc_conf.specs.declared.faults.ConfError.TheVariants as error
+use Rattle.dc_conf.specs.declared.plans.Base.{Base}
 use Rattle.dc_conf.specs.declared.plans.Base.TheVariants as base
 use Rattle.dc_conf.specs.declared.plans.Plan.{Plan}
 use Rattle.dc_conf.specs.declared.plans.ResolveError.{ResolveError}
 use Rattle.dc_conf.specs.declared.plans.ResolveError.TheVariants as resolve
 use Rattle.dc_conf.specs.declared.plans.Resolved.{Resolved}
-use Rattle.dc_conf.specs.declared.drivers.Driver.TheVariants as driver
 use Rattle.dc_conf.specs.declared.spec.LayerSort.{LayerSort}
 use Rattle.dc_conf.specs.declared.spec.LayerSort.TheVariants.{File, Tree, Pack}
 use Rattle.dc_conf.specs.declared.spec.LayerSpec.{LayerSpec}
+use Rattle.dc_conf.specs.declared.spec.StackSpec.{StackSpec}
+use Rattle.dc_conf.specs.Plans.{are_disjoint}
 use Rattle.dc_conf.specs.Stanzas.{Stanza, stanzas, fields_of, field_at}
 use Rattle.dc_conf.specs.Values.{octal, is_true}
-use Rattle.dc_conf.specs.ConfFaults.{fault, passes, Decides, value_at, paths_of, meet}
+use Rattle.dc_conf.specs.ConfFaults.{fault, passes, Decides, value_at, is_stack, members, repeats, share, file_paths, meet}
 
--- a configuration: the names of the databases of questions and of templates, the words for the frontend and the priority, and
--- the databases in the order of the file
+-- a configuration: the names of the databases of questions and of templates, the words for the frontend and the priority, the
+-- names of all databases in the order of the file, those that hold items themselves, and the stacks
 pub record Configuration : Type 0 where
   pub config : List ℕ
   pub templates : List ℕ
   pub frontend : Option (List ℕ)
   pub priority : Option (List ℕ)
-  pub databases : List LayerSpec
+  pub databases : List (List ℕ)
+  pub specs : List LayerSpec
+  pub stacks : List StackSpec
 
 abbrev pub text_at : List ℕ → Stanza → Option (List ℕ)
 text_at key stanza = option_map (λ field. field.value) (field_at key stanza)
@@ -38,9 +42,9 @@ truth_at key stanza default = option_map_or (λ field. is_true field.value) (fie
 abbrev pub mode_at : List ℕ → Stanza → ℕ
 mode_at key stanza = option_map_or (λ field. octal field.value) (field_at key stanza) 384
 
--- the database of a stanza without faults
-abbrev pub database_of : Stanza → LayerSpec
-database_of stanza = record {
+-- the database that the stanza of a file without faults is
+abbrev pub spec_of : Stanza → LayerSpec
+spec_of stanza = record {
   name = value_at (codes "name") stanza;
   sort = File;
   place = value_at (codes "filename") stanza;
@@ -55,15 +59,20 @@ database_of stanza = record {
   reject_type = text_at (codes "reject-type") stanza;
 }
 
+abbrev pub stack_of : Stanza → StackSpec
+stack_of stanza = record { name = value_at (codes "name") stanza; members = members stanza }
+
 -- the configuration of stanzas without faults
 abbrev pub configuration : List Stanza → Configuration
-configuration [] = record { config = []; templates = []; frontend = None; priority = None; databases = [] }
+configuration [] = record { config = []; templates = []; frontend = None; priority = None; databases = []; specs = []; stacks = [] }
 configuration (head ∷ databases) = record {
   config = value_at (codes "config") head;
   templates = value_at (codes "templates") head;
   frontend = text_at (codes "frontend") head;
   priority = text_at (codes "priority") head;
-  databases = each database_of databases;
+  databases = each (value_at (codes "name")) databases;
+  specs = each spec_of (filter (λ stanza. not (is_stack stanza)) databases);
+  stacks = each stack_of (filter is_stack databases);
 }
 
 -- what reading a text answers: its configuration where no pass has a fault, and else the fault that decides
@@ -76,7 +85,7 @@ IsAnswer text (Err error.OutOfMemory) = ⊤
 
 -- the paths at which a database of this sort is kept
 abbrev pub paths_at : LayerSort → List ℕ → List (List ℕ)
-paths_at File place = paths_of driver.File place
+paths_at File place = file_paths place
 paths_at Tree place = place ∷ []
 paths_at Pack place = place ∷ []
 
@@ -94,45 +103,65 @@ are_apart (spec ∷ specs) = not (list_any (places_meet spec) specs) && are_apar
 abbrev pub is_among : List (List ℕ) → List ℕ → Bool
 is_among names name = list_any (bytes_eq name) names
 
--- one of these databases has this name
-abbrev pub is_spec_of : List LayerSpec → List ℕ → Bool
-is_spec_of specs name = list_any (λ spec. bytes_eq spec.name name) specs
-
-abbrev pub is_database : Configuration → List ℕ → Bool
-is_database conf name = is_spec_of conf.databases name
+-- the databases that hold the items of the one with this name: those that a stack names, from the top, and else itself
+abbrev pub holders_of : Configuration → List ℕ → List (List ℕ)
+holders_of conf name = option_map_or (λ stack. stack.members) (find (λ stack. bytes_eq stack.name name) conf.stacks) (name ∷ [])
 
 -- the databases that some of the names reach, each once, in the order of the file
 abbrev pub reached : Configuration → List (List ℕ) → List LayerSpec
-reached conf roots = filter (λ spec. is_among roots spec.name) conf.databases
+reached conf roots = filter (λ spec. list_any (λ root. is_among (holders_of conf root) spec.name) roots) conf.specs
 
 -- the place of the database with the name
 abbrev pub place_in : List LayerSpec → List ℕ → ℕ
 place_in specs name = position_or_len (λ spec. bytes_eq spec.name name) specs
 
 -- the first root that none of these databases has as its name
-pub record IsFirstUnknown (specs : List LayerSpec) (roots : List (List ℕ)) (place : ℕ) : Type 0 where
+pub record IsFirstUnknown (databases : List (List ℕ)) (roots : List (List ℕ)) (place : ℕ) : Type 0 where
   pub before : List (List ℕ)
   pub root : List ℕ
   pub after : List (List ℕ)
   pub whole : roots ≡ before ++ root ∷ after
   pub place_is : place ≡ length before
-  pub known : AllByRecursion (λ name. is_spec_of specs name ≡ true) before
-  pub unknown : is_spec_of specs root ≡ false
+  pub known : AllByRecursion (λ name. is_among databases name ≡ true) before
+  pub unknown : is_among databases root ≡ false
 
--- the first root that no database has as its name
-abbrev pub IsUnknown : Configuration → List (List ℕ) → ℕ → Type 0
-IsUnknown conf roots place = IsFirstUnknown conf.databases roots place
+-- what a database is made of: a stack of the places of the databases that it names, and another of its own
+abbrev pub base_of : Configuration → List LayerSpec → List ℕ → Base
+base_of conf specs root =
+    option_map_or (λ stack. base.Stack (each (place_in specs) stack.members)) (find (λ stack. bytes_eq stack.name root) conf.stacks) (base.Leaf (place_in specs root))
 
--- the plan of a database that holds items itself
-abbrev pub plan_of : List LayerSpec → List ℕ → Plan
-plan_of specs root = record { base = base.Leaf (place_in specs root); backup = None; debug = false }
+abbrev pub plan_of : Configuration → List LayerSpec → List ℕ → Plan
+plan_of conf specs root = record { base = base_of conf specs root; backup = None; debug = false }
 
 -- what resolving the roots answers: the databases that they reach and the plan of each, where each names a database, and
 -- else the first that names none
 abbrev pub IsResolved : Configuration → List (List ℕ) → Result Resolved ResolveError → Type 0
 IsResolved conf roots (Ok resolved) =
-    AllByRecursion (λ name. is_database conf name ≡ true) roots
+    AllByRecursion (λ name. is_among conf.databases name ≡ true) roots
     × (resolved.specs ≡ reached conf roots)
-    × (resolved.plans ≡ each (plan_of (reached conf roots)) roots)
-IsResolved conf roots (Err (resolve.Unknown root)) = IsUnknown conf roots root
+    × (resolved.plans ≡ each (plan_of conf (reached conf roots)) roots)
+IsResolved conf roots (Err (resolve.Unknown root)) = IsFirstUnknown conf.databases roots root
 IsResolved conf roots (Err resolve.OutOfMemory) = ⊤
+
+-- ---- what they are like
+
+-- the names of no two of the databases are the same
+abbrev pub have_names_apart : List LayerSpec → Bool
+have_names_apart specs = not (repeats (each (λ spec. spec.name) specs))
+
+-- one of the databases that hold items themselves has this name
+abbrev pub is_spec_of : List LayerSpec → List ℕ → Bool
+is_spec_of specs name = list_any (λ spec. bytes_eq spec.name name) specs
+
+-- What each configuration keeps: places and names are apart, each database is held by some that hold items themselves, and those of
+-- questions and of templates share none.
+abbrev pub is_sound : Configuration → Bool
+is_sound conf =
+    are_apart conf.specs && (have_names_apart conf.specs
+    && (list_all (λ name. list_all (is_spec_of conf.specs) (holders_of conf name)) conf.databases
+    && not (share (holders_of conf conf.templates) (holders_of conf conf.config))))
+
+-- the plans of these two share no database
+abbrev pub AreDisjoint : List Plan → Type 0
+AreDisjoint (one ∷ other ∷ []) = are_disjoint one other ≡ true
+AreDisjoint _ = ⊥

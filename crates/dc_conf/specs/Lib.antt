@@ -4,3 +4,4 @@ pub mod Configuration
 pub mod Machine
 pub mod Stanzas
 pub mod Values
+pub mod Plans

@@ -1,6 +1,6 @@
 -- What the reader does, as functions: with one line after another, with the faults of stanzas, and with names. Only functions
 -- that are not public, and the proofs, speak of them.
-use Rattle.std.specs.Prelude.{◌≡◌, ◌≢◌, ◌≤◌, ℕ, ◌+◌, ⊤, true, nat_le, List, [], ◌∷◌, ◌++◌, Option, Some, None, Result, Ok, Err, codes, if◌then◌else◌}
+use Rattle.std.specs.Prelude.{◌≡◌, ◌≢◌, ◌≤◌, ℕ, ◌+◌, ⊤, true, false, nat_le, List, [], ◌∷◌, ◌++◌, Option, Some, None, Result, Ok, Err, codes, if◌then◌else◌}
 use Rattle.std.specs.List.{AllByRecursion}
 use Rattle.std.specs.Option.{option_map_or}
 use Rattle.std.specs.FinMap as map
@@ -14,9 +14,8 @@ use Rattle.dc_conf.specs.declared.fields.Field.{Field}
 use Rattle.dc_conf.specs.declared.reading.Gathered.{Gathered}
 use Rattle.dc_conf.specs.Stanzas.{Line, Stanza, numbered, is_comment, has_colon, field_in, field_at}
 use Rattle.dc_conf.specs.Values.{is_mode}
-use Rattle.dc_conf.specs.Configuration.{is_spec_of}
-use Rattle.dc_conf.specs.declared.spec.LayerSpec.{LayerSpec}
-use Rattle.dc_conf.specs.ConfFaults.{fault, second_pass, third_pass, fourth_pass}
+use Rattle.dc_conf.specs.Configuration.{is_among}
+use Rattle.dc_conf.specs.ConfFaults.{fault, is_stack, second_pass, third_pass, fourth_pass}
 
 -- ---- the least fault
 
@@ -107,14 +106,18 @@ Rise low (stanza ∷ stanzas) = (high : ℕ) × (low ≤ high) × IsBetween low 
 abbrev pub IsModeField : Stanza → Type 0
 IsModeField stanza = option_map_or (λ field. is_mode field.value) (field_at (codes "mode") stanza) true ≡ true
 
--- so it is in each database
+-- so it is in a database that is no stack
+abbrev pub HasMode : Stanza → Type 0
+HasMode stanza = is_stack stanza ≡ false → IsModeField stanza
+
+-- and in each of the databases
 abbrev pub AreModes : List Stanza → Type 0
 AreModes [] = ⊤
-AreModes (head ∷ databases) = AllByRecursion IsModeField databases
+AreModes (head ∷ databases) = AllByRecursion HasMode databases
 
 -- ---- names that no database has
 
--- the place of the first of these names that none of the databases has, where their places begin at this one
-abbrev pub unknown_from : List LayerSpec → ℕ → List (List ℕ) → Option ℕ
-unknown_from specs place [] = None
-unknown_from specs place (root ∷ roots) = if is_spec_of specs root then unknown_from specs (place + 1) roots else Some place
+-- the place of the first of these names that no database has, where their places begin at this one
+abbrev pub unknown_from : List (List ℕ) → ℕ → List (List ℕ) → Option ℕ
+unknown_from databases place [] = None
+unknown_from databases place (root ∷ roots) = if is_among databases root then unknown_from databases (place + 1) roots else Some place

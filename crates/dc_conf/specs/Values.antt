@@ -3,9 +3,10 @@ use Rattle.std.specs.Prelude.{ℕ, ◌+◌, ◌-◌, ◌*◌, Bool, true, false,
 use Rattle.std.specs.List.{list_all, list_any, find, slice_split}
 use Rattle.std.specs.Option.{option_map_or}
 use Rattle.std.specs.Str.{bytes_eq, is_utf8}
-use Rattle.dc_text.specs.Bytes.{lower, is_nil}
+use Rattle.dc_text.specs.Bytes.{lower, is_nil, is_space}
+use Rattle.dc_words.specs.Words.{plain_words_of}
 use Rattle.dc_conf.specs.declared.drivers.Driver.{Driver}
-use Rattle.dc_conf.specs.declared.drivers.Driver.TheVariants.{File}
+use Rattle.dc_conf.specs.declared.drivers.Driver.TheVariants.{File, Stack}
 
 -- `true`, read without regard to case
 abbrev pub is_true : List ℕ → Bool
@@ -59,6 +60,18 @@ is_database_name value = nat_le 1 (length value) && (nat_le (length value) 64 &&
 abbrev pub is_format : List ℕ → Bool
 is_format value = bytes_eq value (codes "822")
 
+-- a comma as a space
+abbrev pub spaced : ℕ → ℕ
+spaced byte = if byte == 44 then 32 else byte
+
+-- the names of a list, which commas and whitespace part
+abbrev pub names_in : List ℕ → List (List ℕ)
+names_in value = plain_words_of (each spaced value)
+
+-- a list of at least one name: some byte parts none
+abbrev pub has_names : List ℕ → Bool
+has_names value = list_any (λ byte. not (is_space (spaced byte))) value
+
 -- ---- the fields of each driver
 
 -- a field: its key, whether it must be there, and the values that it takes
@@ -91,7 +104,17 @@ pattern_rules =
 abbrev pub layer_rules : List FieldRule
 layer_rules = switch_rules ++ pattern_rules
 
+-- a field that a database may not have
+abbrev pub refused : List ℕ → FieldRule
+refused key = optional key (λ value. false)
+
+-- the fields of a database that holds items itself, which one that doesn't may not have, so that no write goes where such a field
+-- would forbid it
+abbrev pub no_layer_rules : List FieldRule
+no_layer_rules = each (λ rule. refused rule.key) layer_rules
+
 abbrev pub driver_rules : Driver → List FieldRule
+driver_rules Stack = needed (codes "stack") has_names ∷ no_layer_rules
 driver_rules File = needed (codes "filename") is_path ∷ optional (codes "mode") is_mode ∷ optional (codes "backup") is_boolean ∷ layer_rules
 
 -- the fields that a database may have, by its driver, if it has one
@@ -101,9 +124,10 @@ rules_of driver = database_rules ++ option_map_or driver_rules driver []
 -- the word of each driver, in lower case
 abbrev pub driver_word : Driver → List ℕ
 driver_word File = codes "file"
+driver_word Stack = codes "stack"
 
 abbrev pub all_drivers : List Driver
-all_drivers = File ∷ []
+all_drivers = File ∷ Stack ∷ []
 
 -- the driver that has this word, read without regard to case
 abbrev pub driver_of : List ℕ → Option Driver

@@ -1,16 +1,17 @@
 // Which fault of stanzas decides.
 ghost use Rattle.std.specs.Prelude.{◌≡◌, [], IfOk};
 ghost use Rattle.std.specs.List.{flat_map, list_any};
-ghost use Rattle.dc_conf.specs.ConfFaults.{missing as missing_of, unknown_driver as unknown_driver_of, has_name as has_name_of, is_named as is_named_of, repeated_name as repeated_name_of, same_place as same_place_of, share_place, database_faults, along, head_faults, second_pass as second_pass_of, unknown_database as unknown_database_of, third_pass as third_pass_of, fourth_pass as fourth_pass_of, shared_database as shared_database_of, lone_faults, fault_if as fault_if_of, is_bad as is_bad_by};
+ghost use Rattle.dc_conf.specs.ConfFaults.{missing as missing_of, unknown_driver as unknown_driver_of, has_name as has_name_of, is_named as is_named_of, repeated_name as repeated_name_of, same_place as same_place_of, share_place, database_faults, along, head_faults, second_pass as second_pass_of, lone_faults, fault_if as fault_if_of, is_bad as is_bad_by};
 ghost use Rattle.dc_conf.specs.Values.{rules_of};
 ghost use Rattle.dc_conf.specs.declared.faults.ConfKind.TheVariants.{BadValue};
 ghost use Rattle.dc_conf.specs.Machine.{least_of, decided, later_passes, Rise};
 
 use crate::drivers::Driver;
 use crate::faults::{ConfKind, Fault};
-use crate::fields::{Field, field_at, first_line, is_there, value_at};
+use crate::fields::{Field, field_at, first_line, is_there};
 use crate::least::{earlier, fault_if};
-use crate::places::{driver_in, paths_in, place_key, some_meet};
+use crate::naming::{fourth_pass, third_pass};
+use crate::places::{driver_in, paths_in, place_in, some_meet};
 use crate::rules::{is_bad, lacks_field};
 use dc_text::{List, Mem, Text};
 use std::alloc::Global;
@@ -23,10 +24,10 @@ pub fn find_fault(alloc: Global, stanzas: &[List<Field>]) -> Mem<Option<Fault>>
     if let Some(fault) = second_pass(alloc, stanzas)? {
         return Ok(Some(fault));
     }
-    if let Some(fault) = third_pass(stanzas) {
+    if let Some(fault) = third_pass(alloc, stanzas)? {
         return Ok(Some(fault));
     }
-    Ok(fourth_pass(stanzas))
+    fourth_pass(alloc, stanzas)
 }
 
 // The first fault of the second pass: what each stanza lacks, and what is wrong with its values.
@@ -128,8 +129,8 @@ fn bad_values(driver: Option<Driver>, stanza: &[Field]) -> Option<Fault>
     least
 }
 
-// Whether one of the databases has the name.
-fn is_named(databases: &[List<Field>], name: &[u8]) -> bool
+/// Whether one of the databases has the name.
+pub fn is_named(databases: &[List<Field>], name: &[u8]) -> bool
     ensures { result ≡ is_named_of databases.now name.now }
 {
     let mut rest = databases;
@@ -142,7 +143,7 @@ fn is_named(databases: &[List<Field>], name: &[u8]) -> bool
     false
 }
 
-fn has_name(stanza: &[Field], name: &[u8]) -> bool
+pub fn has_name(stanza: &[Field], name: &[u8]) -> bool
     ensures { result ≡ has_name_of name.now stanza.now }
 {
     match field_at(stanza, b"name") {
@@ -169,10 +170,7 @@ fn repeated_name(before: &[List<Field>], stanza: &[Field]) -> Option<Fault>
 fn same_place(alloc: Global, before: &[List<Field>], stanza: &[Field]) -> Mem<Option<Fault>>
     ensures { IfOk result (λ fault. fault ≡ least_of (same_place_of before.now stanza.now)) }
 {
-    let Some(driver) = driver_in(stanza) else {
-        return Ok(None);
-    };
-    let Some(field) = field_at(stanza, place_key(driver)) else {
+    let Some(field) = place_in(stanza) else {
         return Ok(None);
     };
     let shares = shares_place(alloc, before, stanza)?;
@@ -193,53 +191,4 @@ fn shares_place(alloc: Global, before: &[List<Field>], stanza: &[Field]) -> Mem<
         rest = tail;
     }
     Ok(false)
-}
-
-// The third pass: the first stanza names databases.
-fn third_pass(stanzas: &[List<Field>]) -> Option<Fault>
-    ensures { result ≡ least_of (third_pass_of stanzas.now) }
-{
-    match stanzas {
-        [] => None,
-        [head, databases @ ..] => earlier(
-            unknown_database(head.as_slice(), b"config", databases),
-            unknown_database(head.as_slice(), b"templates", databases),
-        ),
-    }
-}
-
-fn unknown_database(head: &[Field], key: &[u8], databases: &[List<Field>]) -> Option<Fault>
-    ensures { result ≡ least_of (unknown_database_of key.now head.now databases.now) }
-{
-    match field_at(head, key) {
-        Some(field) => fault_if(
-            !is_named(databases, field.value.bytes()),
-            field.line,
-            ConfKind::UnknownDatabase,
-        ),
-        None => None,
-    }
-}
-
-// The fourth pass: no database is shared.
-fn fourth_pass(stanzas: &[List<Field>]) -> Option<Fault>
-    ensures { result ≡ least_of (fourth_pass_of stanzas.now) }
-{
-    match stanzas {
-        [] => None,
-        [head, ..] => shared_database(head.as_slice()),
-    }
-}
-
-fn shared_database(head: &[Field]) -> Option<Fault>
-    ensures { result ≡ least_of (shared_database_of head.now) }
-{
-    match field_at(head, b"templates") {
-        Some(field) => fault_if(
-            field.value.bytes() == value_at(head, b"config"),
-            field.line,
-            ConfKind::SharedDatabase,
-        ),
-        None => None,
-    }
 }

@@ -1,13 +1,16 @@
 // A configuration.
-ghost use Rattle.std.specs.Prelude.{◌≡◌, ◌∷◌, true, IfOk, codes, map as each};
-ghost use Rattle.std.specs.List.{AllByRecursion};
+ghost use Rattle.std.specs.Prelude.{◌≡◌, ◌∷◌, true, not, IfOk, codes, map as each};
+ghost use Rattle.std.specs.List.{AllByRecursion, filter, find};
+ghost use Rattle.std.specs.Str.{bytes_eq};
 ghost use Rattle.std.specs.Option.{option_copied};
 
 use crate::checking::find_fault;
 use crate::faults::ConfError;
 use crate::fields::{Field, field_at, value_at};
+use crate::naming::members;
+use crate::places::is_stack;
 use crate::reading::read_stanzas;
-use crate::spec::{LayerSort, LayerSpec};
+use crate::spec::{LayerSort, LayerSpec, StackSpec};
 use crate::values::{is_true, octal};
 use dc_text::{List, Mem, Text};
 use std::alloc::Global;
@@ -20,23 +23,26 @@ pub struct Conf {
     templates: Text,
     frontend: Option<Text>,
     priority: Option<Text>,
-    databases: List<LayerSpec>,
-    // The names of the databases.
+    // The names of the databases, in the order of the file.
     names: List<Text>,
+    // Those that hold items themselves.
+    specs: List<LayerSpec>,
+    stacks: List<StackSpec>,
 }
 
 impl Model for Conf {
-    ghost use Rattle.std.specs.Prelude.{◌≡◌, IsTrue, map as each};
-    ghost use Rattle.dc_conf.specs.Configuration.{Configuration, are_apart};
+    ghost use Rattle.std.specs.Prelude.{IsTrue};
+    ghost use Rattle.dc_conf.specs.Configuration.{Configuration, is_sound};
 
     ghost Value = { Configuration };
 
-    ghost view = { λ c. record { config = c.config; templates = c.templates; frontend = c.frontend; priority = c.priority; databases = c.databases } };
+    ghost view = { λ c. record { config = c.config; templates = c.templates; frontend = c.frontend; priority = c.priority; databases = c.names; specs = c.specs; stacks = c.stacks } };
 
-    ghost invariant = { λ c. (c.names ≡ each (λ spec. spec.name) c.databases) × IsTrue (are_apart c.databases) };
+    ghost invariant = { λ c. IsTrue (is_sound (record { config = c.config; templates = c.templates; frontend = c.frontend; priority = c.priority; databases = c.names; specs = c.specs; stacks = c.stacks })) };
 }
 
-ghost use Rattle.dc_conf.specs.Configuration.{IsAnswer, configuration, database_of, text_at as text_at_of, truth_at as truth_at_of, mode_at as mode_at_of, are_apart};
+ghost use Rattle.dc_conf.specs.Configuration.{IsAnswer, configuration, spec_of, stack_of, text_at as text_at_of, truth_at as truth_at_of, mode_at as mode_at_of, is_sound};
+ghost use Rattle.dc_conf.specs.ConfFaults.{value_at as value_in, is_stack as is_stack_of};
 
 impl Conf {
     /// The name of the database of questions.
@@ -67,17 +73,27 @@ impl Conf {
 
     /// The names of the databases, in the order of the file.
     pub fn databases(&self) -> &List<Text>
-        ensures { result.now ≡ each (λ spec. spec.name) self.now.databases }
+        ensures { result.now ≡ self.now.databases }
     {
         &self.names
     }
 
-    /// The databases. The places of no two of them meet.
+    /// The databases that hold items themselves.
     pub(crate) fn specs(&self) -> &[LayerSpec]
-        ensures value { result.now ≡ self.now.databases }
-        ensures apart { are_apart self.now.databases ≡ true }
+        ensures value { result.now ≡ self.now.specs }
+        ensures sound { is_sound self.now ≡ true }
     {
-        self.databases.as_slice()
+        self.specs.as_slice()
+    }
+
+    /// The stack of this name, if one has it.
+    pub(crate) fn stack(&self, name: &[u8]) -> Option<&StackSpec>
+        ensures { option_copied result ≡ find (λ stack. bytes_eq stack.name name.now) self.now.stacks }
+    {
+        self.stacks
+            .as_slice()
+            .iter()
+            .find(|stack| stack.name.bytes() == name)
     }
 }
 
@@ -97,34 +113,28 @@ pub fn read_conf(alloc: Global, bytes: &[u8]) -> Result<Conf, ConfError>
     Ok(conf)
 }
 
-ghost use Rattle.dc_conf.specs.Machine.{AreModes, IsModeField};
+ghost use Rattle.dc_conf.specs.Machine.{AreModes, HasMode, IsModeField};
 
 // The configuration of stanzas without faults.
 fn configure(alloc: Global, stanzas: &[List<Field>]) -> Mem<Conf>
     requires modes { AreModes stanzas.now }
-    requires apart { are_apart (configuration stanzas.now).databases ≡ true }
+    requires sound { is_sound (configuration stanzas.now) ≡ true }
     ensures { IfOk result (λ conf. conf ≡ configuration stanzas.now) }
 {
     match stanzas {
-        [] => Ok(Conf {
-            config: Text::new(alloc),
-            templates: Text::new(alloc),
-            frontend: None,
-            priority: None,
-            databases: List::new(alloc),
-            names: List::new(alloc),
-        }),
+        [] => unreachable!(),
         [head, databases @ ..] => configure_by(alloc, head.as_slice(), databases),
     }
 }
 
-fn configure_by(alloc: Global, head: &[Field], stanzas: &[List<Field>]) -> Mem<Conf>
-    requires modes { AllByRecursion IsModeField stanzas.now }
-    requires apart { are_apart (each database_of stanzas.now) ≡ true }
-    ensures { IfOk result (λ conf. conf ≡ configuration (head.now ∷ stanzas.now)) }
+fn configure_by(alloc: Global, head: &[Field], databases: &[List<Field>]) -> Mem<Conf>
+    requires modes { AllByRecursion HasMode databases.now }
+    requires sound { is_sound (configuration (head.now ∷ databases.now)) ≡ true }
+    ensures { IfOk result (λ conf. conf ≡ configuration (head.now ∷ databases.now)) }
 {
-    let databases = databases_of(alloc, stanzas)?;
-    let names = names_of(alloc, databases.as_slice())?;
+    let names = names_of(alloc, databases)?;
+    let specs = specs_of(alloc, databases)?;
+    let stacks = stacks_of(alloc, databases)?;
     let config = Text::from_bytes(alloc, value_at(head, b"config"))?;
     let templates = Text::from_bytes(alloc, value_at(head, b"templates"))?;
     let frontend = text_at(head, b"frontend")?;
@@ -134,39 +144,65 @@ fn configure_by(alloc: Global, head: &[Field], stanzas: &[List<Field>]) -> Mem<C
         templates,
         frontend,
         priority,
-        databases,
         names,
+        specs,
+        stacks,
     })
 }
 
-fn names_of(alloc: Global, specs: &[LayerSpec]) -> Mem<List<Text>>
-    ensures { IfOk result (λ names. names ≡ each (λ spec. spec.name) specs.now) }
+fn names_of(alloc: Global, databases: &[List<Field>]) -> Mem<List<Text>>
+    ensures { IfOk result (λ names. names ≡ each (value_in (codes "name")) databases.now) }
 {
     let mut names = List::new(alloc);
-    let mut rest = specs;
-    while let [spec, tail @ ..] = rest {
-        names.push(spec.name.copy()?)?;
+    let mut rest = databases;
+    while let [stanza, tail @ ..] = rest {
+        names.push(Text::from_bytes(alloc, value_at(stanza.as_slice(), b"name"))?)?;
         rest = tail;
     }
     Ok(names)
 }
 
-fn databases_of(alloc: Global, stanzas: &[List<Field>]) -> Mem<List<LayerSpec>>
-    requires { AllByRecursion IsModeField stanzas.now }
-    ensures { IfOk result (λ specs. specs ≡ each database_of stanzas.now) }
+// The databases that hold items themselves.
+fn specs_of(alloc: Global, databases: &[List<Field>]) -> Mem<List<LayerSpec>>
+    requires { AllByRecursion HasMode databases.now }
+    ensures { IfOk result (λ specs. specs ≡ each spec_of (filter (λ stanza. not (is_stack_of stanza)) databases.now)) }
 {
     let mut specs = List::new(alloc);
-    let mut rest = stanzas;
+    let mut rest = databases;
     while let [stanza, tail @ ..] = rest {
-        specs.push(read_database(alloc, stanza.as_slice())?)?;
+        if !is_stack(stanza.as_slice()) {
+            specs.push(read_database(alloc, stanza.as_slice())?)?;
+        }
         rest = tail;
     }
     Ok(specs)
 }
 
+fn stacks_of(alloc: Global, databases: &[List<Field>]) -> Mem<List<StackSpec>>
+    ensures { IfOk result (λ stacks. stacks ≡ each stack_of (filter is_stack_of databases.now)) }
+{
+    let mut stacks = List::new(alloc);
+    let mut rest = databases;
+    while let [stanza, tail @ ..] = rest {
+        if is_stack(stanza.as_slice()) {
+            stacks.push(read_stack(alloc, stanza.as_slice())?)?;
+        }
+        rest = tail;
+    }
+    Ok(stacks)
+}
+
+fn read_stack(alloc: Global, stanza: &[Field]) -> Mem<StackSpec>
+    ensures { IfOk result (λ stack. stack ≡ stack_of stanza.now) }
+{
+    let name = Text::from_bytes(alloc, value_at(stanza, b"name"))?;
+    let members = members(alloc, stanza)?;
+    Ok(StackSpec { name, members })
+}
+
 fn read_database(alloc: Global, stanza: &[Field]) -> Mem<LayerSpec>
     requires { IsModeField stanza.now }
-    ensures { IfOk result (λ spec. spec ≡ database_of stanza.now) }
+    ensures { IfOk result (λ spec. spec ≡ spec_of stanza.now) }
 {
     let name = Text::from_bytes(alloc, value_at(stanza, b"name"))?;
     let place = Text::from_bytes(alloc, value_at(stanza, b"filename"))?;

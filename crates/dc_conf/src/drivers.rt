@@ -8,9 +8,11 @@ use crate::values::is_word;
 pub enum Driver {
     /// One file holds it.
     File,
+    /// Other databases hold it, and are asked one after another.
+    Stack,
 }
 
-const DRIVERS: [Driver; 1] = [Driver::File];
+const DRIVERS: [Driver; 2] = [Driver::File, Driver::Stack];
 
 impl Driver {
     ghost use Rattle.dc_conf.specs.Values.{driver_of, driver_word};
@@ -31,6 +33,7 @@ impl Driver {
     {
         match self {
             Driver::File => b"file",
+            Driver::Stack => b"stack",
         }
     }
 }

@@ -46,7 +46,7 @@ pub struct Fault {
 #[derive(Clone, Copy, Debug, PartialEq, Eq, Error)]
 pub enum ConfError {
     /// The fault that decides: its line, counted from 1, and what it is.
-    #[error("bad configuration, line {line}")]
+    #[error("bad configuration")]
     Refused { line: u64, kind: ConfKind },
     #[error("out of memory")]
     OutOfMemory,

@@ -8,6 +8,7 @@ pub mod faults;
 mod fields;
 pub mod laws;
 mod least;
+mod naming;
 mod places;
 pub mod plans;
 mod reading;
@@ -19,7 +20,7 @@ mod values;
 pub use conf::{Conf, read_conf};
 pub use faults::{ConfError, ConfKind};
 pub use plans::{Base, Plan, ResolveError, Resolved};
-pub use spec::{LayerSort, LayerSpec};
+pub use spec::{LayerSort, LayerSpec, StackSpec};
 
 #[cfg(test)]
 mod tests;

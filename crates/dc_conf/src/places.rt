@@ -1,7 +1,8 @@
 // Where databases are kept.
 ghost use Rattle.std.specs.Prelude.{◌≡◌, ◌∷◌, ◌++◌, [], IfOk};
 ghost use Rattle.std.specs.List.{list_any};
-ghost use Rattle.dc_conf.specs.ConfFaults.{place_key as place_key_of, paths_of as paths_of_place, paths_in as paths_in_of, is_front, meet as meet_of, driver_in as driver_in_of};
+ghost use Rattle.std.specs.Option.{option_copied};
+ghost use Rattle.dc_conf.specs.ConfFaults.{place_in as place_in_of, file_paths as file_paths_of, paths_in as paths_in_of, is_stack as is_stack_of, is_front, meet as meet_of, driver_in as driver_in_of};
 
 use crate::drivers::Driver;
 use crate::fields::{Field, field_at};
@@ -18,40 +19,44 @@ pub fn driver_in(stanza: &[Field]) -> Option<Driver>
     }
 }
 
-/// The key of the field that says where a driver keeps its database.
-pub fn place_key(driver: Driver) -> &'static [u8]
-    ensures { result.now ≡ place_key_of driver }
+/// Whether the database is a stack.
+pub fn is_stack(stanza: &[Field]) -> bool
+    ensures { result ≡ is_stack_of stanza.now }
 {
-    match driver {
-        Driver::File => b"filename",
+    match driver_in(stanza) {
+        Some(Driver::Stack) => true,
+        Some(Driver::File) | None => false,
     }
 }
 
-/// The paths of a database, none where it has no driver or no place.
+/// The field that says where the database is kept, if its driver keeps one.
+pub fn place_in(stanza: &[Field]) -> Option<&Field>
+    ensures { option_copied result ≡ place_in_of stanza.now }
+{
+    match driver_in(stanza) {
+        Some(Driver::File) => field_at(stanza, b"filename"),
+        Some(Driver::Stack) | None => None,
+    }
+}
+
+/// The paths of a database, none where it isn't kept in a place.
 pub fn paths_in(alloc: Global, stanza: &[Field]) -> Mem<List<Text>>
     ensures { IfOk result (λ paths. paths ≡ paths_in_of stanza.now) }
 {
-    let Some(driver) = driver_in(stanza) else {
-        return Ok(List::new(alloc));
-    };
-    match field_at(stanza, place_key(driver)) {
-        Some(field) => paths_of(alloc, driver, field.value.bytes()),
+    match place_in(stanza) {
+        Some(field) => file_paths(alloc, field.value.bytes()),
         None => Ok(List::new(alloc)),
     }
 }
 
-fn paths_of(alloc: Global, driver: Driver, place: &[u8]) -> Mem<List<Text>>
-    ensures { IfOk result (λ paths. paths ≡ paths_of_place driver place.now) }
+fn file_paths(alloc: Global, place: &[u8]) -> Mem<List<Text>>
+    ensures { IfOk result (λ paths. paths ≡ file_paths_of place.now) }
 {
-    match driver {
-        Driver::File => {
-            let mut paths = List::new(alloc);
-            paths.push(Text::from_bytes(alloc, place)?)?;
-            paths.push(beside(alloc, place, b"-new")?)?;
-            paths.push(beside(alloc, place, b"-old")?)?;
-            Ok(paths)
-        }
-    }
+    let mut paths = List::new(alloc);
+    paths.push(Text::from_bytes(alloc, place)?)?;
+    paths.push(beside(alloc, place, b"-new")?)?;
+    paths.push(beside(alloc, place, b"-old")?)?;
+    Ok(paths)
 }
 
 fn beside(alloc: Global, place: &[u8], end: &[u8]) -> Mem<Text>

@@ -1,13 +1,15 @@
 // Which values the fields of a database take, and which fields it needs.
 ghost use Rattle.std.specs.Prelude.{◌≡◌, []};
 ghost use Rattle.std.specs.Option.{option_map_or};
-ghost use Rattle.dc_conf.specs.Values.{driver_rules, layer_rules, pattern_rules, rules_of, switch_rules};
+ghost use Rattle.dc_conf.specs.Values.{driver_rules, layer_rules, no_layer_rules, pattern_rules, rules_of, switch_rules};
 ghost use Rattle.dc_conf.specs.ConfFaults.{is_bad as is_bad_by, lacks_field as lacks_field_of};
 ghost use Rattle.dc_conf.specs.declared.drivers.Driver.TheVariants as driver;
 
 use crate::drivers::Driver;
 use crate::fields::{Field, is_there};
-use crate::values::{is_boolean, is_database_name, is_format, is_mode, is_path, is_utf8};
+use crate::values::{
+    has_names, is_boolean, is_database_name, is_format, is_mode, is_path, is_utf8,
+};
 
 /// Whether a field that the driver needs is missing.
 pub fn lacks_field(driver: Option<Driver>, stanza: &[Field]) -> bool
@@ -15,6 +17,7 @@ pub fn lacks_field(driver: Option<Driver>, stanza: &[Field]) -> bool
 {
     match driver {
         Some(Driver::File) => !is_there(stanza, b"filename"),
+        Some(Driver::Stack) => !is_there(stanza, b"stack"),
         None => false,
     }
 }
@@ -36,6 +39,7 @@ fn is_bad_for(driver: Option<Driver>, field: &Field) -> bool
 {
     match driver {
         Some(Driver::File) => is_bad_in_file(field),
+        Some(Driver::Stack) => is_bad_in_stack(field),
         None => false,
     }
 }
@@ -49,6 +53,26 @@ fn is_bad_in_file(field: &Field) -> bool
         || (b"mode".as_slice() == key && !is_mode(value))
         || (b"backup".as_slice() == key && !is_boolean(value))
         || is_bad_in_layer(field)
+}
+
+fn is_bad_in_stack(field: &Field) -> bool
+    ensures { result ≡ is_bad_by (driver_rules driver.Stack) field.now }
+{
+    (b"stack".as_slice() == field.key.bytes() && !has_names(field.value.bytes()))
+        || is_of_layer(field)
+}
+
+// A field that only a database that holds items itself may have.
+fn is_of_layer(field: &Field) -> bool
+    ensures { result ≡ is_bad_by no_layer_rules field.now }
+{
+    let key = field.key.bytes();
+    b"required".as_slice() == key
+        || b"readonly".as_slice() == key
+        || b"accept-name".as_slice() == key
+        || b"reject-name".as_slice() == key
+        || b"accept-type".as_slice() == key
+        || b"reject-type".as_slice() == key
 }
 
 fn is_bad_in_layer(field: &Field) -> bool

@@ -70,6 +70,46 @@ fn faults_of_databases(rt: HostRuntime) {
     }
 }
 
+// The fault of a stack of these fields, whose stanza begins on line 12, over the files a, of line 4, and t, of line 8. It is the
+// database of questions.
+fn fault_of_stack(alloc: Global, templates: &str, fields: &str) -> Option<(u64, ConfKind)> {
+    let files = "Name: a\nDriver: File\nFilename: a\n\nName: t\nDriver: File\nFilename: t\n";
+    let text = format!(in alloc;
+        "Config: s\nTemplates: {templates}\n\n{files}\nName: s\nDriver: Stack\n{fields}\n"
+    ).ok()?;
+    fault_of(alloc, text.as_str())
+}
+
+#[test]
+fn faults_of_stacks(rt: HostRuntime) {
+    let alloc = rt.alloc();
+    for (templates, fields, found) in [
+        ("t", "Stack: a", None),
+        ("t", "Stack: \t,a,,", None),
+        ("a", "Stack: t\nMode: x\nFilename: a", None),
+        ("t", "", Some((12, ConfKind::MissingField))),
+        ("t", "Stack: ,", Some((14, ConfKind::BadValue))),
+        (
+            "t",
+            "Stack: a\nReadonly: true",
+            Some((15, ConfKind::BadValue)),
+        ),
+        (
+            "t",
+            "Stack: a\nAccept-Name: x",
+            Some((15, ConfKind::BadValue)),
+        ),
+        ("t", "Stack: a A", Some((14, ConfKind::UnknownDatabase))),
+        ("t", "Stack: s", Some((14, ConfKind::Nested))),
+        ("t", "Stack: a a", Some((14, ConfKind::SharedDatabase))),
+        ("t", "Stack: a, t", Some((2, ConfKind::SharedDatabase))),
+        ("s", "Stack: a", Some((2, ConfKind::SharedDatabase))),
+    ] {
+        let fault = fault_of_stack(alloc, templates, fields);
+        assert_eq!(rt; fault, found, "{fields:?}");
+    }
+}
+
 // The fault where the second database, of this name, has this place and this line behind it.
 fn fault_at(alloc: Global, name: &str, place: &str, more: &str) -> Option<(u64, ConfKind)> {
     let fields = format!(in alloc; "Name: {name}\nDriver: File\nFilename: {place}\n{more}").ok()?;
@@ -154,8 +194,26 @@ fn resolved(alloc: Global, words: &[&str]) -> Option<Text> {
 
 fn conf_of(alloc: Global) -> Option<Conf> {
     let text =
-        "# Debconf\nConfig: config\nTemplates: templates\n\nName: config\n# here\nDriver: File\nMode: 644\nReject-Type: password\nFilename: /var/cache/debconf/config.dat\n\nName: passwords\nDriver: File\nMode: 0600\nBackup: False\nRequired: FALSE\nReadonly: True\nAccept-Type: password\nFilename: /var/cache/debconf/passwords.dat\n \nName: templates\nDriver: File\nFilename: /var/cache/debconf/templates.dat\n";
+        "# Debconf\nConfig: configdb\nTemplates: templates\n\nName: config\n# here\nDriver: File\nMode: 644\nReject-Type: password\nFilename: /var/cache/debconf/config.dat\n\nName: passwords\nDriver: File\nMode: 0600\nBackup: False\nRequired: FALSE\nReadonly: True\nAccept-Type: password\nFilename: /var/cache/debconf/passwords.dat\n \nName: configdb\nDriver: Stack\nStack: passwords, config\n\nName: templates\nDriver: File\nFilename: /var/cache/debconf/templates.dat\n";
     read_conf(alloc, text.as_bytes()).ok()
+}
+
+// The places of a database, with a comma behind each of a stack's.
+fn shown_base(alloc: Global, base: &Base) -> Option<Text> {
+    let mut text = Text::new(alloc);
+    match base {
+        Base::Leaf(place) => {
+            let place = format!(in alloc; "{place}").ok()?;
+            text.append(place.as_bytes()).ok()?;
+        }
+        Base::Stack(places) => {
+            for place in places.as_slice() {
+                let place = format!(in alloc; "{place},").ok()?;
+                text.append(place.as_bytes()).ok()?;
+            }
+        }
+    }
+    Some(text)
 }
 
 fn shown_all(alloc: Global, resolved: &Resolved) -> Option<Text> {
@@ -165,10 +223,8 @@ fn shown_all(alloc: Global, resolved: &Resolved) -> Option<Text> {
         text.push(b'\n').ok()?;
     }
     for plan in resolved.plans.as_slice() {
-        if let Base::Leaf(place) = plan.base {
-            let leaf = format!(in alloc; "{place} ").ok()?;
-            text.append(leaf.as_bytes()).ok()?;
-        }
+        text.append(shown_base(alloc, &plan.base)?.bytes()).ok()?;
+        text.push(b' ').ok()?;
     }
     Some(text)
 }
@@ -179,6 +235,15 @@ fn names_are_resolved(rt: HostRuntime) {
     let all = resolved(alloc, &["templates", "config", "templates"]).expect(&rt, "ample memory");
     let wanted =
         "config /var/cache/debconf/config.dat 644 true false true\ntemplates /var/cache/debconf/templates.dat 600 true false true\n1 0 1 ";
+    assert_eq!(rt; all.bytes(), wanted.as_bytes());
+}
+
+#[test]
+fn stacks_are_resolved(rt: HostRuntime) {
+    let alloc = rt.alloc();
+    let all = resolved(alloc, &["configdb", "templates"]).expect(&rt, "ample memory");
+    let wanted =
+        "config /var/cache/debconf/config.dat 644 true false true\npasswords /var/cache/debconf/passwords.dat 600 false true false\ntemplates /var/cache/debconf/templates.dat 600 true false true\n1,0, 2 ";
     assert_eq!(rt; all.bytes(), wanted.as_bytes());
 }
 

@@ -1,9 +1,14 @@
 // The values that fields of a configuration take (debconf.conf(5)).
-ghost use Rattle.std.specs.Prelude.{◌≡◌, ◌==◌, true, nat_le, ◌&&◌, map as each};
+ghost use Rattle.std.specs.Prelude.{◌≡◌, ◌==◌, ◌++◌, true, nat_le, ◌&&◌, map as each, IfOk};
 ghost use Rattle.std.specs.List.{list_all, slice_split};
 ghost use Rattle.std.specs.Str.{bytes_eq, is_utf8 as is_utf8_of};
 ghost use Rattle.dc_text.specs.Bytes.{lower};
-ghost use Rattle.dc_conf.specs.Values.{is_boolean as is_boolean_of, is_true as is_true_of, is_mode as is_mode_of, is_octal_digit as is_octal_digit_of, octal as octal_of, is_path as is_path_of, is_path_part as is_path_part_of, without_slash as without_slash_of, is_database_name as is_database_name_of, is_database_byte as is_database_byte_of, is_format as is_format_of};
+ghost use Rattle.dc_conf.specs.Values.{is_boolean as is_boolean_of, is_true as is_true_of, is_mode as is_mode_of, is_octal_digit as is_octal_digit_of, octal as octal_of, is_path as is_path_of, is_path_part as is_path_part_of, without_slash as without_slash_of, is_database_name as is_database_name_of, is_database_byte as is_database_byte_of, is_format as is_format_of, names_in as names_in_of, has_names as has_names_of, spaced as spaced_of};
+
+use dc_text::bytes::is_space;
+use dc_text::{List, Mem, Text};
+use dc_words::plain_words;
+use std::alloc::Global;
 
 /// `true` or `false`, read without regard to case.
 pub fn is_boolean(value: &[u8]) -> bool
@@ -130,6 +135,41 @@ fn is_letter(byte: u8) -> bool
     ensures { result ≡ (nat_le 97 (lower byte) && nat_le (lower byte) 122) }
 {
     (b'a' <= byte && byte <= b'z') || (b'A' <= byte && byte <= b'Z')
+}
+
+/// The names of a list, which commas and whitespace part.
+pub fn names_in(alloc: Global, value: &[u8]) -> Mem<List<Text>>
+    ensures { IfOk result (λ names. names ≡ names_in_of value.now) }
+{
+    let words = with_spaces(alloc, value)?;
+    plain_words(alloc, words.bytes())
+}
+
+// The bytes, with a space in the place of each comma.
+fn with_spaces(alloc: Global, value: &[u8]) -> Mem<Text>
+    ensures { IfOk result (λ text. text ≡ each spaced_of value.now) }
+{
+    let mut text = Text::new(alloc);
+    let mut rest = value;
+    while let [byte, tail @ ..] = rest {
+        text.push(spaced(*byte))?;
+        rest = tail;
+    }
+    Ok(text)
+}
+
+// A comma as a space.
+fn spaced(byte: u8) -> u8
+    ensures { result ≡ spaced_of byte }
+{
+    if byte == b',' { b' ' } else { byte }
+}
+
+/// Whether the list has a name.
+pub fn has_names(value: &[u8]) -> bool
+    ensures { result ≡ has_names_of value.now }
+{
+    value.iter().any(|byte| !is_space(spaced(*byte)))
 }
 
 /// The one format that there is.

@@ -10,7 +10,7 @@ use Rattle.std.proofs.lemmas.Map.Text.{is_eq-slice_cmp}
 use Rattle.std.specs.FinMap.{get, insert, remove, contains_key, empty, entries, keys, contains_key-keys, get-empty, get-insert, get-remove}
 use Rattle.dc_text.specs.Maps.{TextSet, text_cmp}
 use Rattle.dc_text.specs.Names.{is_name}
-use Rattle.dc_item.specs.Item.{Parts}
+use Rattle.dc_item.specs.Item.{ItemParts}
 use Rattle.dc_item.proofs.ItemLemmas.{same_key}
 use Rattle.dc_layer.specs.State.{Table}
 
@@ -19,9 +19,9 @@ abbrev pub AreNamed : Table → Type 0
 AreNamed m = (name : List ℕ) → contains_key m name ≡ true → is_name name ≡ true
 
 pub are_named_empty : AreNamed empty
-are_named_empty name e = absurd (let none : contains_key (empty {K = List ℕ} {X = Parts} {R = text_cmp}) name ≡ false = ap is_some (get-empty text_cmp name) in cc)
+are_named_empty name e = absurd (let none : contains_key (empty {K = List ℕ} {X = ItemParts} {R = text_cmp}) name ≡ false = ap is_some (get-empty text_cmp name) in cc)
 
-pub are_named_insert : (m : Table) (k : List ℕ) (v : Parts) → AreNamed m → is_name k ≡ true → AreNamed (insert m k v)
+pub are_named_insert : (m : Table) (k : List ℕ) (v : ItemParts) → AreNamed m → is_name k ≡ true → AreNamed (insert m k v)
 are_named_insert m k v named is name e =
     elim (eq_by_cmp text_cmp name k) as (λ b. eq_by_cmp text_cmp name k ≡ b → is_some (cond b (Some v) (get m name)) ≡ true → is_name name ≡ true) [
       | true ↦ λ t _. ap is_name (same_key name k t) ∙ is
@@ -35,7 +35,7 @@ are_named_remove m k named name e =
       | false ↦ λ here. named name here
     ] (sym (ap is_some (get-remove nat_list_cmp_total m k name)) ∙ e)
 
-pub are_named_either : {T E : Type 0} (r : Result T E) (old new : Table) (k : List ℕ) (v : Parts) → OnOk r (new ≡ insert old k v) → OnErr r (new ≡ old) → AreNamed old → is_name k ≡ true → AreNamed new
+pub are_named_either : {T E : Type 0} (r : Result T E) (old new : Table) (k : List ℕ) (v : ItemParts) → OnOk r (new ≡ insert old k v) → OnErr r (new ≡ old) → AreNamed old → is_name k ≡ true → AreNamed new
 are_named_either (Ok x) old new k v ok err named is = subst AreNamed (sym ok) (are_named_insert old k v named is)
 are_named_either (Err e) old new k v ok err named is = subst AreNamed (sym err) named
 
@@ -60,5 +60,5 @@ contains_key-any s q = contains_key-keys s q ∙ any-same (keys s) where
   any-same (k ∷ ks) = (λ i. is_eq-slice_cmp q k i || any-same ks i)
 
 -- the names of entries, as a map shows them
-abbrev pub firsts : List (List ℕ × Parts) → List (List ℕ)
+abbrev pub firsts : List (List ℕ × ItemParts) → List (List ℕ)
 firsts entries = each (λ e. e.0) entries

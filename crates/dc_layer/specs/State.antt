@@ -7,7 +7,7 @@ use Rattle.std.specs.FinMap as map
 use Rattle.std.specs.Coded.{Coded, coded_list, coded_ℕ}
 use Rattle.dc_text.specs.Bytes.{is_nil}
 use Rattle.dc_text.specs.Maps.{Texts}
-use Rattle.dc_item.specs.Item.{Parts, parts_code}
+use Rattle.dc_item.specs.Item.{ItemParts, parts_code}
 use Rattle.dc_item.specs.After.{after_at}
 use Rattle.dc_item.specs.Printed.{table_text}
 use Rattle.dc_item.specs.declared.op.Op.{Op}
@@ -26,7 +26,7 @@ use Rattle.dc_layer.specs.Rules.{rules_of, accepts}
 
 -- a table: a finite map from names to items
 abbrev pub Table : Type 0
-Table = Texts Parts
+Table = Texts ItemParts
 
 -- a table as data
 abbrev pub table_code : Coded Table
@@ -49,12 +49,12 @@ abbrev pub set_up : LayerState → LayerSpec → LayerState
 set_up layer spec = record layer { spec = Some spec }
 
 -- with one more item that was loaded
-abbrev pub taken_in : LayerState → List ℕ → Parts → LayerState
+abbrev pub taken_in : LayerState → List ℕ → ItemParts → LayerState
 taken_in layer name item = record layer { table = map.insert layer.table name item }
 
--- left out
+-- left out: without items, and with nothing that a file would be asked for
 abbrev pub without_items : LayerState → LayerState
-without_items layer = record layer { table = map.empty; left_out = true }
+without_items layer = record layer { table = map.empty; touched = []; left_out = true }
 
 -- ---- what it takes
 
@@ -95,7 +95,7 @@ with_made layer name (Changed item) = record layer { table = map.insert layer.ta
 with_made layer name Gone = record layer { table = map.remove layer.table name; touched = touch layer.touched name }
 
 -- the names of the items that have the owner, in byte order
-abbrev pub owned_in : List (List ℕ × Parts) → List ℕ → List (List ℕ)
+abbrev pub owned_in : List (List ℕ × ItemParts) → List ℕ → List (List ℕ)
 owned_in [] owner = []
 owned_in (entry ∷ entries) owner = if map.contains_key entry.1.owners owner then entry.0 ∷ owned_in entries owner else owned_in entries owner
 

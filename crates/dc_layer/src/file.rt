@@ -80,7 +80,7 @@ fn remove_touched(table: &mut ItemTable, touched: &mut IndexSet<Vec<u8>>, name: 
     Ok(())
 }
 
-fn is_put_op(op: &Op) -> bool
+pub(crate) fn is_put_op(op: &Op) -> bool
     ensures { result ≡ is_put op.now }
 {
     matches!(op, Op::Put(_))
@@ -150,6 +150,7 @@ impl Layer for FileLayer {
 
     fn leave_out(&mut self) {
         self.table = ItemTable::new(self.alloc);
+        self.touched = IndexSet::new(self.alloc);
         self.left_out = true;
     }
 
@@ -159,6 +160,10 @@ impl Layer for FileLayer {
 
     fn item(&self, name: &Name) -> Option<&Item> {
         self.table.get(name.bytes())
+    }
+
+    fn seek(&self, name: &[u8]) -> Option<&Item> {
+        self.table.get(name)
     }
 
     fn writable(&self) -> bool {

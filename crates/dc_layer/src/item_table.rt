@@ -115,7 +115,8 @@ fn name_of(alloc: Global, bytes: &[u8]) -> Mem<Name>
     }
 }
 
-fn is_owned(item: &Item, owner: &Name) -> bool
+/// Whether the item has the owner.
+pub fn is_owned(item: &Item, owner: &Name) -> bool
     ensures { result ≡ map.contains_key item.now.owners owner.now }
 {
     is_among(owner.bytes(), item.owners().as_slice())

@@ -70,14 +70,20 @@ pub trait Layer: Drop {
     fn keep_old(&mut self, text: Text)
         ensures { state self.new ≡ record (state self.old) { old = Some text } };
 
-    /// Leaves the layer out: it is empty and takes no change.
+    /// Leaves the layer out: it is empty, takes no change and asks for no files.
     fn leave_out(&mut self)
-        ensures { state self.new ≡ without_items (state self.old) };
+        ensures left { state self.new ≡ without_items (state self.old) }
+        ensures closed { is_writable (state self.new) ≡ false }
+        ensures silent { images_of (state self.new) ≡ [] };
 
     fn has(&self, name: &Name) -> bool
         ensures { result ≡ map.contains_key (state self.now).table name.now };
 
     fn item(&self, name: &Name) -> Option<&Item>
+        ensures { option_copied result ≡ map.get (state self.now).table name.now };
+
+    /// The item whose name the bytes are. They needn't be a name, as where a field names an item.
+    fn seek(&self, name: &[u8]) -> Option<&Item>
         ensures { option_copied result ≡ map.get (state self.now).table name.now };
 
     fn writable(&self) -> bool

@@ -10,12 +10,15 @@ pub mod pattern;
 mod plain;
 pub mod rules;
 mod set_up;
+pub mod tired;
 
 pub use file::FileLayer;
 pub use image::Image;
+pub use item_table::is_owned;
 pub use layer::{Layer, LayerError, Taken};
 pub use pattern::{Pattern, PatternError};
 pub use rules::LayerRules;
+pub use tired::TiredLayer;
 
 #[cfg(test)]
 mod layer_tests;

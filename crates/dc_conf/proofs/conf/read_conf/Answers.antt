@@ -1,9 +1,9 @@
 use Rattle.std.proofs.Common.{◌≡◌, true, None, List, sym, ap, ◌∙◌, subst}
 use Rattle.std.proofs.lemmas.Result.{err_from_is_err_and}
 use Rattle.dc_conf.specs.Stanzas.{Stanza}
-use Rattle.dc_conf.specs.Configuration.{are_apart, configuration}
+use Rattle.dc_conf.specs.Configuration.{configuration, is_sound}
 use Rattle.dc_conf.specs.Machine.{Rise, decided, later_passes, AreModes}
-use Rattle.dc_conf.proofs.AnswerLemmas.{ok_read, error_is, fault_is, none_is, modes_read, apart_read}
+use Rattle.dc_conf.proofs.AnswerLemmas.{ok_read, error_is, fault_is, none_is, modes_read, sound_read}
 use Rattle.dc_conf.proofs.TestLemmas.{not_some}
 use Rattle.dc_conf.proofs.conf.read_conf.Goals as goal
 
@@ -26,7 +26,7 @@ configure-requires c =
     ap (λ (ss : List Stanza). decided (later_passes ss)) (sym c.as_slice.ensures) ∙ sym c.in_ok-fault.ensures ∙ not_some _ c.in_default.not-Some in
     record {
       modes = subst AreModes (sym c.as_slice-2.ensures) (modes_read c.in_ok-stanzas.stanzas none);
-      apart = subst (λ (ss : List Stanza). are_apart (configuration ss).databases ≡ true) (sym c.as_slice-2.ensures) (apart_read c.in_ok-stanzas.stanzas none);
+      sound = subst (λ (ss : List Stanza). is_sound (configuration ss) ≡ true) (sym c.as_slice-2.ensures) (sound_read c.in_ok-stanzas.stanzas none);
     }
 
 pub returns : goal.returns

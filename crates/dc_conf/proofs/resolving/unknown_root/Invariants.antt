@@ -4,7 +4,7 @@ use Rattle.dc_conf.proofs.resolving.unknown_root.Given as goal
 
 abbrev pub invariant-loop-rest : goal.invariant-loop-rest
 invariant-loop-rest l = record {
-  found : unknown_from l.specs l.place l.rest ≡ unknown_from l.specs 0 l.roots;
+  found : unknown_from l.databases l.place l.rest ≡ unknown_from l.databases 0 l.roots;
   counted : l.place + length l.rest ≡ length l.roots;
 }
 
