@@ -1,7 +1,8 @@
 -- The command lines of the confmodule protocol, version 2 (debconf-devel(7)).
-use Rattle.std.specs.Prelude.{ℕ, Bool, false, ◌==◌, List, [], ◌∷◌, ◌++◌, map, if◌then◌else◌, codes}
-use Rattle.std.specs.List.{flat_map}
+use Rattle.std.specs.Prelude.{ℕ, Bool, false, ◌==◌, List, [], ◌∷◌, map, if◌then◌else◌, codes}
+use Rattle.std.specs.List.{join_by}
 use Rattle.std.specs.Str.{bytes_eq}
+use Rattle.dc_text.specs.Ascii.{space, hash}
 use Rattle.dc_text.specs.Bytes.{lower}
 use Rattle.dc_words.specs.Escaped.{escaped_words_of}
 use Rattle.dc_text.specs.Names.{is_flag_name, is_variable_key}
@@ -18,9 +19,8 @@ abbrev pub words_of : Bool → List ℕ → List (List ℕ)
 words_of escape line = if escape then escaped_words_of line else plain_words_of line
 
 -- the words that are left make a value: joined by one space
-abbrev pub value_of : List (List ℕ) → List ℕ
-value_of [] = []
-value_of (word ∷ words) = word ++ flat_map (λ later. 32 ∷ later) words
+abbrev pub joined_value : List (List ℕ) → List ℕ
+joined_value words = join_by (λ word. word) (space ∷ []) words
 
 -- ---- the arguments of each command; where there are others, their number is wrong
 
@@ -31,7 +31,7 @@ get arguments = Refused wrong_number
 
 -- SET question value
 abbrev pub set : List (List ℕ) → Heard
-set (question ∷ value) = Known (Set question (value_of value))
+set (question ∷ value) = Known (Set question (joined_value value))
 set arguments = Refused wrong_number
 
 -- RESET question
@@ -41,7 +41,7 @@ reset arguments = Refused wrong_number
 
 -- SUBST question key value
 abbrev pub subst : List (List ℕ) → Heard
-subst (question ∷ key ∷ value) = if is_variable_key key then Known (Subst question key (value_of value)) else Refused bad_name
+subst (question ∷ key ∷ value) = if is_variable_key key then Known (Subst question key (joined_value value)) else Refused bad_name
 subst arguments = Refused wrong_number
 
 -- FGET question flag
@@ -90,7 +90,7 @@ heard_words (word ∷ arguments) = read_by commands (map lower word) arguments
 -- begins with `#`
 abbrev pub is_comment : List ℕ → Bool
 is_comment [] = false
-is_comment (byte ∷ bytes) = byte == 35
+is_comment (byte ∷ bytes) = byte == hash
 
 -- what a line says
 abbrev pub heard : Bool → List ℕ → Heard

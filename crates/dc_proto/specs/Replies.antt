@@ -1,5 +1,6 @@
 -- The replies of the confmodule protocol, version 2 (debconf-devel(7)): a code, and a text that may be empty.
 use Rattle.std.specs.Prelude.{ℕ, Bool, List, [], ◌∷◌, ◌++◌, if◌then◌else◌, codes, decimal}
+use Rattle.dc_text.specs.Ascii.{space, newline}
 use Rattle.dc_text.specs.Settled.{newlines_shown}
 use Rattle.dc_words.specs.Escaped.{escaped}
 use Rattle.dc_proto.specs.declared.reply.Reply.{Reply}
@@ -30,8 +31,8 @@ in_one_line escape text = if escape then escaped text else newlines_shown text
 -- a space and the text, where it isn't empty
 abbrev pub told_text : Bool → List ℕ → List ℕ
 told_text escape [] = []
-told_text escape (byte ∷ text) = 32 ∷ in_one_line escape (byte ∷ text)
+told_text escape (byte ∷ text) = space ∷ in_one_line escape (byte ∷ text)
 
 -- the line that a reply is sent as: the code in decimal, the text and a newline
 abbrev pub printed : Bool → Reply → List ℕ
-printed escape reply = decimal reply.code ++ told_text escape reply.text ++ 10 ∷ []
+printed escape reply = decimal reply.code ++ told_text escape reply.text ++ newline ∷ []

@@ -1,7 +1,8 @@
 // What the arguments of each command say.
 ghost use Rattle.std.specs.Prelude.{◌≡◌, ◌∷◌, ◌++◌, IfOk, OnOk};
 ghost use Rattle.std.specs.List.{flat_map};
-ghost use Rattle.dc_proto.specs.Commands.{get, set, reset, subst, fget, fset, metaget, value_of};
+ghost use Rattle.dc_text.specs.Ascii.{space};
+ghost use Rattle.dc_proto.specs.Commands.{get, set, reset, subst, fget, fset, metaget, joined_value};
 ghost use Rattle.dc_proto.specs.Replies.{reply as reply_of};
 
 use crate::command::{Command, Heard};
@@ -131,7 +132,7 @@ pub fn read_metaget(alloc: Global, arguments: &[Text]) -> Mem<Heard>
 
 // The words joined by one space.
 fn join(alloc: Global, words: &[Text]) -> Mem<Text>
-    ensures { IfOk result (λ value. value ≡ value_of words.now) }
+    ensures { IfOk result (λ value. value ≡ joined_value words.now) }
 {
     let mut value = Text::new(alloc);
     if let [first, rest @ ..] = words {
@@ -143,7 +144,7 @@ fn join(alloc: Global, words: &[Text]) -> Mem<Text>
 
 // Each word behind a space.
 fn append_spaced(value: &mut Text, words: &[Text]) -> Mem<()>
-    ensures { OnOk result (value.new ≡ value.old ++ flat_map (λ later. 32 ∷ later) words.now) }
+    ensures { OnOk result (value.new ≡ value.old ++ flat_map (λ later. space ∷ later) words.now) }
 {
     for word in words {
         value.push(b' ')?;

@@ -5,7 +5,7 @@ use Rattle.std.specs.Str.{bytes_eq}
 use Rattle.std.specs.FinMap as map
 use Rattle.dc_words.specs.Choices.{choices_of}
 use Rattle.dc_text.specs.Maps.{Texts}
-use Rattle.dc_item.specs.Item.{Parts}
+use Rattle.dc_item.specs.Item.{ItemParts}
 use Rattle.dc_template.specs.Expansion.{expanded}
 use Rattle.dc_template.specs.Forms.{is_field_of, is_description, is_extended}
 use Rattle.dc_template.specs.Kinds.{kind_of}
@@ -16,11 +16,11 @@ use Rattle.dc_question.specs.declared.choices.ChoicePair.{ChoicePair}
 -- ---- the template
 
 -- the template of a question: the item that its field `template` names
-abbrev pub template_of : Texts Parts → Parts → Option Parts
+abbrev pub template_of : Texts ItemParts → ItemParts → Option ItemParts
 template_of templates question = option_and_then (λ name. map.get templates name) (map.get question.fields (codes "template"))
 
 -- the kind of a question: what the field `type` of its template says
-abbrev pub kind_by : Option Parts → Option Kind
+abbrev pub kind_by : Option ItemParts → Option Kind
 kind_by template = option_and_then (λ item. option_and_then kind_of (map.get item.fields (codes "type"))) template
 
 -- ---- fields
@@ -35,7 +35,7 @@ abbrev pub keys_of : List ℕ → List ℕ → List (List ℕ)
 keys_of lang key = if bytes_eq key (codes "type") then key ∷ [] else keys_tried_of lang key
 
 -- a field of a template in the user's language
-abbrev pub localised : List ℕ → Parts → List ℕ → Option (List ℕ)
+abbrev pub localised : List ℕ → ItemParts → List ℕ → Option (List ℕ)
 localised lang template key = first_of_keys template.fields (keys_of lang key)
 
 -- the fields whose text may refer to the question's variables: descriptions, extended descriptions and choices
@@ -43,31 +43,31 @@ abbrev pub has_references : List ℕ → Bool
 has_references key = is_description key || (is_extended key || is_field_of (codes "choices") key)
 
 -- the text of a field with the question's variables put in
-abbrev pub filled_in : Parts → List ℕ → List ℕ → List ℕ
+abbrev pub filled_in : ItemParts → List ℕ → List ℕ → List ℕ
 filled_in question key text = if has_references key then expanded question.variables text else text
 
 -- a field of the template in the user's language, with the question's variables put in
-abbrev pub field_of : List ℕ → Parts → Parts → List ℕ → Option (List ℕ)
+abbrev pub field_of : List ℕ → ItemParts → ItemParts → List ℕ → Option (List ℕ)
 field_of lang question template key = option_map (filled_in question key) (localised lang template key)
 
 -- ---- values
 
 -- the default that a template gives
-abbrev pub default_of : List ℕ → Option Parts → Option (List ℕ)
+abbrev pub default_of : List ℕ → Option ItemParts → Option (List ℕ)
 default_of lang template = option_and_then (λ item. localised lang item (codes "default")) template
 
 -- the value of a question: its own, else the default in the user's language, else the empty text
-abbrev pub value_of : List ℕ → Parts → Option Parts → List ℕ
+abbrev pub value_of : List ℕ → ItemParts → Option ItemParts → List ℕ
 value_of lang question template = unwrap_or (option_or (map.get question.fields (codes "value")) (default_of lang template)) []
 
 -- ---- choices
 
 -- the choices that values are made of, which are in no language
-abbrev pub plain_choices : Parts → Parts → List (List ℕ)
+abbrev pub plain_choices : ItemParts → ItemParts → List (List ℕ)
 plain_choices question template = choices_of (filled_in question (codes "choices") (unwrap_or (map.get template.fields (codes "choices")) []))
 
 -- the choices as the user reads them
-abbrev pub shown_choices : List ℕ → Parts → Parts → List (List ℕ)
+abbrev pub shown_choices : List ℕ → ItemParts → ItemParts → List (List ℕ)
 shown_choices lang question template = choices_of (unwrap_or (field_of lang question template (codes "choices")) [])
 
 -- labels pair with plain choices where there are as many, and else the plain choices are their own labels
@@ -75,5 +75,5 @@ abbrev pub paired : List (List ℕ) → List (List ℕ) → ChoicePair
 paired plain labels = record { plain = plain; labels = if nat_eq (length labels) (length plain) then labels else plain }
 
 -- the choices of a question, each with its label
-abbrev pub choices_by : List ℕ → Parts → Parts → ChoicePair
+abbrev pub choices_by : List ℕ → ItemParts → ItemParts → ChoicePair
 choices_by lang question template = paired (plain_choices question template) (shown_choices lang question template)

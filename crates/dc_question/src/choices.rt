@@ -2,9 +2,9 @@
 ghost use Rattle.std.specs.Prelude.{◌≡◌, IfOk, codes};
 ghost use Rattle.dc_question.specs.Readings.{plain_choices, shown_choices, choices_by};
 
-use crate::fields::{field, fill_in, known_key};
+use crate::fields::{field, fill_in};
 use dc_item::Item;
-use dc_text::{List, Mem, Text};
+use dc_text::{FieldKey, List, Mem, Text};
 use dc_words::split_choices;
 use std::alloc::Global;
 
@@ -28,7 +28,7 @@ pub fn choice_pair(alloc: Global, lang: &[u8], question: &Item, template: &Item)
     if labels.len() == plain.len() {
         return Ok(ChoicePair { plain, labels });
     }
-    let labels = plain.copy(alloc)?;
+    let labels = plain.copy()?;
     Ok(ChoicePair { plain, labels })
 }
 
@@ -46,7 +46,7 @@ fn plain(alloc: Global, question: &Item, template: &Item) -> Mem<List<Text>>
 fn shown(alloc: Global, lang: &[u8], question: &Item, template: &Item) -> Mem<List<Text>>
     ensures { IfOk result (λ choices. choices ≡ shown_choices lang.now question.now template.now) }
 {
-    let key = known_key(alloc, b"choices")?;
+    let key = FieldKey::known(alloc, b"choices")?;
     match field(alloc, lang, question, template, &key)? {
         None => split_choices(alloc, b""),
         Some(text) => split_choices(alloc, text.bytes()),

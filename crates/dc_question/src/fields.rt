@@ -8,7 +8,7 @@ ghost use Rattle.dc_text.specs.Names.{is_field_key};
 
 use dc_item::Item;
 use dc_template::{expand, is_description, is_extended, keys_tried};
-use dc_text::{FieldKey, List, Mem, NameRefused, OutOfMemory, Settled, Text};
+use dc_text::{FieldKey, List, Mem, Settled, Text};
 use std::alloc::Global;
 
 /// A field of a template in the user's language (debconf-devel(7), localised templates). The field `type` is in no
@@ -87,17 +87,4 @@ fn is_choices(key: &[u8]) -> bool
     ensures { result ≡ is_field_of (codes "choices") key.now }
 {
     key == b"choices".as_slice() || key.starts_with(b"choices-")
-}
-
-/// The key that the word is.
-pub(crate) fn known_key(alloc: Global, word: &[u8]) -> Mem<FieldKey>
-    requires lower { map lower word.now ≡ word.now }
-    requires key { is_field_key word.now ≡ true }
-    ensures { IfOk result (λ key. key ≡ word.now) }
-{
-    match FieldKey::read(alloc, word) {
-        Ok(key) => Ok(key),
-        Err(NameRefused::Bad) => unreachable!(),
-        Err(NameRefused::OutOfMemory) => Err(OutOfMemory),
-    }
 }

@@ -3,10 +3,10 @@ ghost use Rattle.std.specs.Prelude.{◌≡◌, [], IfOk, unwrap_or};
 ghost use Rattle.std.specs.Option.{option_copied};
 ghost use Rattle.dc_question.specs.Readings.{template_of as template_of_table, kind_by, default_of, value_of};
 
-use crate::fields::{known_key, localised};
+use crate::fields::localised;
 use dc_item::Item;
 use dc_template::Kind;
-use dc_text::{Mem, Text, TextMap};
+use dc_text::{FieldKey, Mem, Text, TextMap};
 use std::alloc::Global;
 
 /// The template of a question: the item that its field `template` names.
@@ -55,7 +55,7 @@ pub fn value(alloc: Global, lang: &[u8], question: &Item, template: Option<&Item
 fn default_value(alloc: Global, lang: &[u8], template: &Item) -> Mem<Text>
     ensures { IfOk result (λ value. value ≡ unwrap_or (default_of lang.now (Some template.now)) []) }
 {
-    let key = known_key(alloc, b"default")?;
+    let key = FieldKey::known(alloc, b"default")?;
     match localised(alloc, lang, template, &key)? {
         None => Ok(Text::new(alloc)),
         Some(value) => Text::from_bytes(alloc, value.bytes()),

@@ -1,0 +1,7 @@
+pub mod CallLemmas
+pub mod Courses
+pub mod Determined
+pub mod Kept
+pub mod Progress
+pub mod Serve
+pub mod Talks

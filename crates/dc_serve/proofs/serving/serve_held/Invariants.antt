@@ -1,0 +1,20 @@
+use Rattle.std.proofs.Common.{◌≡◌, ◌++◌, List, length}
+use Rattle.dc_words.specs.declared.stream.Line.{Line}
+use Rattle.dc_words.specs.Stream.{whole_lines, rest_of}
+use Rattle.dc_serve.specs.declared.outcome.Served.TheVariants.{On}
+use Rattle.dc_serve.specs.Inside.{HasServed}
+use Rattle.dc_serve.proofs.serving.serve_held.Given as goal
+
+abbrev pub invariant-loop-line : goal.invariant-loop-line
+invariant-loop-line g l = record {
+  gone : (gone : List Line) × (whole_lines l.fn.lines ≡ gone ++ whole_lines l.lines)
+      × HasServed g.H.Heeds.heeds g.H.Heeds.breaks (g.L.Link.talk l.fn.io) (g.L.Link.talk l.io) (g.H.Heeds.sight l.fn.machine) gone On l.fn.last_code (g.H.Heeds.sight l.machine) l.last_code;
+  held : g.H.Heeds.held l.machine ≡ g.H.Heeds.held l.fn.machine;
+  input : g.L.Link.left l.io ≡ g.L.Link.left l.fn.io;
+  faults : g.L.Link.faults l.io ≡ g.L.Link.faults l.fn.io;
+  refusals : g.L.Link.refusals l.io ≡ g.L.Link.refusals l.fn.io;
+  rest : rest_of l.lines ≡ rest_of l.fn.lines;
+}
+
+abbrev pub decreases-loop-line : goal.decreases-loop-line
+decreases-loop-line g l = length l.lines

@@ -1,0 +1,207 @@
+// Serves the lines of a link, each before more is read.
+ghost use Rattle.std.specs.Prelude.{◌≡◌, ◌<◌, ◌≤◌, [], ◌∷◌, length, IfOk};
+ghost use Rattle.dc_words.specs.Stream.{whole_lines, rest_of, line_of_rest};
+ghost use Rattle.dc_serve.specs.Inside.{Sends, HasServed, ServedFaults, ServedRefusals};
+ghost use Rattle.dc_serve.specs.Ends.{LinkFaults, LinkRefusals};
+ghost use Rattle.dc_serve.specs.Run.{HasRun};
+
+use crate::heeds::{Heeded, Heeds};
+use crate::outcome::{Conversation, LinkEnd, Served, link_end};
+use dc_outside::{Link, LinkError};
+use dc_text::{Mem, Text};
+use dc_words::{Line, Lines, MAX_PIECE};
+use std::alloc::Global;
+
+/// From so many bytes of input on, no more is read.
+pub const MAX_INPUT: u64 = 1 << 40;
+
+// Sends a reply, in one write.
+fn send<L: Link, B: Drop>(io: &mut L, code: u8, text: &Text, last_code: &mut u8) -> Served<B>
+    ensures sends { Sends result (L.talk io.old) (L.talk io.new) code text.now last_code.old last_code.new }
+    ensures input { L.left io.new ≡ L.left io.old }
+    ensures faults { ServedFaults result (L.faults io.old) (L.faults io.new) }
+    ensures refusals { ServedRefusals result (L.refusals io.old) (L.refusals io.new) }
+{
+    match io.write(text.bytes()) {
+        Ok(()) => {
+            *last_code = code;
+            Served::On
+        }
+        Err(LinkError::Failed) => {
+            *last_code = code;
+            Served::Failed
+        }
+        Err(LinkError::OutOfMemory) => Served::OutOfMemory,
+    }
+}
+
+// Serves one line: one write, where it has a reply.
+fn serve_line<L: Link, H: Heeds>(
+    io: &mut L,
+    machine: &mut H,
+    line: &Line,
+    last_code: &mut u8,
+) -> Served<H::Break>
+    ensures served { HasServed H.heeds H.breaks (L.talk io.old) (L.talk io.new) (H.sight machine.old) (line.now ∷ []) result last_code.old (H.sight machine.new) last_code.new }
+    ensures held { H.held machine.new ≡ H.held machine.old }
+    ensures input { L.left io.new ≡ L.left io.old }
+    ensures faults { ServedFaults result (L.faults io.old) (L.faults io.new) }
+    ensures refusals { ServedRefusals result (L.refusals io.old) (L.refusals io.new) }
+{
+    match machine.heed(line) {
+        Err(error) => Served::Broken(error),
+        Ok(Heeded::Silent) => Served::On,
+        Ok(Heeded::Stopped) => Served::Stopped,
+        Ok(Heeded::Replied { code, text }) => send(io, code, &text, last_code),
+    }
+}
+
+// The same, of a line that isn't used again.
+fn serve_taken<L: Link, H: Heeds>(
+    io: &mut L,
+    machine: &mut H,
+    line: Line,
+    last_code: &mut u8,
+) -> Served<H::Break>
+    ensures served { HasServed H.heeds H.breaks (L.talk io.old) (L.talk io.new) (H.sight machine.old) (line ∷ []) result last_code.old (H.sight machine.new) last_code.new }
+    ensures held { H.held machine.new ≡ H.held machine.old }
+    ensures input { L.left io.new ≡ L.left io.old }
+    ensures faults { ServedFaults result (L.faults io.old) (L.faults io.new) }
+    ensures refusals { ServedRefusals result (L.refusals io.old) (L.refusals io.new) }
+{
+    serve_line(io, machine, &line, last_code)
+}
+
+// Serves the whole lines that are held, in order.
+fn serve_held<L: Link, H: Heeds>(
+    io: &mut L,
+    machine: &mut H,
+    lines: &mut Lines,
+    last_code: &mut u8,
+) -> Served<H::Break>
+    ensures served { HasServed H.heeds H.breaks (L.talk io.old) (L.talk io.new) (H.sight machine.old) (whole_lines lines.old) result last_code.old (H.sight machine.new) last_code.new }
+    ensures held { H.held machine.new ≡ H.held machine.old }
+    ensures input { L.left io.new ≡ L.left io.old }
+    ensures faults { ServedFaults result (L.faults io.old) (L.faults io.new) }
+    ensures refusals { ServedRefusals result (L.refusals io.old) (L.refusals io.new) }
+    ensures none_left { result ≡ Served.On → whole_lines lines.new ≡ [] }
+    ensures rest { rest_of lines.new ≡ rest_of lines.old }
+{
+    loop {
+        let line = match lines.next() {
+            Err(_) => return Served::OutOfMemory,
+            Ok(None) => return Served::On,
+            Ok(Some(line)) => line,
+        };
+        match serve_taken(io, machine, line, last_code) {
+            Served::On => {}
+            ended => return ended,
+        }
+    }
+}
+
+// Serves the rest without a newline as a last line, if there is one.
+fn serve_rest<L: Link, H: Heeds>(
+    io: &mut L,
+    machine: &mut H,
+    lines: &mut Lines,
+    last_code: &mut u8,
+) -> Served<H::Break>
+    requires { whole_lines lines.old ≡ [] }
+    ensures served { HasServed H.heeds H.breaks (L.talk io.old) (L.talk io.new) (H.sight machine.old) (line_of_rest (rest_of lines.old)) result last_code.old (H.sight machine.new) last_code.new }
+    ensures held { H.held machine.new ≡ H.held machine.old }
+    ensures input { L.left io.new ≡ L.left io.old }
+    ensures faults { ServedFaults result (L.faults io.old) (L.faults io.new) }
+    ensures refusals { ServedRefusals result (L.refusals io.old) (L.refusals io.new) }
+{
+    match lines.last() {
+        None => Served::On,
+        Some(line) => serve_taken(io, machine, line, last_code),
+    }
+}
+
+// Reads pieces into the buffer, and serves the lines of each before the next.
+fn converse<L: Link, H: Heeds>(
+    alloc: Global,
+    io: &mut L,
+    machine: &mut H,
+    buf: &mut [u8],
+) -> Conversation<H::Break>
+    requires some { 0 < length buf.old }
+    requires small { length buf.old ≤ MAX_PIECE }
+    ensures run { HasRun H.heeds H.breaks (L.talk io.old) (L.talk io.new) (L.left io.old) (L.left io.new) (H.sight machine.old) result.end (H.sight machine.new) result.last_code }
+    ensures held { H.held machine.new ≡ H.held machine.old }
+    ensures faults { LinkFaults result.end (L.faults io.old) (L.faults io.new) }
+    ensures refusals { LinkRefusals result.end (L.refusals io.old) (L.refusals io.new) }
+{
+    let mut lines = Lines::new(alloc);
+    let mut last_code: u8 = 0;
+    let mut taken: u64 = 0;
+    while taken < MAX_INPUT {
+        let count = match io.read_some(buf) {
+            Ok(count) => count,
+            Err(LinkError::Failed) => return Conversation {
+                end: LinkEnd::LinkFault,
+                last_code,
+            },
+            Err(LinkError::OutOfMemory) => return Conversation {
+                end: LinkEnd::OutOfMemory,
+                last_code,
+            },
+        };
+        if count == 0 {
+            let served = serve_rest(io, machine, &mut lines, &mut last_code);
+            return Conversation {
+                end: link_end(served),
+                last_code,
+            };
+        }
+        match lines.feed(&buf[..count]) {
+            Ok(()) => {}
+            Err(_) => return Conversation {
+                end: LinkEnd::OutOfMemory,
+                last_code,
+            },
+        }
+        taken += count as u64;
+        match serve_held(io, machine, &mut lines, &mut last_code) {
+            Served::On => {}
+            ended => return Conversation {
+                end: link_end(ended),
+                last_code,
+            },
+        }
+    }
+    Conversation {
+        end: LinkEnd::TooLong,
+        last_code,
+    }
+}
+
+fn buffer(alloc: Global) -> Mem<Vec<u8>>
+    ensures { IfOk result (λ buf. length buf.items ≡ MAX_PIECE) }
+{
+    let mut buf = Vec::new(alloc);
+    buf.resize(MAX_PIECE, 0)?;
+    Ok(buf)
+}
+
+/// Gives the lines of the link to the machine, to the end of either.
+pub fn serve_link<L: Link, H: Heeds>(
+    alloc: Global,
+    io: &mut L,
+    machine: &mut H,
+) -> Conversation<H::Break>
+    ensures run { HasRun H.heeds H.breaks (L.talk io.old) (L.talk io.new) (L.left io.old) (L.left io.new) (H.sight machine.old) result.end (H.sight machine.new) result.last_code }
+    ensures held { H.held machine.new ≡ H.held machine.old }
+    ensures faults { LinkFaults result.end (L.faults io.old) (L.faults io.new) }
+    ensures refusals { LinkRefusals result.end (L.refusals io.old) (L.refusals io.new) }
+{
+    match buffer(alloc) {
+        Ok(mut buf) => converse(alloc, io, machine, buf.as_mut_slice()),
+        Err(_) => Conversation {
+            end: LinkEnd::OutOfMemory,
+            last_code: 0,
+        },
+    }
+}

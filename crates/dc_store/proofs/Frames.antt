@@ -1,0 +1,124 @@
+-- What no write changes.
+use Rattle.std.proofs.Common.{◌≡◌, ℕ, zero, suc, false, cond, List, [], ◌∷◌, Option, Some, None, refl, sym, ap, subst, ◌∙◌}
+use Rattle.std.specs.Prelude.{unwrap_or, option_map, ◌++◌}
+use Rattle.std.specs.declared.cmp.Ordering.TheVariants.{Less, Equal, Greater}
+use Rattle.std.specs.Ordering.{is_eq, eq_by_cmp}
+use Rattle.std.specs.Cmp.Lexicographic.{nat_list_cmp_total}
+use Rattle.std.specs.FinMap as map
+use Rattle.dc_text.specs.Maps.{text_cmp}
+use Rattle.dc_conf.specs.declared.plans.Base.{Base}
+use Rattle.dc_conf.specs.declared.plans.Plan.{Plan}
+use Rattle.dc_item.specs.declared.op.Op.{Op}
+use Rattle.dc_item.specs.declared.op.After.{After}
+use Rattle.dc_item.specs.declared.op.After.TheVariants.{Same, Changed, Gone}
+use Rattle.dc_item.specs.After.{after_at}
+use Rattle.dc_template.specs.declared.kinds.Kind.{Kind}
+use Rattle.dc_layer.specs.State.{LayerState, with_made}
+use Rattle.dc_store.specs.Holders.{look_of}
+use Rattle.dc_store.specs.Plans.{StoreState, stored, places, backup_op, tried, backed_up, told_line, write}
+use Rattle.dc_store.specs.StoreLaws.{IsSameBut, AreSameBut}
+use Rattle.dc_store.specs.Writes.{home, put_at, open_holder, by_case, write_of}
+
+-- names that differ don't tie
+apart : (q k : List ℕ) → (q ≡ k → ⊥) → eq_by_cmp text_cmp q k ≡ false
+apart q k other =
+    elim (text_cmp q k) as (λ o. text_cmp q k ≡ o → is_eq o ≡ false) [
+      | Less ↦ λ _. refl
+      | Equal ↦ λ e. absurd (other (map.slice_cmp-IsAntisymmetric map.nat_cmp-IsAntisymmetric q k e))
+      | Greater ↦ λ _. refl
+    ] refl
+
+pub same_layer : (n : List ℕ) (l : LayerState) → IsSameBut n l l
+same_layer n l = record { sort = refl; spec = refl; left_out = refl; text = refl; items = λ other d. refl }
+
+pub same_then : (n : List ℕ) (a b c : LayerState) → IsSameBut n a b → IsSameBut n b c → IsSameBut n a c
+same_then n a b c p q = record {
+  sort = q.sort ∙ p.sort;
+  spec = q.spec ∙ p.spec;
+  left_out = q.left_out ∙ p.left_out;
+  text = q.text ∙ p.text;
+  items = λ other d. q.items other d ∙ p.items other d;
+}
+
+pub same_layers : (n : List ℕ) (ls : List LayerState) → AreSameBut n ls ls
+same_layers n [] = tt
+same_layers n (l ∷ ls) = (same_layer n l, same_layers n ls)
+
+pub same_layers_then : (n : List ℕ) (xs ys zs : List LayerState) → AreSameBut n xs ys → AreSameBut n ys zs → AreSameBut n xs zs
+same_layers_then n [] [] [] p q = tt
+same_layers_then n [] [] (c ∷ cs) p q = absurd q
+same_layers_then n [] (b ∷ bs) cs p q = absurd p
+same_layers_then n (a ∷ rest) [] cs p q = absurd p
+same_layers_then n (a ∷ rest) (b ∷ bs) [] p q = absurd q
+same_layers_then n (a ∷ rest) (b ∷ bs) (c ∷ cs) p q = (same_then n a b c p.0 q.0, same_layers_then n rest bs cs p.1 q.1)
+
+made_same : (n : List ℕ) (l : LayerState) (made : After) → IsSameBut n l (with_made l n made)
+made_same n l Same = same_layer n l
+made_same n l (Changed item) = record {
+  sort = refl;
+  spec = refl;
+  left_out = refl;
+  text = refl;
+  items = λ other d. map.get-insert nat_list_cmp_total l.table n item other ∙ ap (λ b. cond b (Some item) (map.get l.table other)) (apart other n d);
+}
+made_same n l Gone = record {
+  sort = refl;
+  spec = refl;
+  left_out = refl;
+  text = refl;
+  items = λ other d. map.get-remove nat_list_cmp_total l.table n other ∙ ap (λ b. cond b None (map.get l.table other)) (apart other n d);
+}
+
+pub put_same : (n : List ℕ) (ls : List LayerState) (p : ℕ) (made : After) → AreSameBut n ls (put_at ls p n made)
+put_same n [] p made = tt
+put_same n (l ∷ ls) zero made = (made_same n l made, same_layers n ls)
+put_same n (l ∷ ls) (suc p) made = (same_layer n l, put_same n ls p made)
+
+along : (n : List ℕ) (ls xs ys : List LayerState) → Some xs ≡ Some ys → AreSameBut n ls xs → AreSameBut n ls ys
+along n ls xs ys e h = let same : xs ≡ ys = cc in subst (AreSameBut n ls) same h
+
+none_is : {P : Type 0} (bs : List LayerState) → None ≡ Some bs → P
+none_is bs e = cc
+
+written_same : (n : List ℕ) (ls : List LayerState) (held up : Option ℕ) (made : After) (new : List LayerState) → by_case ls held up n made ≡ Some new → AreSameBut n ls new
+written_same n ls held up Same new h = along n ls ls new h (same_layers n ls)
+written_same n ls None up Gone new h = none_is new h
+written_same n ls (Some p) up Gone new h = along n ls (put_at ls p n Gone) new h (put_same n ls p Gone)
+written_same n ls None None (Changed item) new h = none_is new h
+written_same n ls None (Some p) (Changed item) new h = along n ls (put_at ls p n (Changed item)) new h (put_same n ls p (Changed item))
+written_same n ls (Some p) up (Changed item) new h = along n ls (put_at ls p n (Changed item)) new h (put_same n ls p (Changed item))
+
+pub write_keeps : (ls new : List LayerState) (ps n : List ℕ) (k : Option Kind) (op : Op) → write_of ls ps n k op ≡ Some new → AreSameBut n ls new
+write_keeps ls new ps n k op h = written_same n ls (open_holder ls ps n) (home ls ps n k) (after_at op (look_of ls ps n)) new h
+
+or_same : (n : List ℕ) (ls : List LayerState) (o : Option (List LayerState)) → ((new : List LayerState) → o ≡ Some new → AreSameBut n ls new) → AreSameBut n ls (unwrap_or o ls)
+or_same n ls None h = same_layers n ls
+or_same n ls (Some new) h = h new refl
+
+tried_keeps : (ls : List LayerState) (ps n : List ℕ) (k : Option Kind) (op : Option Op) → AreSameBut n ls (tried ls ps n k op)
+tried_keeps ls ps n k None = same_layers n ls
+tried_keeps ls ps n k (Some op) = or_same n ls (write_of ls ps n k op) (λ new h. write_keeps ls new ps n k op h)
+
+pub backed_up_keeps : (ls : List LayerState) (base : Base) (backup : Option Base) (n : List ℕ) (k : Option Kind) → AreSameBut n ls (backed_up ls base backup n k)
+backed_up_keeps ls base None n k = same_layers n ls
+backed_up_keeps ls base (Some backup) n k = tried_keeps ls (places backup) n k (backup_op (look_of ls (places base) n) (look_of ls (places backup) n))
+
+-- from equations that a contract gives
+pub kept : (n : List ℕ) (ls new : List LayerState) → new ≡ ls → AreSameBut n ls new
+kept n ls new e = subst (AreSameBut n ls) (sym e) (same_layers n ls)
+
+pub backed_up_kept : (ls new : List LayerState) (base : Base) (backup : Option Base) (n : List ℕ) (k : Option Kind) → new ≡ backed_up ls base backup n k → AreSameBut n ls new
+backed_up_kept ls new base backup n k e = subst (AreSameBut n ls) (sym e) (backed_up_keeps ls base backup n k)
+
+-- a write on a plan keeps all but the item of its name
+pub plan_keeps : (store new : StoreState) (plan : Plan) (n : List ℕ) (k : Option Kind) (op : Op) → write store plan n k op ≡ Some new → AreSameBut n store.layers new.layers
+plan_keeps store new plan n k op h = by_base (write_of store.layers (places plan.base) n k op) refl h where
+  left : List LayerState → StoreState
+  left layers = stored (backed_up layers plan.base plan.backup n k) (store.told ++ told_line plan.debug op n)
+
+  by_base : (o : Option (List LayerState)) → write_of store.layers (places plan.base) n k op ≡ o → option_map left o ≡ Some new → AreSameBut n store.layers new.layers
+  by_base None e h = cc
+  by_base (Some layers) e h =
+      let same : left layers ≡ new = cc in
+      subst (λ (s : StoreState). AreSameBut n store.layers s.layers) same
+      (same_layers_then n store.layers layers (backed_up layers plan.base plan.backup n k) (write_keeps store.layers layers (places plan.base) n k op e) (backed_up_keeps layers plan.base plan.backup n k))

@@ -1,0 +1,5 @@
+use Rattle.dc_store.proofs.SeenLemmas.{seen}
+use Rattle.dc_store.proofs.laws.writes_are_seen.Goals as goal
+
+pub returns : goal.returns
+returns c = seen

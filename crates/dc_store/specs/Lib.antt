@@ -1,0 +1,5 @@
+pub mod Holders
+pub mod Plans
+pub mod Rows
+pub mod StoreLaws
+pub mod Writes

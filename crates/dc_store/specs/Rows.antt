@@ -1,0 +1,59 @@
+-- Several writes, of which all are done or none.
+use Rattle.std.specs.Prelude.{◌≡◌, ℕ, Bool, not, List, [], ◌∷◌, ◌++◌, ◌⊎◌, Option, Some, None, unwrap_or, map as each, if◌then◌else◌}
+use Rattle.std.specs.Option.{option_map_or}
+use Rattle.std.specs.List.{All, find, list_any, AllPairs, Contains}
+use Rattle.dc_conf.specs.declared.plans.Plan.{Plan}
+use Rattle.dc_item.specs.declared.op.Op.{Op}
+use Rattle.dc_template.specs.declared.kinds.Kind.{Kind}
+use Rattle.dc_layer.specs.State.{LayerState}
+use Rattle.dc_store.specs.Plans.{StoreState, IsOver, places, write, would_take}
+
+-- a write: an operation on the item of a name, of which the kind may be known, in a plan
+pub record Write : Type 0 where
+  pub plan : Plan
+  pub name : List ℕ
+  pub kind : Option Kind
+  pub op : Op
+
+-- whether the write would be refused
+abbrev pub is_refused : List LayerState → Write → Bool
+is_refused layers w = not (would_take layers w.plan w.name w.kind w.op)
+
+-- the first of the writes that would be refused, each on the layers as they are
+abbrev pub first_refused : List LayerState → List Write → Option Write
+first_refused layers row = find (is_refused layers) row
+
+-- the writes done in order, of which one that is refused changes nothing
+abbrev pub all_done : StoreState → List Write → StoreState
+all_done store [] = store
+all_done store (w ∷ row) = all_done (unwrap_or (write store w.plan w.name w.kind w.op) store) row
+
+-- A row of writes: each is tested on the layers before the row, and all are done in order, or none where one is refused.
+abbrev pub row_done : StoreState → List Write → Option StoreState
+row_done store row = if list_any (is_refused store.layers) row then None else Some (all_done store row)
+
+-- ---- which writes stand in a row
+
+-- all places that a plan writes
+abbrev pub all_places : Plan → List ℕ
+all_places plan = places plan.base ++ option_map_or places plan.backup []
+
+-- two plans share no layer
+abbrev pub AreApart : Plan → Plan → Type 0
+AreApart p q = (place : ℕ) → Contains (all_places p) place → Contains (all_places q) place → ⊥
+
+-- two writes are on different items
+abbrev pub AreDistinct : Write → Write → Type 0
+AreDistinct v w = (v.name ≡ w.name → ⊥) ⊎ AreApart v.plan w.plan
+
+-- each two are
+abbrev pub AllDistinct : List Write → Type 0
+AllDistinct row = AllPairs AreDistinct row
+
+-- each speaks of so many layers
+abbrev pub AreOver : List Write → ℕ → Type 0
+AreOver row count = All (λ w. IsOver w.plan count) row
+
+-- the names that they are on
+abbrev pub names_of : List Write → List (List ℕ)
+names_of row = each (λ w. w.name) row

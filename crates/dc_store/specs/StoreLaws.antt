@@ -1,0 +1,68 @@
+-- What a write leaves as it was, and where it changes something.
+use Rattle.std.specs.Prelude.{◌≡◌, ℕ, true, false, List, [], ◌∷◌, ◌++◌, ◌⊎◌, Option, Some, None, slice_get}
+use Rattle.std.specs.List.{All, Contains}
+use Rattle.std.specs.FinMap as map
+use Rattle.dc_item.specs.After.{after_at}
+use Rattle.dc_item.specs.declared.op.Op.{Op}
+use Rattle.dc_item.specs.declared.op.After.{After}
+use Rattle.dc_item.specs.declared.op.After.TheVariants.{Same, Gone}
+use Rattle.dc_template.specs.declared.kinds.Kind.{Kind}
+use Rattle.dc_layer.specs.State.{LayerState, is_writable, admits, with_made}
+use Rattle.dc_store.specs.Holders.{has_at, look_of}
+use Rattle.dc_store.specs.Writes.{change_at, open_holder, home}
+
+-- two states of a layer differ in the item of one name, and in which names were touched, alone
+pub record IsSameBut (name : List ℕ) (old new : LayerState) : Type 0 where
+  pub sort : new.sort ≡ old.sort
+  pub spec : new.spec ≡ old.spec
+  pub left_out : new.left_out ≡ old.left_out
+  pub text : new.old ≡ old.old
+  pub items : (other : List ℕ) → (other ≡ name → ⊥) → map.get new.table other ≡ map.get old.table other
+
+-- the same of each layer of two lists, which are as long
+abbrev pub AreSameBut : List ℕ → List LayerState → List LayerState → Type 0
+AreSameBut name [] [] = Unit {0}
+AreSameBut name [] (new ∷ news) = ⊥
+AreSameBut name (old ∷ olds) [] = ⊥
+AreSameBut name (old ∷ olds) (new ∷ news) = IsSameBut name old new × AreSameBut name olds news
+
+-- two states of a layer differ in the items of some names, and in which names were touched, alone
+pub record IsSameButAll (names : List (List ℕ)) (old new : LayerState) : Type 0 where
+  pub sort : new.sort ≡ old.sort
+  pub spec : new.spec ≡ old.spec
+  pub left_out : new.left_out ≡ old.left_out
+  pub text : new.old ≡ old.old
+  pub items : (other : List ℕ) → (Contains names other → ⊥) → map.get new.table other ≡ map.get old.table other
+
+-- the same of each layer of two lists, which are as long
+abbrev pub AreSameButAll : List (List ℕ) → List LayerState → List LayerState → Type 0
+AreSameButAll names [] [] = Unit {0}
+AreSameButAll names [] (new ∷ news) = ⊥
+AreSameButAll names (old ∷ olds) [] = ⊥
+AreSameButAll names (old ∷ olds) (new ∷ news) = IsSameButAll names old new × AreSameButAll names olds news
+
+-- the place is the topmost whose layer has the item
+pub record IsTopmost (layers : List LayerState) (places : List ℕ) (name : List ℕ) (place : ℕ) : Type 0 where
+  pub higher : List ℕ
+  pub lower : List ℕ
+  pub stands : places ≡ higher ++ place ∷ lower
+  pub has : has_at layers name place ≡ true
+  pub others : All (λ p. has_at layers name p ≡ false) higher
+
+-- One layer changed, which is writable, and which had the item already or admits it: it got what became of the item, and was
+-- touched. Nothing else changed in it, and no other layer.
+pub record ChangesOne (layers : List LayerState) (places : List ℕ) (name : List ℕ) (kind : Option Kind) (new : List LayerState) : Type 0 where
+  pub place : ℕ
+  pub layer : LayerState
+  pub made : After
+  pub among : Contains places place
+  pub stands : slice_get layers place ≡ Some layer
+  pub writable : is_writable layer ≡ true
+  pub takes : (has_at layers name place ≡ true) ⊎ (admits layer name kind ≡ true)
+  pub leaves : new ≡ change_at layers place (λ l. with_made l name made)
+
+-- The item would change, no writable layer holds it, and it would go or no layer takes it.
+pub record IsRefusal (layers : List LayerState) (places : List ℕ) (name : List ℕ) (kind : Option Kind) (op : Op) : Type 0 where
+  pub changes : after_at op (look_of layers places name) ≡ Same → ⊥
+  pub held : open_holder layers places name ≡ None
+  pub homeless : (after_at op (look_of layers places name) ≡ Gone) ⊎ (home layers places name kind ≡ None)

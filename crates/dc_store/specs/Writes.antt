@@ -1,0 +1,66 @@
+-- A write to the layers of a stack, from the top: five cases.
+use Rattle.std.specs.Prelude.{ℕ, zero, suc, Bool, false, ◌&&◌, ◌||◌, List, [], ◌∷◌, Option, Some, None, is_some, option_map, option_and_then, slice_get, if◌then◌else◌}
+use Rattle.std.specs.Option.{option_map_or}
+use Rattle.std.specs.List.{find}
+use Rattle.dc_item.specs.After.{after_at}
+use Rattle.dc_item.specs.Item.{ItemParts}
+use Rattle.dc_item.specs.declared.op.Op.{Op}
+use Rattle.dc_item.specs.declared.op.After.{After}
+use Rattle.dc_item.specs.declared.op.After.TheVariants.{Same, Changed, Gone}
+use Rattle.dc_template.specs.declared.kinds.Kind.{Kind}
+use Rattle.dc_layer.specs.State.{LayerState, is_writable, admits, with_made}
+use Rattle.dc_store.specs.Holders.{holder_of, look_of, above}
+
+abbrev pub is_writable_at : List LayerState → ℕ → Bool
+is_writable_at layers place = option_map_or is_writable (slice_get layers place) false
+
+-- the layer at the place is writable, and may hold an item of this name and kind
+abbrev pub takes_at : List LayerState → List ℕ → Option Kind → ℕ → Bool
+takes_at layers name kind place = option_map_or (λ layer. is_writable layer && admits layer name kind) (slice_get layers place) false
+
+-- the holder, where it is writable
+abbrev pub open_holder : List LayerState → List ℕ → List ℕ → Option ℕ
+open_holder layers places name =
+    option_and_then (λ place. if is_writable_at layers place then Some place else None) (holder_of layers places name)
+
+-- Where a new item goes, and the copy of one whose holder isn't writable: to the topmost layer above the holder, or of all where
+-- there is none, that is writable and admits it.
+abbrev pub home : List LayerState → List ℕ → List ℕ → Option Kind → Option ℕ
+home layers places name kind = find (takes_at layers name kind) (above layers places name)
+
+-- the layers with the one at a place changed
+abbrev pub change_at : List LayerState → ℕ → (LayerState → LayerState) → List LayerState
+change_at [] place f = []
+change_at (layer ∷ layers) zero f = f layer ∷ layers
+change_at (layer ∷ layers) (suc place) f = layer ∷ change_at layers place f
+
+-- the layers with what became of the item put into the one at a place
+abbrev pub put_at : List LayerState → ℕ → List ℕ → After → List LayerState
+put_at layers place name made = change_at layers place (λ layer. with_made layer name made)
+
+-- an item put to a place where there is one, or refused
+abbrev pub put_up : List LayerState → Option ℕ → List ℕ → ItemParts → Option (List LayerState)
+put_up layers place name item = option_map (λ p. put_at layers p name (Changed item)) place
+
+-- The cases of a write, by the holder where that is writable, the home, and what the operation makes of the item that is seen:
+-- the layers that it leaves, or None where it is refused.
+--   The item stays as it is: all layers stay.
+--   The holder is writable: it changes.
+--   The holder isn't writable, and the item would go: refused.
+--   The holder isn't writable, or there is none: the home gets the whole changed item, and without a home it is refused.
+abbrev pub by_case : List LayerState → Option ℕ → Option ℕ → List ℕ → After → Option (List LayerState)
+by_case layers held home name Same = Some layers
+by_case layers (Some holder) home name (Changed item) = Some (put_at layers holder name (Changed item))
+by_case layers (Some holder) home name Gone = Some (put_at layers holder name Gone)
+by_case layers None home name Gone = None
+by_case layers None home name (Changed item) = put_up layers home name item
+
+-- A write of an operation on the item of a name, of which the kind may be known.
+abbrev pub write_of : List LayerState → List ℕ → List ℕ → Option Kind → Op → Option (List LayerState)
+write_of layers places name kind op =
+    by_case layers (open_holder layers places name) (home layers places name kind) name (after_at op (look_of layers places name))
+
+-- there is a holder, and it is writable or a layer above it takes the item
+abbrev pub can_change_of : List LayerState → List ℕ → List ℕ → Option Kind → Bool
+can_change_of layers places name kind =
+    is_some (holder_of layers places name) && (is_some (open_holder layers places name) || is_some (home layers places name kind))

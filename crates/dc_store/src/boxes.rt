@@ -1,0 +1,116 @@
+// Calls of one of the layers.
+ghost use Rattle.std.specs.Prelude.{◌≡◌, ◌<◌, Some, None, IfOk, OnOk, OnErr, length, slice_get, map as each};
+ghost use Rattle.std.specs.FinMap as map;
+ghost use Rattle.std.specs.Option.{option_copied};
+ghost use Rattle.dc_layer.specs.State.{LayerState, is_writable, admits, with_made, made_at, refusal};
+ghost use Rattle.dc_store.specs.Holders.{item_at as item_of, has_at as has_of};
+ghost use Rattle.dc_store.specs.Plans.{names_at as names_of};
+ghost use Rattle.dc_store.specs.Writes.{is_writable_at as writable_of, takes_at as takes_of, change_at};
+
+use dc_item::{Item, Op};
+use dc_layer::{Layer, LayerError};
+use dc_template::Kind;
+use dc_text::{List, Mem, Name, OutOfMemory};
+
+fn item_in<'a>(layer: &'a Box<dyn Layer>, name: &[u8]) -> Option<&'a Item>
+    ensures { option_copied result ≡ map.get (state layer.now).table name.now }
+{
+    layer.seek(name)
+}
+
+fn has_in(layer: &Box<dyn Layer>, name: &Name) -> bool
+    ensures { result ≡ map.contains_key (state layer.now).table name.now }
+{
+    layer.has(name)
+}
+
+fn is_open(layer: &Box<dyn Layer>) -> bool
+    ensures { result ≡ is_writable (state layer.now) }
+{
+    layer.writable()
+}
+
+fn does_admit(layer: &Box<dyn Layer>, name: &Name, kind: Option<Kind>) -> Mem<bool>
+    ensures { IfOk result (λ is. is ≡ admits (state layer.now) name.now kind) }
+{
+    layer.admits(name, kind)
+}
+
+fn names_in(layer: &Box<dyn Layer>) -> Mem<List<Name>>
+    ensures { IfOk result (λ names. names ≡ map.keys (state layer.now).table) }
+{
+    layer.names()
+}
+
+// Changes a layer that takes the change.
+fn change(layer: &mut Box<dyn Layer>, name: &Name, op: &Op) -> Mem<()>
+    requires { refusal (state layer.old) name.now op.now ≡ None }
+    ensures ok { OnOk result (state layer.new ≡ with_made (state layer.old) name.now (made_at (state layer.old) name.now op.now)) }
+    ensures err { OnErr result (state layer.new ≡ state layer.old) }
+{
+    match layer.change(name, op) {
+        Ok(_taken) => Ok(()),
+        Err(LayerError::OutOfMemory) => Err(OutOfMemory),
+        Err(_) => unreachable!(),
+    }
+}
+
+/// The item of the layer at a place.
+pub fn item_at<'a>(layers: &'a [Box<dyn Layer>], place: usize, name: &[u8]) -> Option<&'a Item>
+    requires { place < length layers.now }
+    ensures { option_copied result ≡ item_of (each state layers.now) place name.now }
+{
+    item_in(&layers[place], name)
+}
+
+/// Whether the layer at a place has the item.
+pub fn has_at(layers: &[Box<dyn Layer>], place: usize, name: &Name) -> bool
+    requires { place < length layers.now }
+    ensures { result ≡ has_of (each state layers.now) name.now place }
+{
+    has_in(&layers[place], name)
+}
+
+/// Whether the layer at a place is writable.
+pub fn is_open_at(layers: &[Box<dyn Layer>], place: usize) -> bool
+    requires { place < length layers.now }
+    ensures { result ≡ writable_of (each state layers.now) place }
+{
+    is_open(&layers[place])
+}
+
+/// Whether the layer at a place is writable and may hold the item.
+pub fn takes_at(
+    layers: &[Box<dyn Layer>],
+    place: usize,
+    name: &Name,
+    kind: Option<Kind>,
+) -> Mem<bool>
+    requires { place < length layers.now }
+    ensures { IfOk result (λ is. is ≡ takes_of (each state layers.now) name.now kind place) }
+{
+    let layer = &layers[place];
+    Ok(is_open(layer) && does_admit(layer, name, kind)?)
+}
+
+/// The names of the items of the layer at a place.
+pub fn names_at(layers: &[Box<dyn Layer>], place: usize) -> Mem<List<Name>>
+    requires { place < length layers.now }
+    ensures { IfOk result (λ names. names ≡ names_of (each state layers.now) place) }
+{
+    names_in(&layers[place])
+}
+
+/// Changes the layer at a place, which takes the change.
+pub fn change_in(layers: &mut [Box<dyn Layer>], place: usize, name: &Name, op: &Op) -> Mem<()>
+    requires within { place < length layers.old }
+    requires taken { (layer : LayerState) → slice_get (each state layers.old) place ≡ Some layer → refusal layer name.now op.now ≡ None }
+    ensures ok { OnOk result (each state layers.new ≡ change_at (each state layers.old) place (λ layer. with_made layer name.now (made_at layer name.now op.now))) }
+    ensures err { OnErr result (each state layers.new ≡ each state layers.old) }
+{
+    let layer = &mut layers[place];
+    match change(layer, name, op) {
+        Ok(()) => Ok(()),
+        Err(error) => Err(error),
+    }
+}

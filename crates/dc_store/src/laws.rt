@@ -1,0 +1,56 @@
+//! Laws of writes: what "a write changes only the layers that the rules name" means.
+ghost use Rattle.std.specs.Prelude.{◌≡◌, ◌≢◌, ℕ, List, Option, Some, None, true, false, ◌⊎◌};
+ghost use Rattle.std.specs.List.{All, Contains};
+ghost use Rattle.dc_item.specs.Item.{ItemParts};
+ghost use Rattle.dc_item.specs.After.{after_at};
+ghost use Rattle.dc_item.specs.declared.op.Op.{Op};
+ghost use Rattle.dc_item.specs.declared.op.After.TheVariants.{Same, Changed, Gone};
+ghost use Rattle.dc_template.specs.declared.kinds.Kind.{Kind};
+ghost use Rattle.dc_layer.specs.State.{LayerState};
+ghost use Rattle.dc_store.specs.Holders.{item_at, has_at, holder_of, look_of, above};
+ghost use Rattle.dc_store.specs.Plans.{StoreState, write};
+ghost use Rattle.dc_store.specs.Rows.{Write, AreDistinct, is_refused};
+ghost use Rattle.dc_store.specs.StoreLaws.{AreSameBut, IsTopmost, ChangesOne, IsRefusal};
+ghost use Rattle.dc_store.specs.Writes.{is_writable_at, write_of};
+
+/// The holder is the topmost of the places whose layer has the item, and there is none exactly where no layer has it.
+pub fn holders_are_topmost()
+    ensures found { (layers : List LayerState) (places name : List ℕ) (place : ℕ) → holder_of layers places name ≡ Some place → IsTopmost layers places name place }
+    ensures topmost { (layers : List LayerState) (places name : List ℕ) (place : ℕ) → IsTopmost layers places name place → holder_of layers places name ≡ Some place }
+    ensures none { (layers : List LayerState) (places name : List ℕ) → holder_of layers places name ≡ None → All (λ place. has_at layers name place ≡ false) places }
+{}
+
+/// A write that is taken changes no layer, or one: a layer of the stack that is writable, and that had the item or admits it.
+pub fn writes_change_one_layer()
+    ensures { (layers new : List LayerState) (places name : List ℕ) (kind : Option Kind) (op : Op) → write_of layers places name kind op ≡ Some new
+        → (new ≡ layers) ⊎ ChangesOne layers places name kind new }
+{}
+
+/// Every other name keeps its item in every layer, and no layer changes in anything else.
+pub fn other_names_stay()
+    ensures { (layers new : List LayerState) (places name : List ℕ) (kind : Option Kind) (op : Op) → write_of layers places name kind op ≡ Some new
+        → AreSameBut name layers new }
+{}
+
+/// What is written is seen.
+pub fn writes_are_seen()
+    ensures { (layers new : List LayerState) (places name : List ℕ) (kind : Option Kind) (op : Op) (item : ItemParts) → write_of layers places name kind op ≡ Some new
+        → after_at op (look_of layers places name) ≡ Changed item → look_of new places name ≡ Some item }
+{}
+
+/// Where the holder isn't writable, a layer above it gets a copy of the whole item with the change, and the holder keeps its own.
+pub fn copies_are_whole()
+    ensures { (layers new : List LayerState) (places name : List ℕ) (kind : Option Kind) (op : Op) (item : ItemParts) (holder : ℕ) → write_of layers places name kind op ≡ Some new
+        → after_at op (look_of layers places name) ≡ Changed item → holder_of layers places name ≡ Some holder → is_writable_at layers holder ≡ false
+        → ((place : ℕ) × Contains (above layers places name) place × (item_at new place name ≡ Some item) × (item_at new holder name ≡ item_at layers holder name)) }
+{}
+
+/// A write is refused only where it would change the item, no writable layer holds it, and it would go or no layer takes it.
+pub fn refusals_have_a_cause()
+    ensures { (layers : List LayerState) (places name : List ℕ) (kind : Option Kind) (op : Op) → write_of layers places name kind op ≡ None → IsRefusal layers places name kind op }
+{}
+
+/// No write changes whether another is refused, where their names differ or their plans share no layer.
+pub fn tests_are_apart()
+    ensures { (store new : StoreState) (v w : Write) → AreDistinct v w → write store v.plan v.name v.kind v.op ≡ Some new → is_refused new.layers w ≡ is_refused store.layers w }
+{}

@@ -1,0 +1,20 @@
+//! The store: reads and writes over stacks of layers, with backups and with lines that tell what is done (debconf.conf(5)).
+#![tactic(auto)]
+
+mod backup;
+pub mod bases;
+mod boxes;
+pub mod laws;
+mod listing;
+pub mod rows;
+mod search;
+pub mod store;
+mod telling;
+mod writing;
+
+pub use bases::places;
+pub use rows::Write;
+pub use store::{Store, StoreError};
+
+#[cfg(test)]
+mod tests;

@@ -1,0 +1,83 @@
+// Writes to the layers of a base.
+ghost use Rattle.std.specs.Prelude.{◌≡◌, Some, None, Err, OnOk, OnErr, length, map as each};
+ghost use Rattle.dc_store.specs.Plans.{AreWithin};
+ghost use Rattle.dc_store.specs.StoreLaws.{AreSameBut};
+ghost use Rattle.dc_store.specs.Writes.{home, put_up, write_of};
+
+use crate::boxes::change_in;
+use crate::search::{home_in, look_in, open_holder_in};
+use crate::store::StoreError;
+use dc_item::{After, Item, Op};
+use dc_layer::Layer;
+use dc_template::Kind;
+use dc_text::Name;
+
+// Puts an item to where a new one goes.
+fn put_up_in(
+    layers: &mut [Box<dyn Layer>],
+    places: &[usize],
+    name: &Name,
+    kind: Option<Kind>,
+    item: Item,
+) -> Result<(), StoreError>
+    requires { AreWithin places.now (length layers.old) }
+    ensures ok { OnOk result (put_up (each state layers.old) (home (each state layers.old) places.now name.now kind) name.now item ≡ Some (each state layers.new)) }
+    ensures refused { result ≡ Err StoreError.Refused → put_up (each state layers.old) (home (each state layers.old) places.now name.now kind) name.now item ≡ None }
+    ensures unchanged { OnErr result (each state layers.new ≡ each state layers.old) }
+{
+    match home_in(layers, places, name, kind)? {
+        Some(place) => {
+            let put = Op::Put(item);
+            change_in(layers, place, name, &put)?;
+            Ok(())
+        }
+        None => Err(StoreError::Refused),
+    }
+}
+
+// Writes to the layers at the places, from the top.
+fn write_once(
+    layers: &mut [Box<dyn Layer>],
+    places: &[usize],
+    name: &Name,
+    kind: Option<Kind>,
+    op: &Op,
+) -> Result<(), StoreError>
+    requires { AreWithin places.now (length layers.old) }
+    ensures ok { OnOk result (write_of (each state layers.old) places.now name.now kind op.now ≡ Some (each state layers.new)) }
+    ensures refused { result ≡ Err StoreError.Refused → write_of (each state layers.old) places.now name.now kind op.now ≡ None }
+    ensures unchanged { OnErr result (each state layers.new ≡ each state layers.old) }
+{
+    let made = op.at(look_in(layers, places, name))?;
+    if let After::Same = made {
+        return Ok(());
+    }
+    if let Some(place) = open_holder_in(layers, places, name) {
+        change_in(layers, place, name, op)?;
+        return Ok(());
+    }
+    match made {
+        After::Changed(item) => put_up_in(layers, places, name, kind, item),
+        _ => Err(StoreError::Refused),
+    }
+}
+
+/// Writes to the layers at the places, from the top, and keeps the items of all other names.
+pub fn write_in(
+    layers: &mut [Box<dyn Layer>],
+    places: &[usize],
+    name: &Name,
+    kind: Option<Kind>,
+    op: &Op,
+) -> Result<(), StoreError>
+    requires { AreWithin places.now (length layers.old) }
+    ensures ok { OnOk result (write_of (each state layers.old) places.now name.now kind op.now ≡ Some (each state layers.new)) }
+    ensures refused { result ≡ Err StoreError.Refused → write_of (each state layers.old) places.now name.now kind op.now ≡ None }
+    ensures unchanged { OnErr result (each state layers.new ≡ each state layers.old) }
+    ensures others { AreSameBut name.now (each state layers.old) (each state layers.new) }
+{
+    match write_once(layers, places, name, kind, op) {
+        Ok(()) => Ok(()),
+        Err(error) => Err(error),
+    }
+}
