@@ -1,22 +1,23 @@
 -- The end of a run, from how it was loaded, served and saved.
 use Rattle.std.proofs.Common.{◌≡◌, ◌⊎◌, inl, inr, ℕ, true, List, [], ◌∷◌, Ok, Err, refl, ap, ◌∙◌, subst}
-use Rattle.dc_outside.specs.Counts.{Rose}
+use Rattle.dc_outside.specs.Counts.{FaultRose, RefusalRose}
+use Rattle.dc_outside.specs.Told.{Told, Counts}
 use Rattle.dc_save.specs.declared.saving.SaveError.{SaveError}
 use Rattle.dc_save.specs.declared.saving.SaveError.TheVariants as save
-use Rattle.dc_save.specs.Saving.{FailsAmong, StopsAmong, Saves, SaveFaults, SaveRefused}
-use Rattle.dc_save.proofs.ImageLemmas.{one_failed, one_stopped}
+use Rattle.dc_save.specs.Saving.{FailsAmong, StopsAmong, Saves, SaveCounts}
 use Rattle.dc_run.specs.Ends.{end_unsaved}
-use Rattle.dc_run.specs.Saving.{image_of}
+use Rattle.dc_run.specs.Saving.{questions_image}
 use Rattle.dc_run.specs.declared.loading.Database.{Database}
 use Rattle.dc_run.specs.declared.outcome.End.{End}
 use Rattle.dc_run.specs.declared.outcome.End.TheVariants as end
-use Rattle.dc_run.specs.declared.outcome.LinkEnd.{LinkEnd}
-use Rattle.dc_run.specs.declared.outcome.LinkEnd.TheVariants as link
-use Rattle.dc_run.specs.Finishing.{Counts, Finishes, IsSaved, IsUnwritten, IsWithoutMemory}
+use Rattle.dc_serve.specs.declared.outcome.LinkEnd.{LinkEnd}
+use Rattle.dc_text.specs.declared.memory.OutOfMemory.{OutOfMemory}
+use Rattle.dc_serve.specs.declared.outcome.LinkEnd.TheVariants as link
+use Rattle.dc_run.specs.Finishing.{Finishes, IsSaved, IsUnwritten, IsWithoutMemory}
 use Rattle.dc_run.specs.Headline.{Surroundings, begun, IsSession, IsEnded, IsFinished, IsUnsaved, IsSilent, HasCommunicated}
 use Rattle.dc_run.specs.Loading.{LoadsDatabase}
-use Rattle.dc_run.specs.Run.{HasRun}
-use Rattle.dc_save.specs.Told.{Told}
+use Rattle.dc_serve.specs.Run.{HasRun}
+use Rattle.dc_run.specs.Machine.{Heeds, Breaks}
 use Rattle.dc_run.specs.State.{State, loaded}
 
 -- the run ends before a session
@@ -31,22 +32,23 @@ not_loaded path lang old new end.TooLong loads silent = absurd loads
 not_loaded path lang old new end.OutOfMemory loads silent = inl (silent, loads)
 
 module _ (path lang : List ℕ) (old new : Surroundings) (state : State) (code : ℕ) where
-  refused : (ended : LinkEnd) (how : End) → IsEnded ended → IsSession path lang old new ended state code → IsWithoutMemory path state (begun old path) new.files old.counts new.counts how
+  refused : (ended : LinkEnd OutOfMemory) (how : End) → IsEnded ended → IsSession path lang old new ended state code → IsWithoutMemory path state (begun old path) new.files old.counts new.counts how
       → HasCommunicated path lang old new how code
-  refused ended how at session left = rw left.end_is (inr (inr (record { end = ended; ended = at; state = state; session = session; changed = left.changed; ran_out = left.ran_out; refused = left.refused })))
+  refused ended how at session left = rw left.end_is (inr (inr (record { end = ended; ended = at; state = state; session = session; changed = left.changed; ran_out = left.ran_out; counts = elim left.counts [ inl theirs ↦ inl theirs | inr own ↦ inr own ] })))
 
-  unsaved : (ended : LinkEnd) (how : End) → IsSession path lang old new ended state code → IsUnwritten path state (begun old path) new.files old.counts new.counts ended how
+  unsaved : (ended : LinkEnd OutOfMemory) (how : End) → IsSession path lang old new ended state code → IsUnwritten path state (begun old path) new.files old.counts new.counts ended how
       → IsUnsaved path lang old new ended code
-  unsaved ended how session left = record { state = state; session = session; changed = left.changed; failed = left.failed; rose = left.rose }
+  unsaved ended how session left = record { state = state; session = session; changed = left.changed; failed = left.failed; counts = left.counts }
 
-  saved : (ended : LinkEnd) (how : End) → IsSession path lang old new ended state code → IsSaved path state (begun old path) new.files old.counts new.counts ended how
+  saved : (ended : LinkEnd OutOfMemory) (how : End) → IsSession path lang old new ended state code → IsSaved path state (begun old path) new.files old.counts new.counts ended how
       → IsFinished path lang old new ended code
-  saved ended how session done = record { state = state; session = session; files = done.files_are; stays = done.stays }
+  saved ended how session done = record { state = state; session = session; files = done.files_are; counts = done.counts }
 
   -- the run ends after a session
-  pub finished : (ended : LinkEnd) (how : End) → IsSession path lang old new ended state code → Finishes path state ended (begun old path) new.files old.counts new.counts how
+  pub finished : (ended : LinkEnd OutOfMemory) (how : End) → IsSession path lang old new ended state code → Finishes path state ended (begun old path) new.files old.counts new.counts how
       → HasCommunicated path lang old new how code
-  finished link.OutOfMemory how session done = rw done.0 (inr (inl (record { state = state; session = session; files = done.1 })))
+  finished link.OutOfMemory how session done = rw done.0 (inr (inl (record { end = link.OutOfMemory; broke = λ no. no; state = state; session = session; files = done.1; counts = done.2 })))
+  finished (link.Broken error) how session done = rw done.0 (inr (inl (record { end = link.Broken error; broke = λ no. no; state = state; session = session; files = done.1; counts = done.2 })))
   finished link.Done how session done = elim done [
     | inl kept ↦ rw kept.end_is (saved link.Done how session kept)
     | inr (inl left) ↦ rw left.end_is (inr (refl, unsaved link.Done how session left))
@@ -64,9 +66,9 @@ module _ (path lang : List ℕ) (old new : Surroundings) (state : State) (code :
   ]
 
 -- the run of a session over a loaded database
-pub communicated : (path lang : List ℕ) (old new : Surroundings) (mid : Told) (counts : Counts) (database : Database) (kept : List ℕ) (start state : State) (ended : LinkEnd) (how : End) (code : ℕ)
+pub communicated : (path lang : List ℕ) (old new : Surroundings) (mid : Told) (counts : Counts) (database : Database) (kept : List ℕ) (start state : State) (ended : LinkEnd OutOfMemory) (how : End) (code : ℕ)
     → counts ≡ old.counts → LoadsDatabase old.files mid path (Ok database) → kept ≡ lang → start ≡ loaded database.questions database.templates kept
-    → HasRun old.talk new.talk old.input new.input start ended state code → Finishes path state ended mid new.files counts new.counts how → HasCommunicated path lang old new how code
+    → HasRun Heeds Breaks old.talk new.talk old.input new.input start ended state code → Finishes path state ended mid new.files counts new.counts how → HasCommunicated path lang old new how code
 communicated path lang old new mid counts database kept start state ended how code same loads keeps starts run finishes =
     finished path lang old new state code ended how
     (record {
@@ -74,28 +76,31 @@ communicated path lang old new mid counts database kept start state ended how co
       questions_are = loads.questions_are;
       templates = database.templates;
       templates_are = loads.templates_are;
-      ran = subst (λ (s : State). HasRun old.talk new.talk old.input new.input s ended state code) (starts ∙ ap (λ (l : List ℕ). loaded database.questions database.templates l) keeps) run;
+      ran = subst (λ (s : State). HasRun Heeds Breaks old.talk new.talk old.input new.input s ended state code) (starts ∙ ap (λ (l : List ℕ). loaded database.questions database.templates l) keeps) run;
     })
     (subst (λ (c : Counts). Finishes path state ended (begun old path) new.files c new.counts how) same (subst (λ (f : Told). Finishes path state ended f new.files counts new.counts how) loads.files_are finishes))
 
 -- ---- the end of a run whose changed table wasn't saved
 
 module _ (path : List ℕ) (state : State) (files new : Told) (before now : Counts) (how : End) (changed : state.changed ≡ true) where
-  unwritten : (ended : LinkEnd) (failed : List ℕ) → FailsAmong (image_of path state.questions ∷ []) failed files new → how ≡ end_unsaved ended (save.Failed failed) → Rose before.faults now.faults
+  unwritten : (ended : LinkEnd OutOfMemory) (failed : List ℕ) → FailsAmong (questions_image path state.questions ∷ []) failed files new → how ≡ end_unsaved ended (save.Failed failed) → FaultRose before now
       → IsUnwritten path state files new before now ended how
   unwritten ended failed fails is rose =
-      let one = one_failed files new (image_of path state.questions) failed fails in
-      record { end_is = is ∙ ap (λ (p : List ℕ). end_unsaved ended (save.Failed p)) one.0; changed = changed; failed = one.1; rose = rose }
+      elim fails [
+        | inl one ↦ record { end_is = is ∙ ap (λ (p : List ℕ). end_unsaved ended (save.Failed p)) one.0; changed = changed; failed = one.1; counts = rose }
+        | inr none ↦ absurd none
+      ]
 
-  without_memory : StopsAmong (image_of path state.questions ∷ []) files new → how ≡ end.OutOfMemory → Rose before.refusals now.refusals ⊎ (new ≡ files) → IsWithoutMemory path state files new before now how
-  without_memory stops is refused = record { end_is = is; changed = changed; ran_out = one_stopped files new (image_of path state.questions) stops; refused = refused }
+  without_memory : (new ≡ files) ⊎ StopsAmong (questions_image path state.questions ∷ []) files new → how ≡ end.OutOfMemory → RefusalRose before now ⊎ ((now ≡ before) × (new ≡ files)) → IsWithoutMemory path state files new before now how
+  without_memory stops is counts = record { end_is = is; changed = changed; ran_out = elim stops [ inl none ↦ inl none | inr (inl one) ↦ inr one | inr (inr none) ↦ absurd none ]; counts = counts }
 
-  pub not_saved : (ended : LinkEnd) (error : SaveError) → IsEnded ended → how ≡ end_unsaved ended error → Saves (image_of path state.questions ∷ []) files new (Err error) → SaveFaults (Err error) before.faults now.faults
-      → SaveRefused files new (Err error) before.refusals now.refusals → Finishes path state ended files new before now how
-  not_saved link.OutOfMemory error at is saves faults refused = absurd at
-  not_saved link.Done (save.Failed failed) at is saves faults refused = inr (inl (unwritten link.Done failed saves is faults))
-  not_saved link.LinkFault (save.Failed failed) at is saves faults refused = inr (inl (unwritten link.LinkFault failed saves is faults))
-  not_saved link.TooLong (save.Failed failed) at is saves faults refused = inr (inl (unwritten link.TooLong failed saves is faults))
-  not_saved link.Done save.OutOfMemory at is saves faults refused = inr (inr (without_memory saves is refused))
-  not_saved link.LinkFault save.OutOfMemory at is saves faults refused = inr (inr (without_memory saves is refused))
-  not_saved link.TooLong save.OutOfMemory at is saves faults refused = inr (inr (without_memory saves is refused))
+  pub not_saved : (ended : LinkEnd OutOfMemory) (error : SaveError) → IsEnded ended → how ≡ end_unsaved ended error → Saves (questions_image path state.questions ∷ []) files new (Err error)
+      → SaveCounts files new (Err error) before now → Finishes path state ended files new before now how
+  not_saved link.OutOfMemory error at is saves counts = absurd at
+  not_saved (link.Broken broke) error at is saves counts = absurd at
+  not_saved link.Done (save.Failed failed) at is saves counts = inr (inl (unwritten link.Done failed saves is counts))
+  not_saved link.LinkFault (save.Failed failed) at is saves counts = inr (inl (unwritten link.LinkFault failed saves is counts))
+  not_saved link.TooLong (save.Failed failed) at is saves counts = inr (inl (unwritten link.TooLong failed saves is counts))
+  not_saved link.Done save.OutOfMemory at is saves counts = inr (inr (without_memory saves is counts))
+  not_saved link.LinkFault save.OutOfMemory at is saves counts = inr (inr (without_memory saves is counts))
+  not_saved link.TooLong save.OutOfMemory at is saves counts = inr (inr (without_memory saves is counts))

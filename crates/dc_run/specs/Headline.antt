@@ -2,18 +2,20 @@
 use Rattle.std.specs.Prelude.{◌≡◌, ◌⊎◌, ℕ, List, Option, true}
 use Rattle.dc_outside.specs.declared.link.Piece.{Piece}
 use Rattle.dc_save.specs.Saving.{HasFailed, HasRunOut}
-use Rattle.dc_save.specs.Told.{Told}
+use Rattle.dc_outside.specs.Told.{Told, Counts}
 use Rattle.dc_run.specs.declared.outcome.End.{End}
 use Rattle.dc_run.specs.declared.outcome.End.TheVariants as end
-use Rattle.dc_run.specs.declared.outcome.LinkEnd.{LinkEnd}
-use Rattle.dc_run.specs.declared.outcome.LinkEnd.TheVariants as link
-use Rattle.dc_outside.specs.Counts.{Rose}
-use Rattle.dc_run.specs.Finishing.{Counts}
+use Rattle.dc_serve.specs.declared.outcome.LinkEnd.{LinkEnd}
+use Rattle.dc_text.specs.declared.memory.OutOfMemory.{OutOfMemory}
+use Rattle.dc_serve.specs.declared.outcome.LinkEnd.TheVariants as link
+use Rattle.dc_outside.specs.Counts.{FaultRose, RefusalRose}
 use Rattle.dc_save.specs.Loading.{HasLoaded}
-use Rattle.dc_run.specs.Loading.{files_of, templates_path, after_reads, IsDamagedFirst, IsUnread, AreReadInPart}
-use Rattle.dc_run.specs.Run.{HasRun}
-use Rattle.dc_run.specs.Saving.{after_finish, image_of}
-use Rattle.dc_run.specs.State.{Table, State, loaded}
+use Rattle.dc_run.specs.Loading.{database_paths, templates_path, after_reads, IsDamagedFirst, IsUnread, AreReadInPart}
+use Rattle.dc_serve.specs.Run.{HasRun}
+use Rattle.dc_run.specs.Machine.{Heeds, Breaks}
+use Rattle.dc_run.specs.Saving.{after_finish, questions_image}
+use Rattle.dc_layer.specs.State.{Table}
+use Rattle.dc_run.specs.State.{State, loaded}
 use Rattle.dc_run.specs.Tools.{IsToolWords, AreRefusedAt}
 
 -- what a run finds and leaves: what the files tell, how often they failed and refused, the talk on the link, and the input
@@ -31,55 +33,59 @@ pub record IsSilent (old new : Surroundings) (code : ℕ) : Type 0 where
   pub code_is : code ≡ 0
 
 -- a session was served over the tables of the database, and left this state
-pub record IsSession (path lang : List ℕ) (old new : Surroundings) (end : LinkEnd) (state : State) (code : ℕ) : Type 0 where
+pub record IsSession (path lang : List ℕ) (old new : Surroundings) (end : LinkEnd OutOfMemory) (state : State) (code : ℕ) : Type 0 where
   pub questions : Table
   pub questions_are : HasLoaded old.files.disk path questions
   pub templates : Table
   pub templates_are : HasLoaded old.files.disk (templates_path path) templates
-  pub ran : HasRun old.talk new.talk old.input new.input (loaded questions templates lang) end state code
+  pub ran : HasRun Heeds Breaks old.talk new.talk old.input new.input (loaded questions templates lang) end state code
 
 -- the files when the session began
 abbrev pub begun : Surroundings → List ℕ → Told
-begun old path = after_reads old.files (files_of path)
+begun old path = after_reads old.files (database_paths path)
 
 -- a session that came to its end, after which the table of questions is saved where it changed; no call of the files failed
-pub record IsFinished (path lang : List ℕ) (old new : Surroundings) (end : LinkEnd) (code : ℕ) : Type 0 where
+pub record IsFinished (path lang : List ℕ) (old new : Surroundings) (end : LinkEnd OutOfMemory) (code : ℕ) : Type 0 where
   pub state : State
   pub session : IsSession path lang old new end state code
   pub files : new.files ≡ after_finish (begun old path) path state
-  pub stays : new.counts.faults ≡ old.counts.faults
+  pub counts : new.counts ≡ old.counts
 
 -- a session that came to its end, and a call of the save of its changed table failed
-pub record IsUnsaved (path lang : List ℕ) (old new : Surroundings) (end : LinkEnd) (code : ℕ) : Type 0 where
+pub record IsUnsaved (path lang : List ℕ) (old new : Surroundings) (end : LinkEnd OutOfMemory) (code : ℕ) : Type 0 where
   pub state : State
   pub session : IsSession path lang old new end state code
   pub changed : state.changed ≡ true
-  pub failed : HasFailed (begun old path) new.files (image_of path state.questions)
-  pub rose : Rose old.counts.faults new.counts.faults
+  pub failed : HasFailed (begun old path) new.files (questions_image path state.questions)
+  pub counts : FaultRose old.counts new.counts
 
 -- the ends of the link after which a changed table is saved
-abbrev pub IsEnded : LinkEnd → Type 0
+abbrev pub IsEnded : LinkEnd OutOfMemory → Type 0
 IsEnded link.Done = Unit {0}
 IsEnded link.LinkFault = Unit {0}
 IsEnded link.TooLong = Unit {0}
 IsEnded link.OutOfMemory = ⊥
+IsEnded (link.Broken error) = ⊥
 
 -- A session that came to its end, and there was no memory to save its changed table: the files refused a call, or the program's
 -- own memory ran out before the first one.
 pub record IsUnfinished (path lang : List ℕ) (old new : Surroundings) (code : ℕ) : Type 0 where
-  pub end : LinkEnd
+  pub end : LinkEnd OutOfMemory
   pub ended : IsEnded end
   pub state : State
   pub session : IsSession path lang old new end state code
   pub changed : state.changed ≡ true
-  pub ran_out : HasRunOut (begun old path) new.files (image_of path state.questions)
-  pub refused : Rose old.counts.refusals new.counts.refusals ⊎ (new.files ≡ begun old path)
+  pub ran_out : (new.files ≡ begun old path) ⊎ HasRunOut (begun old path) new.files (questions_image path state.questions)
+  pub counts : RefusalRose old.counts new.counts ⊎ ((new.counts ≡ old.counts) × (new.files ≡ begun old path))
 
 -- want of memory before the save: no file was written
 pub record IsBrokenOff (path lang : List ℕ) (old new : Surroundings) (code : ℕ) : Type 0 where
+  pub end : LinkEnd OutOfMemory
+  pub broke : ¬ IsEnded end
   pub state : State
-  pub session : IsSession path lang old new link.OutOfMemory state code
+  pub session : IsSession path lang old new end state code
   pub files : new.files ≡ begun old path
+  pub counts : new.counts ≡ old.counts
 
 -- a run of `communicate` over the database at the path
 abbrev pub HasCommunicated : List ℕ → List ℕ → Surroundings → Surroundings → End → ℕ → Type 0
@@ -95,5 +101,5 @@ HasCommunicated path lang old new (end.Usage word) code = ⊥
 
 -- what the program does with its words
 abbrev pub HasRunWords : List (List ℕ) → List ℕ → List ℕ → Surroundings → Surroundings → End → ℕ → Type 0
-HasRunWords words path lang old new (end.Usage word) code = AreRefusedAt words word × IsSilent old new code × (new.files ≡ old.files)
+HasRunWords words path lang old new (end.Usage word) code = AreRefusedAt words word × IsSilent old new code × (new.files ≡ old.files) × (new.counts ≡ old.counts)
 HasRunWords words path lang old new end code = IsToolWords words × HasCommunicated path lang old new end code

@@ -1,29 +1,33 @@
 -- The plain machine: what a line is answered, and what it leaves.
-use Rattle.std.specs.Prelude.{ℕ, List, [], ◌∷◌, ◌++◌, map as each, Bool, true, false, ◌||◌, Option, Some, None, if◌then◌else◌, codes}
+use Rattle.std.specs.Prelude.{◌≡◌, ◌⊎◌, ℕ, List, [], ◌++◌, map as each, Bool, false, ◌||◌, Option, Some, None, if◌then◌else◌, codes}
 use Rattle.std.specs.Option.{option_map_or}
 use Rattle.std.specs.Str.{bytes_eq}
 use Rattle.std.specs.FinMap as map
 use Rattle.dc_text.specs.Bytes.{lower}
 use Rattle.dc_text.specs.Names.{is_field_key}
 use Rattle.dc_text.specs.Settled.{settled}
+use Rattle.dc_text.specs.declared.memory.OutOfMemory.{OutOfMemory}
 use Rattle.dc_words.specs.declared.stream.Line.{Line}
 use Rattle.dc_words.specs.declared.stream.Line.TheVariants.{Whole, TooLong}
-use Rattle.dc_item.specs.Item.{Parts}
+use Rattle.dc_item.specs.Item.{ItemParts}
 use Rattle.dc_item.specs.declared.op.Op.{Op}
 use Rattle.dc_item.specs.declared.op.Op.TheVariants.{Put, SetField, SetFlag, SetVar}
 use Rattle.dc_proto.specs.Commands.{heard}
-use Rattle.dc_proto.specs.Replies.{reply, line_too_long}
+use Rattle.dc_proto.specs.Replies.{reply, line_too_long, printed}
 use Rattle.dc_proto.specs.declared.command.Command.{Command}
 use Rattle.dc_proto.specs.declared.command.Command.TheVariants.{Get, Set, Reset, Subst, Fget, Fset, Metaget}
 use Rattle.dc_proto.specs.declared.command.Heard.{Heard}
 use Rattle.dc_proto.specs.declared.command.Heard.TheVariants.{Nothing, Known, Refused}
 use Rattle.dc_proto.specs.declared.reply.Reply.{Reply}
 use Rattle.dc_question.specs.Readings.{template_of, value_of, field_of}
+use Rattle.dc_serve.specs.declared.heeds.Heeded.{Heeded}
+use Rattle.dc_serve.specs.declared.heeds.Heeded.TheVariants as did
 use Rattle.dc_run.specs.declared.answers.Answer.{Answer}
 use Rattle.dc_run.specs.declared.session.Stepped.{Stepped}
 use Rattle.dc_run.specs.declared.session.Stepped.TheVariants.{Silent, Replied, Stopped}
-use Rattle.dc_run.specs.State.{Table, State}
-use Rattle.dc_run.specs.Writes.{written, changes}
+use Rattle.dc_layer.specs.State.{Table}
+use Rattle.dc_run.specs.State.{State}
+use Rattle.dc_run.specs.Writes.{table_after, changes}
 
 -- ---- one command
 
@@ -49,7 +53,7 @@ abbrev pub no_field : List ℕ → Reply
 no_field field = reply 10 (field ++ codes " doesn't exist")
 
 -- the item without a value of its own, and not seen
-abbrev pub without_value : Parts → Parts
+abbrev pub without_value : ItemParts → ItemParts
 without_value item = record item { fields = map.remove item.fields (codes "value"); flags = map.remove item.flags (codes "seen") }
 
 abbrev pub truth : Bool → List ℕ
@@ -69,7 +73,7 @@ question_of (Fset question flag value) = question
 question_of (Metaget question field) = question
 
 -- a field of the template, in the user's language and with the question's variables put in
-abbrev pub field_read : List ℕ → Parts → Parts → List ℕ → Reply
+abbrev pub field_read : List ℕ → ItemParts → ItemParts → List ℕ → Reply
 field_read lang item template field =
     if is_field_key (each lower field) then option_map_or (reply 0) (field_of lang item template (each lower field)) (no_field field) else no_field field
 
@@ -78,13 +82,13 @@ abbrev pub fset_answer : List ℕ → List ℕ → Answer
 fset_answer flag value = if is_truth value then doing (reply 0 value) (SetFlag flag (bytes_eq value (codes "true"))) else only bad_flag_value
 
 -- what METAGET is answered, on the template of the question
-abbrev pub metaget_answer : List ℕ → List ℕ → List ℕ → Parts → Option Parts → Answer
+abbrev pub metaget_answer : List ℕ → List ℕ → List ℕ → ItemParts → Option ItemParts → Answer
 metaget_answer lang question field item None = only (no_template question)
 metaget_answer lang question field item (Some template) = only (field_read lang item template field)
 
 -- What a command is answered, and the operation that it asks for, where its question is there: in the user's language, and
 -- by the table of templates.
-abbrev pub answer_on : List ℕ → Table → Command → Parts → Answer
+abbrev pub answer_on : List ℕ → Table → Command → ItemParts → Answer
 answer_on lang templates (Get question) item = only (reply 0 (value_of lang item (template_of templates item)))
 answer_on lang templates (Set question value) item = doing (reply 0 (codes "value set")) (SetField (codes "value") (settled value))
 answer_on lang templates (Reset question) item = doing (reply 0 []) (Put (without_value item))
@@ -102,7 +106,7 @@ answer_to state command =
 abbrev pub after_op : State → List ℕ → Option Op → State
 after_op state question None = state
 after_op state question (Some op) =
-    record state { questions = written state.questions question op; changed = state.changed || changes state.questions question op }
+    record state { questions = table_after state.questions question op; changed = state.changed || changes state.questions question op }
 
 abbrev pub after_command : State → Command → State
 after_command state command = after_op state (question_of command) (answer_to state command).op
@@ -129,39 +133,18 @@ unfoldable pub next : State → Line → State
 next state TooLong = state
 next state (Whole line) = after_heard state (heard false line)
 
--- ---- lines, one after another
+-- ---- the machine behind a link
 
-abbrev pub add_reply : Stepped → List Reply → List Reply
-add_reply Silent later = later
-add_reply (Replied reply) later = reply ∷ later
-add_reply Stopped later = []
+-- what a step is to the link: a reply is sent as it is printed
+abbrev pub heeded : Stepped → Heeded
+heeded Silent = did.Silent
+heeded (Replied reply) = did.Replied reply.code (printed false reply)
+heeded Stopped = did.Stopped
 
--- the replies to these lines, up to the first that stops the session
-abbrev pub replies : State → List Line → List Reply
-replies state [] = []
-replies state (line ∷ lines) = add_reply (answer state line) (replies (next state line) lines)
+-- a line that comes in the first state does this, and leaves the second
+abbrev pub Heeds : State → Line → Heeded → State → Type 0
+Heeds old line did new = (did ≡ heeded (answer old line)) × (new ≡ next old line)
 
-abbrev pub is_stop : Stepped → Bool
-is_stop Silent = false
-is_stop (Replied reply) = false
-is_stop Stopped = true
-
--- whether one of these lines stops it
-abbrev pub stops : State → List Line → Bool
-stops state [] = false
-stops state (line ∷ lines) = is_stop (answer state line) || stops (next state line) lines
-
-abbrev pub unless_stopped : Stepped → State → State → State
-unless_stopped Silent here later = later
-unless_stopped (Replied reply) here later = later
-unless_stopped Stopped here later = here
-
--- the state that these lines leave, up to the first that stops the session
-abbrev pub after : State → List Line → State
-after state [] = state
-after state (line ∷ lines) = unless_stopped (answer state line) state (after (next state line) lines)
-
--- the code of the last reply, and the one before where there is none
-abbrev pub last_code_from : ℕ → List Reply → ℕ
-last_code_from code [] = code
-last_code_from code (reply ∷ later) = last_code_from reply.code later
+-- where memory ran out at a line, the line was taken or not
+abbrev pub Breaks : State → Line → OutOfMemory → State → Type 0
+Breaks old line error new = (new ≡ old) ⊎ (new ≡ next old line)

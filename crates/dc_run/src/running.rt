@@ -1,19 +1,18 @@
 // The call that the program makes.
 ghost use Rattle.std.specs.Prelude.{◌≡◌};
-ghost use Rattle.dc_run.specs.Ends.{status_of};
-ghost use Rattle.dc_run.specs.Ends.{LinkCounts, FilesFaults};
+ghost use Rattle.dc_run.specs.Ends.{status_of, LinkCounts, FilesCounts};
 ghost use Rattle.dc_run.specs.Finishing.{Finishes};
 ghost use Rattle.dc_run.specs.Headline.{HasRunWords, HasCommunicated};
 
-use crate::answering::serve_link;
 use crate::loading::load_database;
-use crate::outcome::{End, LinkEnd, Outcome, end_at, end_at_unsaved, outcome_at};
+use crate::outcome::{End, Outcome, end_at, end_at_unsaved, outcome_at};
 use crate::saving::save;
 use crate::session::Session;
 use crate::settings::Settings;
 use crate::tool::{Tool, read_tool};
 use dc_outside::{Files, Link};
-use dc_text::{List, Text};
+use dc_serve::{LinkEnd, serve_link};
+use dc_text::{List, OutOfMemory, Text};
 use std::alloc::Global;
 
 /// Runs the tool that the words name, over the link `io` and the database at `settings.conf_path`: the questions
@@ -31,17 +30,17 @@ pub fn run_words<L: Link, E: Link, F: Files>(
 ) -> Outcome
     // What was said on the link is what the plain machine says, and what was saved is its table, by the end of the run.
     ensures ran { HasRunWords words.now settings.now.conf_path settings.now.lang
-        (record { files = record { disk = F.disk files.old; calls = F.calls files.old }; counts = record { faults = F.faults files.old; refusals = F.refusals files.old }; talk = L.talk io.old; input = L.left io.old })
-        (record { files = record { disk = F.disk files.new; calls = F.calls files.new }; counts = record { faults = F.faults files.new; refusals = F.refusals files.new }; talk = L.talk io.new; input = L.left io.new })
+        (record { files = F.told files.old; counts = F.counts files.old; talk = L.talk io.old; input = L.left io.old })
+        (record { files = F.told files.new; counts = F.counts files.new; talk = L.talk io.new; input = L.left io.new })
         result.end result.last_code }
     ensures status { result.status ≡ status_of result.end result.last_code }
 
     // Nothing was said on `err`.
     ensures err { err.new ≡ err.old }
 
-    // Each fault has its end, and no other end passes over one.
-    ensures files_faults { FilesFaults result.end (F.faults files.old) (F.faults files.new) }
-    ensures link_faults { LinkCounts result.end (L.faults io.old) (L.faults io.new) }
+    // Each fault has its end, and no other end passes over one. The same holds of refusals for want of memory.
+    ensures files_counts { FilesCounts result.end (F.counts files.old) (F.counts files.new) }
+    ensures link_counts { LinkCounts result.end (record { faults = L.faults io.old; refusals = L.refusals io.old }) (record { faults = L.faults io.new; refusals = L.refusals io.new }) }
 {
     let _ = err;
     match read_tool(words) {
@@ -57,12 +56,12 @@ fn communicate<L: Link, F: Files>(
     files: &mut F,
 ) -> Outcome
     ensures ran { HasCommunicated settings.now.conf_path settings.now.lang
-        (record { files = record { disk = F.disk files.old; calls = F.calls files.old }; counts = record { faults = F.faults files.old; refusals = F.refusals files.old }; talk = L.talk io.old; input = L.left io.old })
-        (record { files = record { disk = F.disk files.new; calls = F.calls files.new }; counts = record { faults = F.faults files.new; refusals = F.refusals files.new }; talk = L.talk io.new; input = L.left io.new })
+        (record { files = F.told files.old; counts = F.counts files.old; talk = L.talk io.old; input = L.left io.old })
+        (record { files = F.told files.new; counts = F.counts files.new; talk = L.talk io.new; input = L.left io.new })
         result.end result.last_code }
     ensures status { result.status ≡ status_of result.end result.last_code }
-    ensures files_faults { FilesFaults result.end (F.faults files.old) (F.faults files.new) }
-    ensures link_faults { LinkCounts result.end (L.faults io.old) (L.faults io.new) }
+    ensures files_counts { FilesCounts result.end (F.counts files.old) (F.counts files.new) }
+    ensures link_counts { LinkCounts result.end (record { faults = L.faults io.old; refusals = L.refusals io.old }) (record { faults = L.faults io.new; refusals = L.refusals io.new }) }
 {
     let lang = match settings.lang.copy() {
         Ok(lang) => lang,
@@ -84,19 +83,19 @@ fn finish<F: Files>(
     alloc: Global,
     path: &Text,
     session: &Session,
-    end: LinkEnd,
+    end: LinkEnd<OutOfMemory>,
     files: &mut F,
 ) -> End
     ensures finishes { Finishes path.now session.now end
-        (record { disk = F.disk files.old; calls = F.calls files.old })
-        (record { disk = F.disk files.new; calls = F.calls files.new })
-        (record { faults = F.faults files.old; refusals = F.refusals files.old })
-        (record { faults = F.faults files.new; refusals = F.refusals files.new })
+        (F.told files.old)
+        (F.told files.new)
+        (F.counts files.old)
+        (F.counts files.new)
         result }
-    ensures faults { FilesFaults result (F.faults files.old) (F.faults files.new) }
+    ensures counts { FilesCounts result (F.counts files.old) (F.counts files.new) }
 {
     match end {
-        LinkEnd::OutOfMemory => End::OutOfMemory,
+        LinkEnd::OutOfMemory | LinkEnd::Broken(_) => End::OutOfMemory,
         LinkEnd::Done | LinkEnd::LinkFault | LinkEnd::TooLong => {
             if !session.is_changed() {
                 return end_at(end);

@@ -1,4 +1,5 @@
 pub mod ImageLemmas
+pub mod Ends
+pub mod PlaceLemmas
 pub mod Standing
-pub mod StepLemmas
 pub mod TableLemmas

@@ -1,141 +1,218 @@
--- What stands on the disk when a save of an image isn't done.
-use Rattle.std.proofs.Common.{◌≡◌, ◌≢◌, ◌⊎◌, inl, inr, ℕ, ◌<◌, ◌++◌, cond, List, [], ◌∷◌, Option, None, Some, refl, sym, ap, subst, ◌∙◌, length, length-append, arith, lit<, codes}
-use Rattle.std.specs.List.{AllByRecursion}
+-- What a crash leaves at each moment of saves.
+use Rattle.std.proofs.Common.{◌≡◌, ◌⊎◌, inl, inr, ⊎_elim, ℕ, ◌++◌, List, [], ◌∷◌, Option, None, Some, Result, Ok, Err, refl, sym, ap, subst, ◌∙◌}
 use Rattle.std.specs.Option.{option_map}
-use Rattle.std.specs.Cmp.Lexicographic.{nat_list_cmp_total}
-use Rattle.std.specs.FinMap as map
-use Rattle.std.specs.FinMap.{get-remove}
-use Rattle.dc_outside.specs.Disk.{Disk, File, file_at, with_entry}
-use Rattle.dc_outside.proofs.DiskLemmas.{same, same-false, file_at-here, file_at-with_entry}
+use Rattle.dc_outside.specs.Disk.{Disk, Standing, File, Outcome, OneOf, Allows, MayLeave, MayLeaveMore, HasLeftMore, IsSound, then_stands, open_at, settled_at, moved_outcome, with_rename, with_removal, names_settled}
+use Rattle.dc_outside.specs.Told.{Told}
+use Rattle.dc_outside.specs.Steps.{Step, Writing, Syncing, Renaming, SyncingNames, Removing, done, after_step, HalfDone, Leaves}
+use Rattle.dc_outside.proofs.Moments.{none_more, more_then, more_more, sound_open, sound_settled, sound_with, sound_renamed, sound_removed, sound_names, same_more, open_more, settled_more, rename_more, renamed_more, removal_more, removed_more, names_more, moved_written}
 use Rattle.dc_layer.specs.declared.image.Image.{Image}
-use Rattle.dc_save.specs.Told.{Told}
-use Rattle.dc_save.specs.Steps.{Step, Writing, Syncing, Renaming, SyncingNames, Removing, done_on, after_step, Leaves, FailsIn, StopsIn}
-use Rattle.dc_save.specs.Saving.{new_path, old_path, written, moved, removed, image_steps, file_of, beside, IsOldOrNew, HasFailed, HasRunOut}
-use Rattle.dc_save.proofs.ImageLemmas.{renamed_beside}
+use Rattle.dc_save.specs.declared.saving.SaveError.{SaveError}
+use Rattle.dc_save.specs.declared.saving.SaveError.TheVariants.{Failed, OutOfMemory}
+use Rattle.dc_save.specs.Steps.{all_done, after_steps, FailsIn, StopsIn}
+use Rattle.dc_save.specs.Saving.{new_path, old_path, written, moved, removed, image_steps, file_of, after_image, after_images, HasFailed, HasRunOut, FailsAmong, StopsAmong, Saves, MayAdd, MayAddAny, LeavesOldOrNew}
 
-same_some : {A : Type 0} (a b : A) → Some a ≡ Some b → a ≡ b
+pub same_some : {A : Type 0} (a b : A) → Some a ≡ Some b → a ≡ b
 same_some a b e = cc
 
-longer : (path more : List ℕ) → 0 < length more → path ≢ path ++ more
-longer path more some e = let l : length path ≡ length (path ++ more) = ap length e in omega (arith, length-append path more, l)
+-- ---- steps that leave what is good, done or not
 
--- ---- steps, each of which leaves a good disk, done or not
+Safe : (Standing → Type 0) → Standing → List Step → Type 0
+Safe Good standing [] = Good standing
+Safe Good standing (step ∷ steps) = Good standing × ((half : Standing) → HalfDone step standing half → Good half) × Safe Good (done step standing) steps
 
-Safe : (Disk → Type 0) → Disk → List Step → Type 0
-Safe Good disk [] = Good disk
-Safe Good disk (step ∷ steps) = Good disk × ((after : Disk) → Leaves step (Some disk) (Some after) → Good after) × Safe Good (done_on step disk) steps
+-- the moments from the old disk to the new one are good, and so is what stands now
+pub record Runs (more : List ℕ → Option File → Type 0) (Good : Standing → Type 0) (old new : Disk) : Type 0 where
+  pub moments : HasLeftMore more old new
+  pub now : Good new.standing
 
-module _ (Good : Disk → Type 0) (new : Told) (after : Disk) (left : new.disk ≡ Some after) where
-  good_failed : (steps : List Step) (files : Told) (disk : Disk) → files.disk ≡ Some disk → Safe Good disk steps → FailsIn steps files new → Good after
+module _ (more : List ℕ → Option File → Type 0) (Good : Standing → Type 0) (old : Disk) (within : (standing : Standing) → Good standing → MayLeaveMore more old.standing standing) where
+  first_good : (steps : List Step) (standing : Standing) → Safe Good standing steps → Good standing
   unfolding Safe
-  good_failed [] files disk is safe fails = absurd fails
-  good_failed (step ∷ steps) files disk is safe (inl fails) =
-      safe.1 after (subst (λ (o : Option Disk). Leaves step (Some disk) o) left (subst (λ (o : Option Disk). Leaves step o new.disk) is fails.disk))
-  good_failed (step ∷ steps) files disk is safe (inr fails) = good_failed steps (after_step files step) (done_on step disk) (ap (λ (o : Option Disk). option_map (done_on step) o) is) safe.2 fails
+  first_good [] standing safe = safe
+  first_good (step ∷ steps) standing safe = safe.0
 
-  first_good : (steps : List Step) (disk : Disk) → Safe Good disk steps → Good disk
-  unfolding Safe
-  first_good [] disk safe = safe
-  first_good (step ∷ steps) disk safe = safe.0
+  one_more : (mid : Disk) (standing : Standing) → HasLeftMore more old mid → Good standing → Runs more Good old (then_stands mid standing)
+  one_more mid standing so_far good = record { moments = more_then more old mid standing so_far (within standing good); now = good }
 
-  good_stopped : (steps : List Step) (files : Told) (disk : Disk) → files.disk ≡ Some disk → Safe Good disk steps → StopsIn steps files new → Good after
-  unfolding Safe
-  good_stopped [] files disk is safe stops = subst Good (same_some disk after (sym is ∙ ap (λ (t : Told). t.disk) (sym stops) ∙ left)) safe
-  good_stopped (step ∷ steps) files disk is safe (inl stops) = subst Good (same_some disk after (sym is ∙ ap (λ (t : Told). t.disk) (sym stops) ∙ left)) safe.0
-  good_stopped (step ∷ steps) files disk is safe (inr stops) = good_stopped steps (after_step files step) (done_on step disk) (ap (λ (o : Option Disk). option_map (done_on step) o) is) safe.2 stops
+  failed_at : (step : Step) (mid new : Disk) (told : Option Disk) → told ≡ Some new → HasLeftMore more old mid → Good mid.standing → ((half : Standing) → HalfDone step mid.standing half → Good half) → Leaves step (Some mid) told → Runs more Good old new
+  failed_at step mid new told is so_far good half (inl same) = subst (λ (d : Disk). Runs more Good old d) (same_some mid new (sym same ∙ is)) (record { moments = so_far; now = good })
+  failed_at step mid new told is so_far good half (inr left) = subst (λ (d : Disk). Runs more Good old d) (same_some (then_stands mid left.0) new (sym left.2 ∙ is)) (one_more mid left.0 so_far (half left.0 left.1))
+
+  module _ (new : Told) (after : Disk) (is : new.disk ≡ Some after) where
+    run_failed : (steps : List Step) (told : Told) (mid : Disk) → told.disk ≡ Some mid → HasLeftMore more old mid → Safe Good mid.standing steps → FailsIn steps told new → Runs more Good old after
+    unfolding Safe
+    run_failed [] told mid at so_far safe fails = absurd fails
+    run_failed (step ∷ steps) told mid at so_far safe (inl fails) =
+        failed_at step mid after new.disk is so_far safe.0 safe.1 (subst (λ (o : Option Disk). Leaves step o new.disk) at fails.disk)
+    run_failed (step ∷ steps) told mid at so_far safe (inr fails) =
+        run_failed steps (after_step told step) (then_stands mid (done step mid.standing)) (ap (λ (o : Option Disk). option_map (λ disk. then_stands disk (done step disk.standing)) o) at)
+        (more_then more old mid (done step mid.standing) so_far (within _ (first_good steps _ safe.2))) safe.2 fails
+
+    run_stopped : (steps : List Step) (told : Told) (mid : Disk) → told.disk ≡ Some mid → HasLeftMore more old mid → Safe Good mid.standing steps → StopsIn steps told new → Runs more Good old after
+    unfolding Safe
+    run_stopped [] told mid at so_far safe stops = absurd stops
+    run_stopped (step ∷ steps) told mid at so_far safe (inl stops) = subst (λ (d : Disk). Runs more Good old d) (same_some mid after (sym at ∙ ap (λ (t : Told). t.disk) (sym stops) ∙ is)) (record { moments = so_far; now = safe.0 })
+    run_stopped (step ∷ steps) told mid at so_far safe (inr stops) =
+        run_stopped steps (after_step told step) (then_stands mid (done step mid.standing)) (ap (λ (o : Option Disk). option_map (λ disk. then_stands disk (done step disk.standing)) o) at)
+        (more_then more old mid (done step mid.standing) so_far (within _ (first_good steps _ safe.2))) safe.2 stops
 
 -- ---- the steps of an image
 
-module _ (before : Disk) (image : Image) where
-  record Keeps (disk : Disk) : Type 0 where
-    here : file_at disk image.path ≡ file_at before image.path
-    others : (other : List ℕ) → other ≢ image.path → AllByRecursion (λ path. other ≢ path) (beside image) → file_at disk other ≡ file_at before other
-
-  Good : Disk → Type 0
-  Good disk = IsOldOrNew before disk image
-
-  kept : (disk : Disk) → Keeps disk → Good disk
-  unfolding Good
-  kept disk keeps = record { here = inl keeps.here; others = keeps.others }
+module _ (start : Standing) (image : Image) where
+  pub record Good (standing : Standing) : Type 0 where
+    pub sound : IsSound standing
+    pub within : MayLeaveMore (MayAdd image) start standing
 
   IsBeside : List ℕ → Type 0
-  IsBeside path = (image.path ≢ path) × ((other : List ℕ) → AllByRecursion (λ p. other ≢ p) (beside image) → other ≢ path)
+  IsBeside path = (entry : Option File) → MayAdd image path entry
 
-  kept_beside : (disk : Disk) (path : List ℕ) (entry : Option File) → IsBeside path → Keeps disk → Keeps (with_entry disk path entry)
+  -- a file that is written and synced beside the path
+  wrote : (standing : Standing) (path : List ℕ) (entry : Option File) → IsBeside path → Good standing → Good (open_at standing path entry)
   unfolding IsBeside
-  kept_beside disk path entry is keeps = record {
-    here = file_at-with_entry disk path entry image.path ∙ ap (λ b. cond b entry (file_at disk image.path)) (same-false image.path path is.0) ∙ keeps.here;
-    others = λ other apart all. file_at-with_entry disk path entry other ∙ ap (λ b. cond b entry (file_at disk other)) (same-false other path (is.1 other all)) ∙ keeps.others other apart all;
-  }
+  wrote standing path entry is good = record { sound = sound_open standing path entry good.sound; within = open_more (MayAdd image) start standing path entry is good.within }
 
-  safe_written : (disk : Disk) (path text : List ℕ) (mode : ℕ) (rest : List Step) → IsBeside path → Keeps disk
-      → (Keeps (map.insert disk path (record { bytes = text; mode = mode })) → Safe Good (map.insert disk path (record { bytes = text; mode = mode })) rest)
-      → Safe Good disk (Writing path (record { bytes = text; mode = mode }) ∷ Syncing path ∷ rest)
-  unfolding Safe
-  safe_written disk path text mode rest is keeps more =
-      let file : File = record { bytes = text; mode = mode } in
-      let wrote : Keeps (map.insert disk path file) = kept_beside disk path (Some file) is keeps in (
-        kept disk keeps,
-        (λ after left. subst Good (sym (same_some after _ left.1)) (kept (with_entry disk path left.0) (kept_beside disk path left.0 is keeps))),
-        (kept _ wrote, (λ after left. subst Good (sym (same_some after _ left)) (kept _ wrote)), more wrote),
-      )
+  synced : (standing : Standing) (path : List ℕ) → IsBeside path → Good standing → Good (settled_at standing path)
+  unfolding IsBeside
+  synced standing path is good = record { sound = sound_settled standing path good.sound; within = settled_more (MayAdd image) start standing path is good.within }
 
-  -- two steps, of which the first may be done or not where it failed
-  safe_two : (disk : Disk) (step : Step) → ((after : Disk) → Leaves step (Some disk) (Some after) → (after ≡ disk) ⊎ (after ≡ done_on step disk)) → Good disk → Good (done_on step disk) → Safe Good disk (step ∷ SyncingNames ∷ [])
+  safe_written : (standing : Standing) (path : List ℕ) (file : File) (rest : List Step) → IsBeside path → Good standing → Safe Good (settled_at (open_at standing path (Some file)) path) rest → Safe Good standing (Writing path file ∷ Syncing path ∷ rest)
   unfolding Safe
-  safe_two disk step leaves old new = (
-    old,
-    (λ after left. elim (leaves after left) [ inl is ↦ subst Good (sym is) old | inr is ↦ subst Good (sym is) new ]),
-    (new, (λ after left. subst Good (sym (same_some after _ left)) new), new),
+  safe_written standing path file rest is good more = (
+    good,
+    (λ half left. subst Good (sym left.1) (wrote standing path left.0 is good)),
+    (wrote standing path (Some file) is good, (λ half left. absurd left), more),
   )
 
-  safe_moved : (disk : Disk) (file : File) → IsBeside (new_path image.path) → file_of image ≡ Some file → Keeps disk → Safe Good (map.insert disk (new_path image.path) file) (moved (new_path image.path) image.path)
-  unfolding IsBeside Good
-  safe_moved disk file is has keeps =
-      let beside_path : List ℕ = new_path image.path in
-      let put : Good (map.insert (map.remove disk beside_path) image.path file) = record {
-        here = inr (file_at-here (map.remove disk beside_path) image.path (Some file) ∙ sym has);
-        others = λ other apart all. file_at-with_entry (map.remove disk beside_path) image.path (Some file) other ∙ ap (λ b. cond b (Some file) (file_at (map.remove disk beside_path) other)) (same-false other image.path apart)
-            ∙ get-remove nat_list_cmp_total disk beside_path other ∙ ap (λ b. cond b None (file_at disk other)) (same-false other beside_path (is.1 other all)) ∙ keeps.others other apart all;
-      } in
-      safe_two (map.insert disk beside_path file) (Renaming beside_path image.path)
-      (λ after left. elim left [ inl same ↦ inl (same_some after _ same) | inr done ↦ inr (same_some after _ done) ])
-      (kept _ (kept_beside disk beside_path (Some file) is keeps)) (subst Good (sym (renamed_beside disk beside_path image.path file)) put)
+  named : (standing : Standing) → Good standing → Good (names_settled standing)
+  named standing good = record { sound = sound_names standing good.sound; within = names_more (MayAdd image) start standing good.sound good.within }
 
-  safe_removed : (disk : Disk) → file_of image ≡ None → Keeps disk → Safe Good disk (removed image.path)
-  unfolding Good
-  safe_removed disk has keeps =
-      safe_two disk (Removing image.path) (λ after left. elim left [ inl same ↦ inl (same_some after _ same) | inr done ↦ inr (same_some after _ done) ]) (kept disk keeps) (record {
-        here = inr (file_at-here disk image.path None ∙ sym has);
-        others = λ other apart all. file_at-with_entry disk image.path None other ∙ ap (λ b. cond b None (file_at disk other)) (same-false other image.path apart) ∙ keeps.others other apart all;
-      })
+  -- two steps, of which the first may be done by half
+  safe_two : (standing : Standing) (step : Step) → Good standing → ((half : Standing) → HalfDone step standing half → Good half) → Good (done step standing) → Safe Good standing (step ∷ SyncingNames ∷ [])
+  unfolding Safe
+  safe_two standing step good half all = (good, half, (all, (λ half left. absurd left), named (done step standing) all))
 
-  unchanged : Keeps before
-  unchanged = record { here = refl; others = λ other apart all. refl }
+  safe_moved : (standing : Standing) (beside_path : List ℕ) (file : File) → IsBeside beside_path → file_of image ≡ Some file → moved_outcome standing beside_path ≡ OneOf (Some file ∷ []) → Good standing → Safe Good standing (moved beside_path image.path)
+  unfolding IsBeside
+  safe_moved standing beside_path file is has at good =
+      let moves : (entry : Option File) → Allows (moved_outcome standing beside_path) entry → MayLeave start image.path entry ⊎ MayAdd image image.path entry =
+      λ entry left. elim (subst (λ (o : Outcome). Allows o entry) at left) [ inl e ↦ inr (inl (refl, e ∙ sym has)) | inr none ↦ absurd none ] in
+      let half : Good (with_rename standing beside_path image.path) = record { sound = sound_with _ beside_path (OneOf (None ∷ [])) (sound_with standing image.path (moved_outcome standing beside_path) good.sound); within = rename_more (MayAdd image) start standing beside_path image.path moves is good.within } in
+      let all : Good (done (Renaming beside_path image.path) standing) = record { sound = sound_renamed standing beside_path image.path good.sound; within = renamed_more (MayAdd image) start standing beside_path image.path moves is good.within } in
+      safe_two standing (Renaming beside_path image.path) good (λ h left. elim left [ inl e ↦ subst Good (sym e) half | inr e ↦ subst Good (sym e) all ]) all
 
-longer_new : (path : List ℕ) → path ≢ new_path path
-longer_new path = longer path (codes "-new") (lit< tt)
+  safe_removed : (standing : Standing) → file_of image ≡ None → Good standing → Safe Good standing (removed image.path)
+  safe_removed standing has good =
+      let gone : MayAdd image image.path None = inl (refl, sym has) in
+      let half : Good (with_removal standing image.path) = record { sound = sound_with standing image.path (OneOf (None ∷ [])) good.sound; within = removal_more (MayAdd image) start standing image.path gone good.within } in
+      let all : Good (done (Removing image.path) standing) = record { sound = sound_removed standing image.path good.sound; within = removed_more (MayAdd image) start standing image.path gone good.within } in
+      safe_two standing (Removing image.path) good (λ h left. elim left [ inl e ↦ subst Good (sym e) half | inr e ↦ subst Good (sym e) all ]) all
 
-longer_old : (path : List ℕ) → path ≢ old_path path
-longer_old path = longer path (codes "-old") (lit< tt)
-
-safe_image : (before : Disk) (path : List ℕ) (mode : ℕ) (bytes old : Option (List ℕ)) → let image : Image = record { path = path; mode = mode; bytes = bytes; old = old } in Safe (Good before image) before (image_steps image)
+-- every step of the image's save is safe
+safe_image : (start : Standing) (path : List ℕ) (mode : ℕ) (bytes old : Option (List ℕ)) → let image : Image = record { path = path; mode = mode; bytes = bytes; old = old } in IsSound start → Safe (Good start image) start (image_steps image)
 unfolding IsBeside
-safe_image before path mode None None = let image : Image = record { path = path; mode = mode; bytes = None; old = None } in safe_removed before image before refl (unchanged before image)
-safe_image before path mode (Some bytes) None = let image : Image = record { path = path; mode = mode; bytes = Some bytes; old = None } in
-    safe_written before image before (new_path path) bytes mode (moved (new_path path) path) (longer_new path, λ other all. all.0) (unchanged before image)
-    (λ wrote. safe_moved before image before _ (longer_new path, λ other all. all.0) refl (unchanged before image))
-safe_image before path mode None (Some old) = let image : Image = record { path = path; mode = mode; bytes = None; old = Some old } in
-    safe_written before image before (old_path path) old mode (removed path) (longer_old path, λ other all. all.0) (unchanged before image) (λ wrote. safe_removed before image _ refl wrote)
-safe_image before path mode (Some bytes) (Some old) = let image : Image = record { path = path; mode = mode; bytes = Some bytes; old = Some old } in
-    safe_written before image before (old_path path) old mode (written (new_path path) bytes mode ++ moved (new_path path) path) (longer_old path, λ other all. all.0) (unchanged before image)
-    (λ wrote. safe_written before image _ (new_path path) bytes mode (moved (new_path path) path) (longer_new path, λ other all. all.1.0) wrote
-    (λ both. safe_moved before image _ _ (longer_new path, λ other all. all.1.0) refl wrote))
+safe_image start path mode None None sound = let image : Image = record { path = path; mode = mode; bytes = None; old = None } in
+    safe_removed start image start refl (record { sound = sound; within = same_more (MayAdd image) start })
+safe_image start path mode (Some bytes) None sound = let image : Image = record { path = path; mode = mode; bytes = Some bytes; old = None } in
+    safe_written start image start (new_path path) _ (moved (new_path path) path) (λ entry. inr (inl refl)) (record { sound = sound; within = same_more (MayAdd image) start })
+    (safe_moved start image _ (new_path path) _ (λ entry. inr (inl refl)) refl (moved_written start (new_path path) _) (synced start image _ (new_path path) (λ entry. inr (inl refl)) (wrote start image start (new_path path) (Some (record { bytes = bytes; mode = mode })) (λ entry. inr (inl refl)) (record { sound = sound; within = same_more (MayAdd image) start }))))
+safe_image start path mode None (Some old) sound = let image : Image = record { path = path; mode = mode; bytes = None; old = Some old } in
+    let first : Good start image start = record { sound = sound; within = same_more (MayAdd image) start } in
+    let kept = synced start image _ (old_path path) (λ entry. inr (inl refl)) (wrote start image start (old_path path) (Some (record { bytes = old; mode = mode })) (λ entry. inr (inl refl)) first) in
+    safe_written start image start (old_path path) _ (removed path) (λ entry. inr (inl refl)) first (safe_removed start image _ refl kept)
+safe_image start path mode (Some bytes) (Some old) sound = let image : Image = record { path = path; mode = mode; bytes = Some bytes; old = Some old } in
+    let first : Good start image start = record { sound = sound; within = same_more (MayAdd image) start } in
+    let kept = synced start image _ (old_path path) (λ entry. inr (inl refl)) (wrote start image start (old_path path) (Some (record { bytes = old; mode = mode })) (λ entry. inr (inl refl)) first) in
+    let both = synced start image _ (new_path path) (λ entry. inr (inr (inl refl))) (wrote start image _ (new_path path) (Some (record { bytes = bytes; mode = mode })) (λ entry. inr (inr (inl refl))) kept) in
+    safe_written start image start (old_path path) _ (written (new_path path) bytes mode ++ moved (new_path path) path) (λ entry. inr (inl refl)) first
+    (safe_written start image _ (new_path path) _ (moved (new_path path) path) (λ entry. inr (inr (inl refl))) kept
+    (safe_moved start image _ (new_path path) _ (λ entry. inr (inr (inl refl))) refl (moved_written _ (new_path path) _) both))
 
-pub failed_save : (files new : Told) (image : Image) (before after : Disk) → files.disk ≡ Some before → new.disk ≡ Some after → HasFailed files new image → IsOldOrNew before after image
-unfolding Good
-failed_save files new image before after is left fails = good_failed (Good before image) new after left (image_steps image) files before is (safe_image before image.path image.mode image.bytes image.old) fails
+-- ---- one image, and then images
 
-pub stopped_save : (files new : Told) (image : Image) (before after : Disk) → files.disk ≡ Some before → new.disk ≡ Some after → HasRunOut files new image → IsOldOrNew before after image
-unfolding Good
-stopped_save files new image before after is left stops = good_stopped (Good before image) new after left (image_steps image) files before is (safe_image before image.path image.mode image.bytes image.old) stops
+weaker : (few more : List ℕ → Option File → Type 0) (old new : Disk) → ((path : List ℕ) (entry : Option File) → few path entry → more path entry) → HasLeftMore few old new → HasLeftMore more old new
+weaker few more old new also left = record { later = left.later; at_most = λ since path entry le l. ⊎_elim (λ before. inl before) (λ added. inr (also path entry added)) (left.at_most since path entry le l) }
+
+-- all steps were done
+pub record RunsTo (more : List ℕ → Option File → Type 0) (Good : Standing → Type 0) (old : Disk) (steps : List Step) (mid : Disk) (told : Option Disk) : Type 0 where
+  pub after : Disk
+  pub is : told ≡ Some after
+  pub stands : after.standing ≡ all_done steps mid.standing
+  pub runs : Runs more Good old after
+
+module _ (more : List ℕ → Option File → Type 0) (Good : Standing → Type 0) (old : Disk) (within : (standing : Standing) → Good standing → MayLeaveMore more old.standing standing) where
+  run_done : (steps : List Step) (told : Told) (mid : Disk) → told.disk ≡ Some mid → HasLeftMore more old mid → Safe Good mid.standing steps → RunsTo more Good old steps mid (after_steps told steps).disk
+  unfolding Safe
+  run_done [] told mid at so_far safe = record { after = mid; is = at; stands = refl; runs = record { moments = so_far; now = safe } }
+  run_done (step ∷ steps) told mid at so_far safe =
+      let next : Disk = then_stands mid (done step mid.standing) in
+      let rest = run_done steps (after_step told step) next (ap (λ (o : Option Disk). option_map (λ disk. then_stands disk (done step disk.standing)) o) at)
+      (more_then more old mid (done step mid.standing) so_far (within _ (first_good more Good old within steps _ safe.2))) safe.2 in
+      record { after = rest.after; is = rest.is; stands = rest.stands; runs = rest.runs }
+
+module _ (image : Image) (told : Told) (old : Disk) (at : told.disk ≡ Some old) (sound : IsSound old.standing) where
+  safe : Safe (Good old.standing image) old.standing (image_steps image)
+  safe = safe_image old.standing image.path image.mode image.bytes image.old sound
+
+  pub image_done : RunsTo (MayAdd image) (Good old.standing image) old (image_steps image) old (after_image told image).disk
+  image_done = run_done (MayAdd image) (Good old.standing image) old (λ standing good. good.within) (image_steps image) told old at (none_more (MayAdd image) old) safe
+
+  pub image_failed : (new : Told) (after : Disk) → new.disk ≡ Some after → HasFailed told new image → Runs (MayAdd image) (Good old.standing image) old after
+  image_failed new after is fails = run_failed (MayAdd image) (Good old.standing image) old (λ standing good. good.within) new after is (image_steps image) told old at (none_more (MayAdd image) old) safe fails
+
+  pub image_stopped : (new : Told) (after : Disk) → new.disk ≡ Some after → HasRunOut told new image → Runs (MayAdd image) (Good old.standing image) old after
+  image_stopped new after is stops = run_stopped (MayAdd image) (Good old.standing image) old (λ standing good. good.within) new after is (image_steps image) told old at (none_more (MayAdd image) old) safe stops
+
+first_added : (image : Image) (images : List Image) (path : List ℕ) (entry : Option File) → MayAdd image path entry → MayAddAny (image ∷ images) path entry
+first_added image images path entry added = inl added
+
+later_added : (image : Image) (images : List Image) (path : List ℕ) (entry : Option File) → MayAddAny images path entry → MayAddAny (image ∷ images) path entry
+later_added image images path entry added = inr added
+
+pub same_disks : (old after : Disk) (told new : Told) → told.disk ≡ Some old → new.disk ≡ Some after → new ≡ told → old ≡ after
+same_disks old after told new at is same = same_some old after (sym at ∙ ap (λ (t : Told). t.disk) (sym same) ∙ is)
+
+module _ (new : Told) (after : Disk) (is : new.disk ≡ Some after) where
+  among_done : (images : List Image) (told : Told) (old : Disk) → told.disk ≡ Some old → IsSound old.standing → new ≡ after_images told images → HasLeftMore (MayAddAny images) old after
+  among_done [] told old at sound same = subst (λ (d : Disk). HasLeftMore (MayAddAny []) old d) (same_disks old after told new at is same) (none_more (MayAddAny []) old)
+  among_done (image ∷ images) told old at sound all =
+      let first = image_done image told old at sound in
+      more_more (MayAdd image) (MayAddAny images) (MayAddAny (image ∷ images)) (first_added image images) (later_added image images) old first.after after first.runs.moments
+      (among_done images (after_image told image) first.after first.is first.runs.now.sound all)
+
+  among_failed : (images : List Image) (path : List ℕ) (told : Told) (old : Disk) → told.disk ≡ Some old → IsSound old.standing → FailsAmong images path told new → HasLeftMore (MayAddAny images) old after
+  among_failed [] path told old at sound fails = absurd fails
+  among_failed (image ∷ images) path told old at sound (inl fails) =
+      weaker (MayAdd image) (MayAddAny (image ∷ images)) old after (first_added image images) (image_failed image told old at sound new after is fails.1).moments
+  among_failed (image ∷ images) path told old at sound (inr fails) =
+      let first = image_done image told old at sound in
+      more_more (MayAdd image) (MayAddAny images) (MayAddAny (image ∷ images)) (first_added image images) (later_added image images) old first.after after first.runs.moments
+      (among_failed images path (after_image told image) first.after first.is first.runs.now.sound fails)
+
+  among_stopped : (images : List Image) (told : Told) (old : Disk) → told.disk ≡ Some old → IsSound old.standing → StopsAmong images told new → HasLeftMore (MayAddAny images) old after
+  among_stopped [] told old at sound stops = absurd stops
+  among_stopped (image ∷ images) told old at sound (inl stops) =
+      weaker (MayAdd image) (MayAddAny (image ∷ images)) old after (first_added image images) (image_stopped image told old at sound new after is stops).moments
+  among_stopped (image ∷ images) told old at sound (inr stops) =
+      let first = image_done image told old at sound in
+      more_more (MayAdd image) (MayAddAny images) (MayAddAny (image ∷ images)) (first_added image images) (later_added image images) old first.after after first.runs.moments
+      (among_stopped images (after_image told image) first.after first.is first.runs.now.sound stops)
+
+-- a save of images, however it ends
+pub every_moment : (images : List Image) (old new : Told) (result : Result (Unit {0}) SaveError) → Saves images old new result → LeavesOldOrNew images old new
+every_moment images old new (Ok value) all before after at is settled = among_done new after is images old before at settled.sound all
+every_moment images old new (Err (Failed path)) fails before after at is settled = among_failed new after is images path old before at settled.sound fails
+every_moment images old new (Err OutOfMemory) (inl same) before after at is settled = subst (λ (d : Disk). HasLeftMore (MayAddAny images) before d) (same_disks before after old new at is same) (none_more (MayAddAny images) before)
+every_moment images old new (Err OutOfMemory) (inr stops) before after at is settled = among_stopped new after is images old before at settled.sound stops
+
+-- saves in one run, one after another
+added_first : (images others : List Image) (path : List ℕ) (entry : Option File) → MayAddAny images path entry → MayAddAny (images ++ others) path entry
+added_first [] others path entry none = absurd none
+added_first (image ∷ images) others path entry (inl here) = inl here
+added_first (image ∷ images) others path entry (inr there) = inr (added_first images others path entry there)
+
+added_then : (images others : List Image) (path : List ℕ) (entry : Option File) → MayAddAny others path entry → MayAddAny (images ++ others) path entry
+added_then [] others path entry added = added
+added_then (image ∷ images) others path entry added = inr (added_then images others path entry added)
+
+pub chain : (images others : List Image) (first middle last : Disk) → HasLeftMore (MayAddAny images) first middle → HasLeftMore (MayAddAny others) middle last → HasLeftMore (MayAddAny (images ++ others)) first last
+chain images others first middle last one two = more_more (MayAddAny images) (MayAddAny others) (MayAddAny (images ++ others)) (added_first images others) (added_then images others) first middle last one two

@@ -1,4 +1,4 @@
 pub mod Loading
+pub mod Places
 pub mod Saving
 pub mod Steps
-pub mod Told

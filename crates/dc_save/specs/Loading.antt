@@ -1,6 +1,6 @@
 -- Reading a text of records, and loading a layer in one file from it.
 use Rattle.std.specs.Prelude.{◌≡◌, ◌⊎◌, ℕ, Bool, true, false, List, [], Option, None, Some, Result, Ok, Err, IfSome, unwrap_or, if◌then◌else◌}
-use Rattle.dc_outside.specs.Counts.{Rose}
+use Rattle.dc_outside.specs.Counts.{FaultRose, RefusalRose}
 use Rattle.dc_outside.specs.Disk.{Disk, bytes_at}
 use Rattle.dc_item.specs.Records.{Reads, IsBad}
 use Rattle.dc_item.specs.Table.{table_of}
@@ -11,7 +11,9 @@ use Rattle.dc_save.specs.declared.loading.Loaded.{Loaded}
 use Rattle.dc_save.specs.declared.loading.Loaded.TheVariants.{Here, LeftOut}
 use Rattle.dc_save.specs.declared.loading.LoadError.{LoadError}
 use Rattle.dc_save.specs.declared.loading.LoadError.TheVariants.{Failed, Damaged, OutOfMemory}
-use Rattle.dc_save.specs.Told.{Told, after_read}
+use Rattle.dc_outside.specs.Told.{Told, Counts}
+use Rattle.dc_outside.specs.Steps.{after_look}
+use Rattle.dc_outside.specs.declared.files.FilesOp.TheVariants.{Read}
 
 -- what a read of the path found, where the disk is told
 abbrev pub IsFoundAt : Option Disk → List ℕ → Option (List ℕ) → Type 0
@@ -66,28 +68,21 @@ LoadsLayer disk spec layer new (Err (Failed path)) = (path ≡ spec.place) × (s
 LoadsLayer disk spec layer new (Err (Damaged path line)) = (path ≡ spec.place) × IsDamaged disk spec.place line × (new ≡ layer)
 LoadsLayer disk spec layer new (Err OutOfMemory) = IsSameButTable layer new
 
--- what it does to the files: one read, which was answered or failed
+-- what it does to the files: one read, which was answered or failed, or for want of memory none
 abbrev pub LoadsFiles : Told → Told → List ℕ → Result Loaded LoadError → Type 0
-LoadsFiles files new path (Ok Here) = new ≡ after_read files path true
-LoadsFiles files new path (Ok LeftOut) = new ≡ after_read files path false
-LoadsFiles files new path (Err (Failed failed)) = new ≡ after_read files path false
-LoadsFiles files new path (Err (Damaged damaged line)) = new ≡ after_read files path true
-LoadsFiles files new path (Err OutOfMemory) = (new ≡ files) ⊎ (new ≡ after_read files path true)
+LoadsFiles old new path (Ok Here) = new ≡ after_look old Read path true
+LoadsFiles old new path (Ok LeftOut) = new ≡ after_look old Read path false
+LoadsFiles old new path (Err (Failed failed)) = new ≡ after_look old Read path false
+LoadsFiles old new path (Err (Damaged damaged line)) = new ≡ after_look old Read path true
+LoadsFiles old new path (Err OutOfMemory) = (new ≡ old) ⊎ (new ≡ after_look old Read path true)
 
--- the files' count of faults rose where the read failed, and else it stays
-abbrev pub LoadFaults : Result Loaded LoadError → ℕ → ℕ → Type 0
-LoadFaults (Ok Here) before now = now ≡ before
-LoadFaults (Ok LeftOut) before now = Rose before now
-LoadFaults (Err (Failed path)) before now = Rose before now
-LoadFaults (Err (Damaged path line)) before now = now ≡ before
-LoadFaults (Err OutOfMemory) before now = now ≡ before
-
--- the files' count of refusals stays where memory didn't run out
-abbrev pub LoadRefusals : Result Loaded LoadError → ℕ → ℕ → Type 0
-LoadRefusals (Ok loaded) before now = now ≡ before
-LoadRefusals (Err (Failed path)) before now = now ≡ before
-LoadRefusals (Err (Damaged path line)) before now = now ≡ before
-LoadRefusals (Err OutOfMemory) before now = Unit {0}
+-- how they count it: a fault where the read failed, and at want of memory a refusal, or none where it was the program's own
+abbrev pub LoadCounts : Told → Told → Result Loaded LoadError → Counts → Counts → Type 0
+LoadCounts old new (Ok Here) before now = now ≡ before
+LoadCounts old new (Ok LeftOut) before now = FaultRose before now
+LoadCounts old new (Err (Failed path)) before now = FaultRose before now
+LoadCounts old new (Err (Damaged path line)) before now = now ≡ before
+LoadCounts old new (Err OutOfMemory) before now = (now ≡ before) ⊎ RefusalRose before now × (new ≡ old)
 
 -- what taking in the text that was found answers, and does to the layer
 abbrev pub Takes : LayerSpec → Option (List ℕ) → List ℕ → LayerState → LayerState → Result Loaded LoadError → Type 0

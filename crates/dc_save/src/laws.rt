@@ -1,13 +1,42 @@
 //! Laws of saves, over the definitions alone.
-ghost use Rattle.std.specs.Prelude.{◌≡◌, Some};
-ghost use Rattle.dc_outside.specs.Disk.{Disk};
+ghost use Rattle.std.specs.Prelude.{◌≡◌, ◌++◌, List, Result, Some, true, map as each};
+ghost use Rattle.dc_outside.specs.Told.{Told};
+ghost use Rattle.dc_conf.specs.Configuration.{are_apart};
+ghost use Rattle.dc_conf.specs.declared.spec.LayerSpec.{LayerSpec};
 ghost use Rattle.dc_layer.specs.declared.image.Image.{Image};
-ghost use Rattle.dc_save.specs.Saving.{HasFailed, HasRunOut, IsOldOrNew};
-ghost use Rattle.dc_save.specs.Told.{Told};
+ghost use Rattle.dc_save.specs.declared.saving.SaveError.{SaveError};
+ghost use Rattle.dc_outside.specs.Disk.{Disk, Standing, IsSettled, HasLeftMore};
+ghost use Rattle.dc_save.specs.Saving.{Saves, LeavesOldOrNew, MayAddAny, AreApart, KeepsPaths, StandSaved, all_images, all_saved};
+ghost use Rattle.dc_layer.specs.State.{LayerState, images};
+ghost use Rattle.dc_save.specs.Places.{AreFiles, AreOf};
 
-/// Where a call of an image's save failed, or there was no memory for one, the path has its old file or the new one, and at
-/// most the paths beside it changed else.
+/// However a save ends, a crash at any moment leaves each path's old file or the new one, and at most the paths beside it else.
 pub fn no_half_is_left()
-    ensures failed { (files new : Told) (image : Image) (before after : Disk) → files.disk ≡ Some before → new.disk ≡ Some after → HasFailed files new image → IsOldOrNew before after image }
-    ensures ran_out { (files new : Told) (image : Image) (before after : Disk) → files.disk ≡ Some before → new.disk ≡ Some after → HasRunOut files new image → IsOldOrNew before after image }
+    ensures { (images : List Image) (old new : Told) (result : Result (Unit {0}) SaveError) → Saves images old new result → LeavesOldOrNew images old new }
+{}
+
+/// Where no two images may write the same path, a crash leaves at the path of each its old file or the new one, and every other
+/// path as it was.
+pub fn paths_have_old_or_new()
+    ensures { (images : List Image) (before after : Disk) → AreApart images → IsSettled before.standing → HasLeftMore (MayAddAny images) before after → KeepsPaths images before after }
+{}
+
+/// What stands after such images are saved.
+pub fn saved_images_stand()
+    ensures { (images : List Image) (old : Standing) → AreApart images → StandSaved images old (all_saved old images) }
+{}
+
+/// Images of databases in files whose places don't meet are such images.
+pub fn images_of_databases_are_apart()
+    ensures { (specs : List LayerSpec) (images : List Image) → AreFiles specs → are_apart specs ≡ true → AreOf specs images → AreApart images }
+{}
+
+/// What saves in one run leave, one after another.
+pub fn saves_chain()
+    ensures { (images others : List Image) (first middle last : Disk) → HasLeftMore (MayAddAny images) first middle → HasLeftMore (MayAddAny others) middle last → HasLeftMore (MayAddAny (images ++ others)) first last }
+{}
+
+/// The images of layers in one file each, which were set up with these databases, are images of them.
+pub fn images_of_layers_are_of_their_databases()
+    ensures { (layers : List LayerState) (specs : List LayerSpec) → each (λ layer. layer.spec) layers ≡ each Some specs → AreOf specs (all_images (each images layers)) }
 {}

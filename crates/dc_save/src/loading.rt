@@ -1,9 +1,10 @@
 // Loading a layer in one file.
 ghost use Rattle.std.specs.Prelude.{◌≡◌, ◌++◌, [], Some, IfOk, OnOk, OnErr, false};
 ghost use Rattle.std.specs.FinMap as map;
-ghost use Rattle.dc_item.specs.Table.{Apart, names_of, table_of};
+ghost use Rattle.dc_text.specs.Maps.{AreDistinct};
+ghost use Rattle.dc_item.specs.Table.{names_of, table_of};
 ghost use Rattle.dc_layer.specs.State.{taken_in, without_items};
-ghost use Rattle.dc_save.specs.Loading.{LoadsLayer, LoadsFiles, LoadFaults, LoadRefusals, Takes, PassesOver, IsSameButTable, with_loaded, text_in};
+ghost use Rattle.dc_save.specs.Loading.{LoadsLayer, LoadsFiles, LoadCounts, Takes, PassesOver, IsSameButTable, with_loaded, text_in};
 
 use dc_conf::spec::{LayerSort, LayerSpec};
 use dc_item::{Entry, RecordError, read_records};
@@ -56,7 +57,7 @@ fn take_entry(layer: &mut Box<dyn Layer>, entry: Entry) -> Mem<()>
 
 // Takes all records into the layer.
 fn take_all(layer: &mut Box<dyn Layer>, records: List<Entry>) -> Mem<()>
-    requires apart { Apart (names_of records) }
+    requires apart { AreDistinct (names_of records) }
     requires empty { (state layer.old).table ≡ map.empty }
     requires untouched { (state layer.old).touched ≡ [] }
     ensures ok { OnOk result (state layer.new ≡ record (state layer.old) { table = table_of records }) }
@@ -138,10 +139,9 @@ pub fn load<F: Files>(
     requires empty { (state layer.old).table ≡ map.empty }
     requires untouched { (state layer.old).touched ≡ [] }
     requires not_left_out { (state layer.old).left_out ≡ false }
-    ensures loads { LoadsLayer (F.disk files.old) spec.now (state layer.old) (state layer.new) result }
-    ensures files { LoadsFiles (record { disk = F.disk files.old; calls = F.calls files.old }) (record { disk = F.disk files.new; calls = F.calls files.new }) spec.now.place result }
-    ensures faults { LoadFaults result (F.faults files.old) (F.faults files.new) }
-    ensures refusals { LoadRefusals result (F.refusals files.old) (F.refusals files.new) }
+    ensures loads { LoadsLayer (F.told files.old).disk spec.now (state layer.old) (state layer.new) result }
+    ensures files { LoadsFiles (F.told files.old) (F.told files.new) spec.now.place result }
+    ensures counts { LoadCounts (F.told files.old) (F.told files.new) result (F.counts files.old) (F.counts files.new) }
 {
     let path = match spec.place.copy() {
         Ok(path) => path,

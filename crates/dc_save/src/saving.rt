@@ -1,8 +1,8 @@
 // Saving the images of layers.
 ghost use Rattle.std.specs.Prelude.{◌≡◌, ◌∷◌, [], IfOk, reverse, map as each};
-ghost use Rattle.dc_outside.specs.Counts.{CountsFilesFaults, CountsFilesRefusals};
+ghost use Rattle.dc_outside.specs.Counts.{Counted};
 ghost use Rattle.dc_save.specs.Steps.{Does};
-ghost use Rattle.dc_save.specs.Saving.{new_path as new_path_of, old_path as old_path_of, written, moved, removed, keeping, put as put_of, placing, image_steps, images_of, Saves, SaveFaults, SaveRefusals, SaveRefused};
+ghost use Rattle.dc_save.specs.Saving.{new_path as new_path_of, old_path as old_path_of, written, moved, removed, keeping, put as put_of, placing, image_steps, all_images, Saves, SaveCounted, SaveCounts, EndsWith, LeavesOldOrNew};
 
 use dc_layer::Image;
 use dc_outside::{Files, FilesError};
@@ -36,9 +36,8 @@ fn write_lasting<F: Files>(
     text: &Text,
     mode: u16,
 ) -> Result<(), FilesError>
-    ensures does { Does (written path.now text.now mode) (record { disk = F.disk files.old; calls = F.calls files.old }) (record { disk = F.disk files.new; calls = F.calls files.new }) result }
-    ensures faults { CountsFilesFaults (F.faults files.old) (F.faults files.new) result }
-    ensures refusals { CountsFilesRefusals (F.refusals files.old) (F.refusals files.new) result }
+    ensures does { Does (written path.now text.now mode) (F.told files.old) (F.told files.new) result }
+    ensures counts { Counted (F.counts files.old) (F.counts files.new) result }
 {
     match files.write(path, text.bytes(), mode) {
         Ok(()) => files.sync(path),
@@ -48,9 +47,8 @@ fn write_lasting<F: Files>(
 
 // Puts the file in the place of the path, and makes that last.
 fn move_lasting<F: Files>(files: &mut F, from: &Text, to: &Text) -> Result<(), FilesError>
-    ensures does { Does (moved from.now to.now) (record { disk = F.disk files.old; calls = F.calls files.old }) (record { disk = F.disk files.new; calls = F.calls files.new }) result }
-    ensures faults { CountsFilesFaults (F.faults files.old) (F.faults files.new) result }
-    ensures refusals { CountsFilesRefusals (F.refusals files.old) (F.refusals files.new) result }
+    ensures does { Does (moved from.now to.now) (F.told files.old) (F.told files.new) result }
+    ensures counts { Counted (F.counts files.old) (F.counts files.new) result }
 {
     match files.rename(from, to) {
         Ok(()) => files.sync_names(),
@@ -60,9 +58,8 @@ fn move_lasting<F: Files>(files: &mut F, from: &Text, to: &Text) -> Result<(), F
 
 // Takes the path away, and makes that last.
 fn remove_lasting<F: Files>(files: &mut F, path: &Text) -> Result<(), FilesError>
-    ensures does { Does (removed path.now) (record { disk = F.disk files.old; calls = F.calls files.old }) (record { disk = F.disk files.new; calls = F.calls files.new }) result }
-    ensures faults { CountsFilesFaults (F.faults files.old) (F.faults files.new) result }
-    ensures refusals { CountsFilesRefusals (F.refusals files.old) (F.refusals files.new) result }
+    ensures does { Does (removed path.now) (F.told files.old) (F.told files.new) result }
+    ensures counts { Counted (F.counts files.old) (F.counts files.new) result }
 {
     match files.remove(path) {
         Ok(()) => files.sync_names(),
@@ -72,9 +69,8 @@ fn remove_lasting<F: Files>(files: &mut F, path: &Text) -> Result<(), FilesError
 
 // Keeps the old text beside the path, where there is one.
 fn keep<F: Files>(files: &mut F, saving: &Saving) -> Result<(), FilesError>
-    ensures does { Does (keeping saving.now.image.now) (record { disk = F.disk files.old; calls = F.calls files.old }) (record { disk = F.disk files.new; calls = F.calls files.new }) result }
-    ensures faults { CountsFilesFaults (F.faults files.old) (F.faults files.new) result }
-    ensures refusals { CountsFilesRefusals (F.refusals files.old) (F.refusals files.new) result }
+    ensures does { Does (keeping saving.now.image.now) (F.told files.old) (F.told files.new) result }
+    ensures counts { Counted (F.counts files.old) (F.counts files.new) result }
 {
     match &saving.image.old {
         Some(text) => write_lasting(files, &saving.old_path, text, saving.image.mode),
@@ -84,9 +80,8 @@ fn keep<F: Files>(files: &mut F, saving: &Saving) -> Result<(), FilesError>
 
 // Puts the text in its place.
 fn put<F: Files>(files: &mut F, saving: &Saving, text: &Text) -> Result<(), FilesError>
-    ensures does { Does (put_of saving.now.image.now text.now) (record { disk = F.disk files.old; calls = F.calls files.old }) (record { disk = F.disk files.new; calls = F.calls files.new }) result }
-    ensures faults { CountsFilesFaults (F.faults files.old) (F.faults files.new) result }
-    ensures refusals { CountsFilesRefusals (F.refusals files.old) (F.refusals files.new) result }
+    ensures does { Does (put_of saving.now.image.now text.now) (F.told files.old) (F.told files.new) result }
+    ensures counts { Counted (F.counts files.old) (F.counts files.new) result }
 {
     match write_lasting(files, &saving.new_path, text, saving.image.mode) {
         Ok(()) => move_lasting(files, &saving.new_path, &saving.image.path),
@@ -96,9 +91,8 @@ fn put<F: Files>(files: &mut F, saving: &Saving, text: &Text) -> Result<(), File
 
 // Puts the image's text in its place, or takes the file away.
 fn place<F: Files>(files: &mut F, saving: &Saving) -> Result<(), FilesError>
-    ensures does { Does (placing saving.now.image.now) (record { disk = F.disk files.old; calls = F.calls files.old }) (record { disk = F.disk files.new; calls = F.calls files.new }) result }
-    ensures faults { CountsFilesFaults (F.faults files.old) (F.faults files.new) result }
-    ensures refusals { CountsFilesRefusals (F.refusals files.old) (F.refusals files.new) result }
+    ensures does { Does (placing saving.now.image.now) (F.told files.old) (F.told files.new) result }
+    ensures counts { Counted (F.counts files.old) (F.counts files.new) result }
 {
     match &saving.image.bytes {
         Some(text) => put(files, saving, text),
@@ -107,9 +101,8 @@ fn place<F: Files>(files: &mut F, saving: &Saving) -> Result<(), FilesError>
 }
 
 fn save_image<F: Files>(files: &mut F, saving: &Saving) -> Result<(), FilesError>
-    ensures does { Does (image_steps saving.now.image.now) (record { disk = F.disk files.old; calls = F.calls files.old }) (record { disk = F.disk files.new; calls = F.calls files.new }) result }
-    ensures faults { CountsFilesFaults (F.faults files.old) (F.faults files.new) result }
-    ensures refusals { CountsFilesRefusals (F.refusals files.old) (F.refusals files.new) result }
+    ensures does { Does (image_steps saving.now.image.now) (F.told files.old) (F.told files.new) result }
+    ensures counts { Counted (F.counts files.old) (F.counts files.new) result }
 {
     match keep(files, saving) {
         Ok(()) => place(files, saving),
@@ -119,9 +112,8 @@ fn save_image<F: Files>(files: &mut F, saving: &Saving) -> Result<(), FilesError
 
 // Saves the image, and names its path where a call failed.
 fn save_named<F: Files>(files: &mut F, saving: Saving) -> Result<(), SaveError>
-    ensures saves { Saves (saving.entry.image.now ∷ []) (record { disk = F.disk files.old; calls = F.calls files.old }) (record { disk = F.disk files.new; calls = F.calls files.new }) result }
-    ensures faults { SaveFaults result (F.faults files.old) (F.faults files.new) }
-    ensures refusals { SaveRefusals result (F.refusals files.old) (F.refusals files.new) }
+    ensures saves { Saves (saving.entry.image.now ∷ []) (F.told files.old) (F.told files.new) result }
+    ensures counts { SaveCounted result (F.counts files.old) (F.counts files.new) }
 {
     match save_image(files, &saving) {
         Ok(()) => Ok(()),
@@ -132,9 +124,8 @@ fn save_named<F: Files>(files: &mut F, saving: Saving) -> Result<(), SaveError>
 
 // Saves all, the last first.
 fn save_each<F: Files>(files: &mut F, savings: Vec<Saving>) -> Result<(), SaveError>
-    ensures saves { Saves (reverse (each (λ s. s.image.now) savings.entry.items)) (record { disk = F.disk files.old; calls = F.calls files.old }) (record { disk = F.disk files.new; calls = F.calls files.new }) result }
-    ensures faults { SaveFaults result (F.faults files.old) (F.faults files.new) }
-    ensures refusals { SaveRefusals result (F.refusals files.old) (F.refusals files.new) }
+    ensures saves { Saves (reverse (each (λ s. s.image.now) savings.entry.items)) (F.told files.old) (F.told files.new) result }
+    ensures counts { SaveCounted result (F.counts files.old) (F.counts files.new) }
 {
     let mut left = savings;
     while let Some(saving) = left.pop() {
@@ -164,7 +155,7 @@ fn prepare_one<'a>(image: &'a Image) -> Mem<Saving<'a>>
 
 // What the save of the images needs, the last first.
 fn prepare<'a>(alloc: Global, images: &'a List<List<Image>>) -> Mem<Vec<Saving<'a>>>
-    ensures { IfOk result (λ savings. each (λ s. s.image.now) savings.items ≡ reverse (images_of images.now)) }
+    ensures { IfOk result (λ savings. each (λ s. s.image.now) savings.items ≡ reverse (all_images images.now)) }
 {
     let mut savings = Vec::new(alloc);
     for layer in images.as_slice() {
@@ -185,9 +176,10 @@ pub fn save_images<F: Files>(
     files: &mut F,
     images: &List<List<Image>>,
 ) -> Result<(), SaveError>
-    ensures saves { Saves (images_of images.now) (record { disk = F.disk files.old; calls = F.calls files.old }) (record { disk = F.disk files.new; calls = F.calls files.new }) result }
-    ensures faults { SaveFaults result (F.faults files.old) (F.faults files.new) }
-    ensures refused { SaveRefused (record { disk = F.disk files.old; calls = F.calls files.old }) (record { disk = F.disk files.new; calls = F.calls files.new }) result (F.refusals files.old) (F.refusals files.new) }
+    ensures saves { Saves (all_images images.now) (F.told files.old) (F.told files.new) result }
+    ensures ends { EndsWith (all_images images.now) (F.told files.old) (F.told files.new) result }
+    ensures moments { LeavesOldOrNew (all_images images.now) (F.told files.old) (F.told files.new) }
+    ensures counts { SaveCounts (F.told files.old) (F.told files.new) result (F.counts files.old) (F.counts files.new) }
 {
     match prepare(alloc, images) {
         Ok(savings) => save_each(files, savings),
