@@ -1,2 +1,3 @@
+pub mod Counting
 pub mod Folders
 pub mod Streams

@@ -1,19 +1,19 @@
 // The files of the host. They tell nothing of what they hold.
-ghost use Rattle.std.specs.Prelude.{◌≡◌, ◌↔◌, ◌≤◌, ◌<◌, None, length, is_ok, IfErr, IfOk, IfSome, IsOk, OnErr, OnOk};
+ghost use Rattle.std.specs.Prelude.{◌≡◌, ◌≤◌, ◌<◌, None, length, IfOk, IfSome, OnErr, OnOk};
 ghost use Rattle.std.specs.FinMap as map;
-ghost use Rattle.std.specs.Str.{IsUtf8};
-ghost use Rattle.dc_outside.specs.Counts.{CountsFilesFaults, CountsFilesRefusals};
+ghost use Rattle.dc_outside.specs.Counts.{Counted};
 ghost use Rattle.dckit.specs.Folders.{IsKept, Keeps};
 
-use crate::host_folders::{ChangedFolders, files_below};
+use crate::host_counts::CallCounts;
+use crate::host_folders::{ChangedFolders, files_below, sync_folder_of};
+use crate::host_guard::Guard;
 use crate::host_io;
+use crate::host_paths::{failed, is_missing, path_of};
 use dc_outside::{Files, FilesError};
 use dc_text::{List, Text};
 use std::alloc::{AllocError, Global};
-use std::fs::{OpenFile, OpenOptions, Permissions};
-use std::io;
-use std::io::{ErrorKind, Read, Write};
-use std::os::unix::fs::{OpenOptionsExt, PermissionsExt};
+use std::fs::File;
+use std::io::Read;
 use std::rt::Files as SystemFiles;
 
 /// A file with more bytes than these isn't read.
@@ -22,153 +22,120 @@ pub const MAX_FILE: usize = 67_108_864;
 // How many bytes are read at once.
 const PIECE: usize = 65_536;
 
-// While a file is written, its owner alone may open it.
-const WRITING_MODE: u32 = 0o600;
-
 /// The files of the host. Each error of a call is a fault but for a file that isn't there, and so are a file that is too
-/// large, a folder in the place of a file, and a path or the name of a file that isn't UTF-8.
+/// large, what isn't a file in the place of one, a file that another program has locked, and a path or the name of a file
+/// that isn't UTF-8. The files that are read and those that take their places stay locked to the end.
 #[derive(Drop)]
 pub struct HostFiles<R> {
     alloc: Global,
     rt: R,
     changed: ChangedFolders,
-    faults: u64,
-    refusals: u64,
+    guard: Guard,
+    counts: CallCounts,
 }
 
 impl<R: SystemFiles> HostFiles<R> {
-    /// Files of which no call failed and no folder changed.
-    pub fn new(alloc: Global, rt: R) -> HostFiles<R>
+    /// Files of which no call failed and no folder changed. Those at the paths of `open_to_all` are read without a lock.
+    pub fn new(alloc: Global, rt: R, open_to_all: List<Text>) -> HostFiles<R>
         ensures changed { result.changed ≡ map.empty }
-        ensures faults { result.faults ≡ 0 }
-        ensures refusals { result.refusals ≡ 0 }
+        ensures counts { result.counts ≡ record { faults = 0; refusals = 0 } }
     {
         HostFiles {
             alloc,
             rt,
             changed: ChangedFolders::new(alloc),
-            faults: 0,
-            refusals: 0,
+            guard: Guard::new(alloc, open_to_all),
+            counts: CallCounts::new(),
         }
-    }
-
-    // Counts a call by its answer.
-    fn count<T>(&mut self, answer: Result<T, FilesError>) -> Result<T, FilesError>
-        ensures answer { result ≡ answer }
-        ensures faults { CountsFilesFaults self.old.faults self.new.faults result }
-        ensures refusals { CountsFilesRefusals self.old.refusals self.new.refusals result }
-        ensures changed { self.new.changed ≡ self.old.changed }
-    {
-        match &answer {
-            Ok(_) => {}
-            Err(FilesError::Failed) => self.faults = self.faults.saturating_add(1),
-            Err(FilesError::OutOfMemory) => self.refusals = self.refusals.saturating_add(1),
-        }
-        answer
     }
 }
 
-impl<R: SystemFiles + Alloc + Clone + Drop> Files for HostFiles<R> {
-    ghost disk = { λ _. None };
+impl<R: SystemFiles<File = File> + Alloc + Clone + Drop> Files for HostFiles<R> {
+    ghost told = { λ _. record { disk = None; calls = None } };
 
-    ghost calls = { λ _. None };
-
-    ghost faults = { λ h. h.faults };
-
-    ghost refusals = { λ h. h.refusals };
+    ghost counts = { λ h. h.counts };
 
     fn read(&mut self, path: &Text) -> Result<Option<Text>, FilesError>
         ensures small { IfOk result (λ found. IfSome found (λ bytes. length bytes ≤ MAX_FILE)) }
         ensures changed { self.new.changed ≡ self.old.changed }
-        ensures faults { CountsFilesFaults self.old.faults self.new.faults result }
-        ensures refusals { CountsFilesRefusals self.old.refusals self.new.refusals result }
+        ensures counts { Counted self.old.counts self.new.counts result }
     {
-        let answer = read_file(self.alloc, &self.rt, path);
-        self.count(answer)
+        let answer = read_file(self.alloc, &self.rt, &mut self.guard, path);
+        self.counts.count(answer)
     }
 
-    fn list(&mut self, dir: &Text) -> Result<List<Text>, FilesError> {
+    fn list(&mut self, dir: &Text) -> Result<List<Text>, FilesError>
+        ensures changed { self.new.changed ≡ self.old.changed }
+        ensures counts { Counted self.old.counts self.new.counts result }
+    {
         let answer = list_files(self.alloc, &self.rt, dir);
-        self.count(answer)
+        self.counts.count(answer)
     }
 
     fn write(&mut self, path: &Text, bytes: &[u8], mode: u16) -> Result<(), FilesError>
         ensures kept { OnOk result (IsKept self.new.changed path.now) }
         ensures changed { Keeps self.old.changed self.new.changed }
-        ensures faults { CountsFilesFaults self.old.faults self.new.faults result }
-        ensures refusals { CountsFilesRefusals self.old.refusals self.new.refusals result }
+        ensures counts { Counted self.old.counts self.new.counts result }
     {
-        let answer = write_file(&self.rt, &mut self.changed, path, bytes, mode);
-        self.count(answer)
+        let answer = write_file(
+            &self.rt,
+            &mut self.changed,
+            &mut self.guard,
+            path,
+            bytes,
+            mode,
+        );
+        self.counts.count(answer)
     }
 
-    fn sync(&mut self, path: &Text) -> Result<(), FilesError> {
-        let answer = sync_file(&self.rt, path);
-        self.count(answer)
+    fn sync(&mut self, path: &Text) -> Result<(), FilesError>
+        ensures changed { self.new.changed ≡ self.old.changed }
+        ensures counts { Counted self.old.counts self.new.counts result }
+    {
+        let answer = sync_file(&self.rt, &self.guard, path);
+        self.counts.count(answer)
     }
 
     fn rename(&mut self, from: &Text, to: &Text) -> Result<(), FilesError>
         ensures from { OnOk result (IsKept self.new.changed from.now) }
         ensures to { OnOk result (IsKept self.new.changed to.now) }
         ensures changed { Keeps self.old.changed self.new.changed }
-        ensures faults { CountsFilesFaults self.old.faults self.new.faults result }
-        ensures refusals { CountsFilesRefusals self.old.refusals self.new.refusals result }
+        ensures counts { Counted self.old.counts self.new.counts result }
     {
-        let answer = rename_file(&self.rt, &mut self.changed, from, to);
-        self.count(answer)
+        let answer = rename_file(&self.rt, &mut self.changed, &mut self.guard, from, to);
+        self.counts.count(answer)
     }
 
     fn sync_names(&mut self) -> Result<(), FilesError>
         ensures none { OnOk result (self.new.changed ≡ map.empty) }
         ensures err { OnErr result (self.new.changed ≡ self.old.changed) }
-        ensures faults { CountsFilesFaults self.old.faults self.new.faults result }
-        ensures refusals { CountsFilesRefusals self.old.refusals self.new.refusals result }
+        ensures counts { Counted self.old.counts self.new.counts result }
     {
         let answer = self.changed.sync(&self.rt);
-        self.count(answer)
+        self.counts.count(answer)
     }
 
     fn remove(&mut self, path: &Text) -> Result<(), FilesError>
         ensures kept { OnOk result (IsKept self.new.changed path.now) }
         ensures changed { Keeps self.old.changed self.new.changed }
-        ensures faults { CountsFilesFaults self.old.faults self.new.faults result }
-        ensures refusals { CountsFilesRefusals self.old.refusals self.new.refusals result }
+        ensures counts { Counted self.old.counts self.new.counts result }
     {
         let answer = remove_file(&self.rt, &mut self.changed, path);
-        self.count(answer)
+        self.counts.count(answer)
     }
 }
 
-// The path as the host takes it.
-fn path_of(path: &Text) -> Result<&str, FilesError>
-    ensures ok { IfOk result (λ text. text.now ≡ path.now) }
-    ensures taken { IsOk result ↔ IsUtf8 path.now }
-    ensures failed { IfErr result (λ error. error ≡ FilesError.Failed) }
-{
-    match std::str::from_utf8(path.bytes()) {
-        Ok(path) => Ok(path),
-        Err(_) => Err(FilesError::Failed),
-    }
-}
-
-// A call of the host that is done, or else a fault.
-fn done(answer: io::Result<()>) -> Result<(), FilesError>
-    ensures ok { is_ok result ≡ is_ok answer }
-    ensures failed { IfErr result (λ error. error ≡ FilesError.Failed) }
-{
-    match answer {
-        Ok(()) => Ok(()),
-        Err(_) => Err(FilesError::Failed),
-    }
-}
-
-fn read_file<R: SystemFiles>(alloc: Global, rt: &R, path: &Text) -> Result<Option<Text>, FilesError>
+fn read_file<R: SystemFiles<File = File>>(
+    alloc: Global,
+    rt: &R,
+    guard: &mut Guard,
+    path: &Text,
+) -> Result<Option<Text>, FilesError>
     ensures { IfOk result (λ found. IfSome found (λ bytes. length bytes ≤ MAX_FILE)) }
 {
-    match std::fs::open(rt, path_of(path)?) {
-        Ok(mut file) => Ok(Some(read_all(alloc, &mut file)?)),
-        Err(error) if error.kind() == ErrorKind::NotFound => Ok(None),
-        Err(_) => Err(FilesError::Failed),
+    match guard.open(rt, path, path_of(path)?)? {
+        Some(mut file) => Ok(Some(read_all(alloc, &mut file)?)),
+        None => Ok(None),
     }
 }
 
@@ -221,9 +188,10 @@ fn list_files<R: SystemFiles + Alloc + Clone + Drop>(
 }
 
 #[tactic(auto, using(crate::proofs::FolderLemmas::keeps_same, crate::proofs::FolderLemmas::keeps_on, crate::proofs::FolderLemmas::kept_on))]
-fn write_file<R: SystemFiles>(
+fn write_file<R: SystemFiles<File = File> + Alloc>(
     rt: &R,
     changed: &mut ChangedFolders,
+    guard: &mut Guard,
     path: &Text,
     bytes: &[u8],
     mode: u16,
@@ -231,42 +199,27 @@ fn write_file<R: SystemFiles>(
     ensures kept { OnOk result (IsKept changed.new path.now) }
     ensures changed { Keeps changed.old changed.new }
 {
-    let path = path_of(path)?;
-    changed.prepare(rt, path)?;
-    done(write_bytes(rt, path, bytes, mode))
+    let name = path_of(path)?;
+    changed.prepare(rt, name)?;
+    guard.write(rt, path, name, bytes, mode)
 }
 
-// Opens the file to be written from its front. Where it is made, its owner alone may open it.
-fn open_to_write<R: SystemFiles>(rt: &R, path: &str) -> io::Result<R::File> {
-    let mut options = OpenOptions::new();
-    options
-        .write(true)
-        .create(true)
-        .truncate(true)
-        .mode(WRITING_MODE);
-    options.open(rt, path)
-}
-
-// The mode is set once the file is whole, since the mode of a new file is narrowed by the umask, and a write takes some
-// bits away.
-fn write_bytes<R: SystemFiles>(rt: &R, path: &str, bytes: &[u8], mode: u16) -> io::Result<()> {
-    let mut file = open_to_write(rt, path)?;
-    file.set_permissions(Permissions::from_mode(WRITING_MODE))?;
-    file.write_all(bytes)?;
-    file.set_permissions(Permissions::from_mode(u32::from(mode)))
-}
-
-fn sync_file<R: SystemFiles>(rt: &R, path: &Text) -> Result<(), FilesError> {
-    match std::fs::open(rt, path_of(path)?) {
-        Ok(file) => done(file.sync_all()),
-        Err(_) => Err(FilesError::Failed),
-    }
+// The folder is synced too, since the file may be new in it.
+fn sync_file<R: SystemFiles<File = File>>(
+    rt: &R,
+    guard: &Guard,
+    path: &Text,
+) -> Result<(), FilesError> {
+    let name = path_of(path)?;
+    guard.sync(rt, path, name)?;
+    sync_folder_of(rt, name)
 }
 
 #[tactic(auto, using(crate::proofs::FolderLemmas::keeps_same, crate::proofs::FolderLemmas::keeps_on, crate::proofs::FolderLemmas::kept_on))]
-fn rename_file<R: SystemFiles>(
+fn rename_file<R: SystemFiles<File = File>>(
     rt: &R,
     changed: &mut ChangedFolders,
+    guard: &mut Guard,
     from: &Text,
     to: &Text,
 ) -> Result<(), FilesError>
@@ -274,10 +227,10 @@ fn rename_file<R: SystemFiles>(
     ensures to { OnOk result (IsKept changed.new to.now) }
     ensures changed { Keeps changed.old changed.new }
 {
-    let from = path_of(from)?;
-    let to = path_of(to)?;
-    changed.mark_both(from, to)?;
-    done(std::fs::rename(rt, from, to))
+    let old = path_of(from)?;
+    let new = path_of(to)?;
+    changed.mark_both(old, new)?;
+    guard.rename(rt, (from, old), (to, new))
 }
 
 #[tactic(auto, using(crate::proofs::FolderLemmas::keeps_same, crate::proofs::FolderLemmas::keeps_on, crate::proofs::FolderLemmas::kept_on))]
@@ -292,7 +245,7 @@ fn remove_file<R: SystemFiles>(
     let path = path_of(path)?;
     changed.mark(path)?;
     match std::fs::remove_file(rt, path) {
-        Err(error) if error.kind() != ErrorKind::NotFound => Err(FilesError::Failed),
+        Err(error) if !is_missing(&error) => Err(failed(&error)),
         _ => Ok(()),
     }
 }

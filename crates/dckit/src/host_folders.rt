@@ -3,15 +3,20 @@ ghost use Rattle.std.specs.Prelude.{◌≡◌, OnErr, OnOk};
 ghost use Rattle.std.specs.FinMap as map;
 ghost use Rattle.dckit.specs.Folders.{folder_of, with_folder_of, IsKept, Keeps};
 
+use crate::host_paths::{failed, is_missing};
 use dc_outside::FilesError;
 use dc_text::{List, Mem, Text, TextMap};
 use std::alloc::Global;
-use std::fs::{DirEntry, OpenFile};
+use std::fs::{DirBuilder, DirEntry, OpenFile};
 use std::io;
 use std::io::ErrorKind;
 use std::marker::Model;
+use std::os::unix::fs::DirBuilderExt;
 use std::path::Path;
 use std::rt::Files as SystemFiles;
+
+// A folder that is made is open to its owner alone.
+const FOLDER_MODE: u32 = 0o700;
 
 /// The folders that gained or lost a name since they were synced.
 #[derive(Drop)]
@@ -86,7 +91,7 @@ impl ChangedFolders {
             }
             self.mark(above.as_str())?;
         }
-        std::fs::create_dir_all(rt, folder).map_err(|_| FilesError::Failed)
+        make_folders(rt, folder).map_err(|error| failed(&error))
     }
 
     /// Syncs the folders, which are then no longer kept. Where one fails, all are.
@@ -102,6 +107,13 @@ impl ChangedFolders {
     }
 }
 
+// Makes the folder and those above it that are missing, open to their owner alone.
+fn make_folders<R: SystemFiles>(rt: &R, folder: &str) -> io::Result<()> {
+    let mut builder = DirBuilder::new();
+    builder.recursive(true).mode(FOLDER_MODE);
+    builder.create(rt, folder)
+}
+
 // Lets no crash take the names in the folder. One that isn't there has none.
 fn sync_folder<R: SystemFiles>(rt: &R, folder: &[u8]) -> Result<(), FilesError> {
     let Ok(folder) = std::str::from_utf8(folder) else {
@@ -114,9 +126,9 @@ fn sync_folder<R: SystemFiles>(rt: &R, folder: &[u8]) -> Result<(), FilesError> 
     }
 }
 
-// Whether nothing stands at the path: a name in it is missing, or a file stands in the place of a folder above.
-fn is_missing(error: &io::Error) -> bool {
-    matches!(error.kind(), ErrorKind::NotFound | ErrorKind::NotADirectory)
+/// Lets no crash take the entry of the path.
+pub fn sync_folder_of<R: SystemFiles>(rt: &R, path: &str) -> Result<(), FilesError> {
+    sync_folder(rt, folder_of(path).as_bytes())
 }
 
 // The folder that holds the entry of the path.
@@ -177,12 +189,12 @@ impl<R: SystemFiles + Alloc + Clone + Drop> Search<'_, R> {
         let entries = match std::fs::read_dir(self.rt, path) {
             Ok(entries) => entries,
             Err(error) if error.kind() == ErrorKind::NotFound => return Ok(()),
-            Err(error) => return Err(fault_of(&error)),
+            Err(error) => return Err(failed(&error)),
         };
         for entry in entries {
             match entry {
                 Ok(entry) => self.take_entry(below, &entry)?,
-                Err(error) => return Err(fault_of(&error)),
+                Err(error) => return Err(failed(&error)),
             }
         }
         Ok(())
@@ -194,7 +206,7 @@ impl<R: SystemFiles + Alloc + Clone + Drop> Search<'_, R> {
             Ok(Kind::File) => self.found.insert(path, ())?,
             Ok(Kind::Folder) => self.folders.push(path)?,
             Ok(Kind::Other) => {}
-            Err(error) => return Err(fault_of(&error)),
+            Err(error) => return Err(failed(&error)),
         }
         Ok(())
     }
@@ -219,14 +231,6 @@ fn linked_kind<R: SystemFiles>(rt: &R, path: Path<'_>) -> io::Result<Kind> {
         Ok(Kind::File)
     } else {
         Ok(Kind::Other)
-    }
-}
-
-fn fault_of(error: &io::Error) -> FilesError {
-    if error.kind() == ErrorKind::OutOfMemory {
-        FilesError::OutOfMemory
-    } else {
-        FilesError::Failed
     }
 }
 

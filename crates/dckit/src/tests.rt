@@ -78,7 +78,7 @@ fn count_of(answer: Result<Option<Text>, FilesError>) -> Result<Option<usize>, F
 #[test]
 fn files_of_any_size_are_read(rt: HostRuntime) -> Result<(), Fail> {
     let folder = make_folder(&rt, "size")?;
-    let mut files = HostFiles::new(rt.alloc(), rt.clone()?);
+    let mut files = HostFiles::new(rt.alloc(), rt.clone()?, List::new(rt.alloc()));
     for (name, size, answer) in [
         ("small", 3, Ok(Some(3))),
         ("pieces", 200_000, Ok(Some(200_000))),
@@ -97,7 +97,7 @@ fn files_of_any_size_are_read(rt: HostRuntime) -> Result<(), Fail> {
 #[test]
 fn missing_files_are_read(rt: HostRuntime) -> Result<(), Fail> {
     let folder = make_folder(&rt, "missing")?;
-    let mut files = HostFiles::new(rt.alloc(), rt.clone()?);
+    let mut files = HostFiles::new(rt.alloc(), rt.clone()?, List::new(rt.alloc()));
     for (name, answer) in [
         ("missing", Ok(None)),
         ("missing/below", Ok(None)),
@@ -123,7 +123,7 @@ fn bytes_of(alloc: Global, answer: Result<Option<Text>, FilesError>) -> Text {
 #[test]
 fn a_file_is_read(rt: HostRuntime) -> Result<(), Fail> {
     let folder = make_folder(&rt, "read")?;
-    let mut files = HostFiles::new(rt.alloc(), rt.clone()?);
+    let mut files = HostFiles::new(rt.alloc(), rt.clone()?, List::new(rt.alloc()));
     fs::write(&rt, inside(&rt, &folder, "written")?.as_str(), "ab\nc")?;
     let found = files.read(&text_inside(&rt, &folder, "written")?);
     assert_eq!(rt; bytes_of(rt.alloc(), found).bytes(), b"ab\nc".as_slice());
@@ -170,12 +170,85 @@ fn files_are_saved(rt: HostRuntime) -> Result<(), Fail> {
     let path = inside(&rt, &folder, "a/b/q")?;
     let new = text_inside(&rt, &folder, "a/b/q-new")?;
     let saved = text_inside(&rt, &folder, "a/b/q")?;
-    let mut files = HostFiles::new(rt.alloc(), rt.clone()?);
+    let mut files = HostFiles::new(rt.alloc(), rt.clone()?, List::new(rt.alloc()));
     for (bytes, mode) in [("first", 0o666), ("second", 0o4755), ("", 0o600)] {
         assert_eq!(rt; save(&mut files, &new, &saved, bytes, mode), Ok(()));
         assert_eq!(rt; fs::read_to_string(&rt, path.as_str())?.as_str(), bytes);
         assert_eq!(rt; mode_of(&rt, &path)?, u32::from(mode), "whatever the umask");
     }
+    assert_eq!(rt;
+        save(&mut files, &new, &saved, "", 0o200),
+        Ok(()),
+        "it is synced though it can't be read"
+    );
+    fs::remove_dir_all(&rt, folder.as_str())?;
+    Ok(())
+}
+
+// Whether a read, and then a save, at the path are done.
+fn can_use(files: &mut HostFiles<HostRuntime>, new: &Text, path: &Text) -> (bool, bool) {
+    let is_read = files.read(path).is_ok();
+    (is_read, save(files, new, path, "x", 0o600).is_ok())
+}
+
+// The same of another program, which ends at once.
+fn another_can_use(rt: &HostRuntime, new: &Text, path: &Text) -> Result<(bool, bool), Fail> {
+    let mut files = HostFiles::new(rt.alloc(), rt.clone()?, List::new(rt.alloc()));
+    Ok(can_use(&mut files, new, path))
+}
+
+#[test]
+fn a_locked_file_is_a_fault(rt: HostRuntime) -> Result<(), Fail> {
+    let folder = make_folder(&rt, "lock")?;
+    let path = text_inside(&rt, &folder, "q")?;
+    let new = text_inside(&rt, &folder, "q-new")?;
+    let mut first = HostFiles::new(rt.alloc(), rt.clone()?, List::new(rt.alloc()));
+    assert_eq!(rt;
+        can_use(&mut first, &new, &path),
+        (true, true),
+        "nothing there"
+    );
+    assert_eq!(rt;
+        another_can_use(&rt, &new, &path)?,
+        (false, false),
+        "a file of the first"
+    );
+    assert_eq!(rt; can_use(&mut first, &new, &path), (true, true), "its own");
+    fs::remove_dir_all(&rt, folder.as_str())?;
+    Ok(())
+}
+
+#[test]
+fn a_file_that_came_meanwhile_is_kept(rt: HostRuntime) -> Result<(), Fail> {
+    let folder = make_folder(&rt, "meanwhile")?;
+    let path = text_inside(&rt, &folder, "q")?;
+    let new = text_inside(&rt, &folder, "q-new")?;
+    let mut files = HostFiles::new(rt.alloc(), rt.clone()?, List::new(rt.alloc()));
+    assert_eq!(rt; files.read(&path).is_ok(), true);
+    fs::write(&rt, inside(&rt, &folder, "q")?.as_str(), "other")?;
+    assert_eq!(rt;
+        save(&mut files, &new, &path, "x", 0o600),
+        Err(FilesError::Failed)
+    );
+    let kept = fs::read_to_string(&rt, inside(&rt, &folder, "q")?.as_str())?;
+    assert_eq!(rt; kept.as_str(), "other");
+    fs::remove_dir_all(&rt, folder.as_str())?;
+    Ok(())
+}
+
+#[test]
+fn links_and_devices_are_not_written(rt: HostRuntime) -> Result<(), Fail> {
+    let folder = make_folder(&rt, "links")?;
+    let path = text_inside(&rt, &folder, "q")?;
+    let new = text_inside(&rt, &folder, "q-new")?;
+    let target = inside(&rt, &folder, "target")?;
+    fs::write(&rt, target.as_str(), "kept")?;
+    symlink(&rt, "target", inside(&rt, &folder, "q-new")?.as_str())?;
+    let mut files = HostFiles::new(rt.alloc(), rt.clone()?, List::new(rt.alloc()));
+    assert_eq!(rt; save(&mut files, &new, &path, "x", 0o600), Ok(()));
+    assert_eq!(rt; fs::read_to_string(&rt, target.as_str())?.as_str(), "kept");
+    let device = Text::from_bytes(rt.alloc(), b"/dev/zero")?;
+    assert_eq!(rt; files.read(&device).is_err(), true);
     fs::remove_dir_all(&rt, folder.as_str())?;
     Ok(())
 }
@@ -196,7 +269,7 @@ fn call(files: &mut HostFiles<HostRuntime>, op: FilesOp, path: &Text) -> Result<
 #[test]
 fn files_are_changed(rt: HostRuntime) -> Result<(), Fail> {
     let folder = make_folder(&rt, "change")?;
-    let mut files = HostFiles::new(rt.alloc(), rt.clone()?);
+    let mut files = HostFiles::new(rt.alloc(), rt.clone()?, List::new(rt.alloc()));
     for (number, (op, name, answer)) in [
         (FilesOp::Write, "a/q", Ok(())),
         (FilesOp::Write, "a/q", Ok(())),
@@ -239,7 +312,7 @@ fn fill(rt: &HostRuntime, files: &mut HostFiles<HostRuntime>, folder: &str) -> R
 #[test]
 fn files_are_listed(rt: HostRuntime) -> Result<(), Fail> {
     let folder = make_folder(&rt, "list")?;
-    let mut files = HostFiles::new(rt.alloc(), rt.clone()?);
+    let mut files = HostFiles::new(rt.alloc(), rt.clone()?, List::new(rt.alloc()));
     fill(&rt, &mut files, &folder)?;
     for (name, paths) in [
         ("d", "a.x|a/c|b|to_file|"),
@@ -269,7 +342,7 @@ fn answered(rt: &HostRuntime, folder: &str, input: &[u8]) -> Result<Text, Fail> 
     words.push(Text::from_bytes(alloc, b"communicate")?)?;
     let mut io = MemLink::new(alloc, input, &[], &[])?;
     let mut err = MemLink::new(alloc, b"", &[], &[])?;
-    let mut files = HostFiles::new(alloc, rt.clone()?);
+    let mut files = HostFiles::new(alloc, rt.clone()?, List::new(alloc));
     let _ = run_words(alloc, &words, &settings, &mut io, &mut err, &mut files);
     Ok(io.sent().copy()?)
 }
@@ -284,7 +357,7 @@ fn a_run_saves_its_questions(rt: HostRuntime) -> Result<(), Fail> {
     let saved = fs::read_to_string(&rt, path.as_str())?;
     assert_eq!(rt; saved.as_str(), "Name: a/b\nValue: new\n\n");
     assert_eq!(rt; mode_of(&rt, &path)?, 0o600);
-    let mut files = HostFiles::new(rt.alloc(), rt.clone()?);
+    let mut files = HostFiles::new(rt.alloc(), rt.clone()?, List::new(rt.alloc()));
     let left = files.list(&Text::from_bytes(rt.alloc(), folder.as_bytes())?);
     assert_eq!(rt;
         show_paths(rt.alloc(), left)?.bytes(),

@@ -1,0 +1,34 @@
+// Paths as the host takes them, and what its errors mean.
+ghost use Rattle.std.specs.Prelude.{◌≡◌, ◌↔◌, ◌⊎◌, IfErr, IfOk, IsOk};
+ghost use Rattle.std.specs.Str.{IsUtf8};
+
+use dc_outside::FilesError;
+use dc_text::Text;
+use std::io;
+use std::io::ErrorKind;
+
+/// The path as the host takes it. One that isn't UTF-8 is a fault.
+pub fn path_of(path: &Text) -> Result<&str, FilesError>
+    ensures ok { IfOk result (λ text. text.now ≡ path.now) }
+    ensures taken { IsOk result ↔ IsUtf8 path.now }
+    ensures failed { IfErr result (λ error. error ≡ FilesError.Failed) }
+{
+    match std::str::from_utf8(path.bytes()) {
+        Ok(path) => Ok(path),
+        Err(_) => Err(FilesError::Failed),
+    }
+}
+
+/// Whether nothing stands at the path: a name in it is missing, or a file stands in the place of a folder above.
+pub fn is_missing(error: &io::Error) -> bool {
+    matches!(error.kind(), ErrorKind::NotFound | ErrorKind::NotADirectory)
+}
+
+/// What an error of the host is to the files: want of memory, or else a fault.
+pub fn failed(error: &io::Error) -> FilesError {
+    if error.kind() == ErrorKind::OutOfMemory {
+        FilesError::OutOfMemory
+    } else {
+        FilesError::Failed
+    }
+}
