@@ -3,6 +3,8 @@
 #![tactic(auto)]
 
 #[cfg(test)]
+mod configured;
+#[cfg(test)]
 mod saving;
 #[cfg(test)]
 mod serving;

@@ -95,16 +95,26 @@ fn refused_commands_change_nothing(rt: HostRuntime) {
 #[test]
 fn each_call_of_a_save_may_fail(rt: HostRuntime) {
     for (number, calls, left) in [
-        (2u64, "rq.dat rq.dat.templates wq.dat-new!", OLD),
-        (3, "rq.dat rq.dat.templates wq.dat-new sq.dat-new!", OLD),
+        (3u64, "rconf rq.dat rt.dat wq.dat-old!", OLD),
+        (4, "rconf rq.dat rt.dat wq.dat-old sq.dat-old!", OLD),
         (
-            4,
-            "rq.dat rq.dat.templates wq.dat-new sq.dat-new mq.dat!",
+            5,
+            "rconf rq.dat rt.dat wq.dat-old sq.dat-old wq.dat-new!",
             OLD,
         ),
         (
-            5,
-            "rq.dat rq.dat.templates wq.dat-new sq.dat-new mq.dat n!",
+            6,
+            "rconf rq.dat rt.dat wq.dat-old sq.dat-old wq.dat-new sq.dat-new!",
+            OLD,
+        ),
+        (
+            7,
+            "rconf rq.dat rt.dat wq.dat-old sq.dat-old wq.dat-new sq.dat-new mq.dat!",
+            OLD,
+        ),
+        (
+            8,
+            "rconf rq.dat rt.dat wq.dat-old sq.dat-old wq.dat-new sq.dat-new mq.dat n!",
             NEW,
         ),
     ] {
@@ -121,14 +131,14 @@ fn each_call_of_a_save_may_fail(rt: HostRuntime) {
 #[test]
 fn a_fault_of_the_link_comes_before_the_save(rt: HostRuntime) {
     for (link, failing, said, calls, left) in [
-        (0u64, 9u64, "", READS, OLD),
-        (1, 9, "", SAVE, NEW),
-        (2, 9, "0 value set\n", SAVE, NEW),
+        (0u64, 19u64, "", READS, OLD),
+        (1, 19, "", SAVE, NEW),
+        (2, 19, "0 value set\n", SAVE, NEW),
         (
             2,
-            4,
+            7,
             "0 value set\n",
-            "rq.dat rq.dat.templates wq.dat-new sq.dat-new mq.dat!",
+            "rconf rq.dat rt.dat wq.dat-old sq.dat-old wq.dat-new sq.dat-new mq.dat!",
             OLD,
         ),
     ] {
@@ -178,8 +188,9 @@ fn a_second_run_reads_what_the_first_saved(rt: HostRuntime) {
 #[test]
 fn the_file_that_cannot_be_read_is_named(rt: HostRuntime) {
     for (failing, end, calls) in [
-        (0u64, "123 files 0 q.dat", "rq.dat!"),
-        (1, "123 files 0 q.dat.templates", "rq.dat rq.dat.templates!"),
+        (0u64, "123 files 0 conf", "rconf!"),
+        (1, "123 files 0 q.dat", "rconf rq.dat!"),
+        (2, "123 files 0 t.dat", "rconf rq.dat rt.dat!"),
     ] {
         let found = saved(rt.alloc(), "GET a/b\n", &[], &[failing]).expect(&rt, "ample memory");
         let expected = barred(rt.alloc(), &["", end, calls, OLD]).expect(&rt, "ample memory");

@@ -1,6 +1,10 @@
 // A run over a link and files in memory, and what it says and leaves as one text.
+ghost use Rattle.std.specs.Prelude.{◌≡◌, ◌≤◌, [], length, IfSome, map as each};
+ghost use Rattle.dc_shelf.specs.Shelves.{AreBlank};
+
+use dc_layer::{FileLayer, Layer, TiredLayer};
 use dc_outside::{Files, FilesOp, MemFiles, MemLink};
-use dc_run::{End, Outcome, Settings, run_words};
+use dc_run::{End, Outcome, PatternAt, Settings, Shelf, run_words};
 use dc_text::{List, Text};
 use std::alloc::Global;
 
@@ -8,8 +12,12 @@ pub fn text(alloc: Global, bytes: &[u8]) -> Option<Text> {
     Text::from_bytes(alloc, bytes).ok()
 }
 
+/// A database of questions and one of templates, each in a file.
+pub const CONF: &str =
+    "Config: q\nTemplates: t\n\nName: q\nDriver: File\nFilename: q.dat\n\nName: t\nDriver: File\nFilename: t.dat\n";
+
 pub fn settings(alloc: Global, lang: &str) -> Option<Settings> {
-    let conf_path = text(alloc, b"q.dat")?;
+    let conf_path = text(alloc, b"conf")?;
     let lang = text(alloc, lang.as_bytes())?;
     Some(Settings {
         conf_path,
@@ -20,15 +28,18 @@ pub fn settings(alloc: Global, lang: &str) -> Option<Settings> {
     })
 }
 
-/// Files of questions and of templates, each where its text isn't empty.
-pub fn make_files(
+/// The files of a configuration: its text, and those that stand beside it where their texts aren't empty.
+pub fn files_of(
     alloc: Global,
-    questions: &[u8],
-    templates: &[u8],
+    conf: &str,
+    beside: &[(&str, &[u8])],
     failing: &[u64],
 ) -> Option<MemFiles> {
     let mut entries = Vec::new(alloc);
-    for (path, bytes) in [("q.dat", questions), ("q.dat.templates", templates)] {
+    entries
+        .push((text(alloc, b"conf")?, text(alloc, conf.as_bytes())?))
+        .ok()?;
+    for (path, bytes) in beside {
         if !bytes.is_empty() {
             let path = text(alloc, path.as_bytes())?;
             entries.push((path, text(alloc, bytes)?)).ok()?;
@@ -37,12 +48,58 @@ pub fn make_files(
     MemFiles::new(alloc, &entries, failing).ok()
 }
 
+/// Files of questions and of templates.
+pub fn make_files(
+    alloc: Global,
+    questions: &[u8],
+    templates: &[u8],
+    failing: &[u64],
+) -> Option<MemFiles> {
+    files_of(
+        alloc,
+        CONF,
+        &[("q.dat", questions), ("t.dat", templates)],
+        failing,
+    )
+}
+
 pub fn make_words(alloc: Global, list: &[&str]) -> Option<List<Text>> {
     let mut words = List::new(alloc);
     for word in list {
         words.push(text(alloc, word.as_bytes())?).ok()?;
     }
     Some(words)
+}
+
+/// How many databases a configuration names at most.
+const MOST_DATABASES: usize = 16;
+
+/// A shelf of blank layers.
+pub fn blank_shelf(alloc: Global) -> Option<Shelf>
+    ensures blank { IfSome result (λ shelf. AreBlank (each (λ b. state (b.vtable, b.value)) shelf.files.items)) }
+    ensures room { IfSome result (λ shelf. 16 ≤ length shelf.files.items) }
+    ensures used { IfSome result (λ shelf. shelf.used.items ≡ []) }
+{
+    let mut shelf = Shelf::empty(alloc);
+    while shelf.files.len() < MOST_DATABASES {
+        let layer: Box<dyn Layer> = Box::new(alloc, FileLayer::blank(alloc)).ok()?;
+        shelf.take_file(layer).ok()?;
+    }
+    Some(shelf)
+}
+
+/// A shelf of blank layers each of which takes one change.
+pub fn tired_shelf(alloc: Global) -> Option<Shelf>
+    ensures blank { IfSome result (λ shelf. AreBlank (each (λ b. state (b.vtable, b.value)) shelf.files.items)) }
+    ensures room { IfSome result (λ shelf. 16 ≤ length shelf.files.items) }
+    ensures used { IfSome result (λ shelf. shelf.used.items ≡ []) }
+{
+    let mut shelf = Shelf::empty(alloc);
+    while shelf.files.len() < MOST_DATABASES {
+        let layer: Box<dyn Layer> = Box::new(alloc, TiredLayer::blank(alloc, 1)).ok()?;
+        shelf.take_file(layer).ok()?;
+    }
+    Some(shelf)
 }
 
 /// Runs the words for a user of the language.
@@ -56,7 +113,14 @@ pub fn run(
     let words = make_words(alloc, list)?;
     let settings = settings(alloc, lang)?;
     let mut err = MemLink::new(alloc, b"", &[], &[]).ok()?;
-    Some(run_words(alloc, &words, &settings, io, &mut err, files))
+    let mut shelf = blank_shelf(alloc)?;
+    Some(run_words(alloc, &words, &settings, io, &mut err, files, &mut shelf))
+}
+
+fn place_of(at: &PatternAt) -> u64 {
+    match at {
+        PatternAt::Database(place) | PatternAt::Word(place) => *place as u64,
+    }
 }
 
 /// An end as a word, the number that it carries, and the path.
@@ -64,6 +128,9 @@ pub fn end_parts(end: &End) -> (&'static str, u64, &[u8]) {
     match end {
         End::Done => ("done", 0, b""),
         End::Usage { word } => ("usage", *word as u64, b""),
+        End::ConfRefused { line, kind: _ } => ("configuration", *line, b""),
+        End::BadPattern { at } => ("bad pattern", place_of(at), b""),
+        End::PatternTooLarge { at } => ("large pattern", place_of(at), b""),
         End::Damaged { path, line } => ("damaged", *line, path.bytes()),
         End::FilesFault { path } => ("files", 0, path.bytes()),
         End::LinkFault => ("link", 0, b""),
@@ -152,10 +219,11 @@ pub const OLD: &str =
 pub const NEW: &str =
     "Name: a/b\nTemplate: a/b\nValue: new\nOwners: p\nFlags: seen\nVariables:\n k = v\n\n";
 
-/// The two files of the database are read.
-pub const READS: &str = "rq.dat rq.dat.templates ";
+/// The configuration is read, and the files of its databases.
+pub const READS: &str = "rconf rq.dat rt.dat ";
 
-pub const SAVE: &str = "rq.dat rq.dat.templates wq.dat-new sq.dat-new mq.dat n ";
+/// The questions are saved: the old text is kept, and the new one takes its place.
+pub const SAVE: &str = "rconf rq.dat rt.dat wq.dat-old sq.dat-old wq.dat-new sq.dat-new mq.dat n ";
 
 /// What a run over the old question says, its end, the calls of the files, and the questions that it leaves.
 pub fn saved(alloc: Global, input: &str, link: &[u64], failing: &[u64]) -> Option<Text> {

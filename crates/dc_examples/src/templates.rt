@@ -43,7 +43,7 @@ fn templates_are_read(rt: HostRuntime) {
 #[test]
 fn the_first_file_without_a_reading_is_named(rt: HostRuntime) {
     for (questions, templates, end) in [
-        (OLD, "Name: x\n\noops\n", "121 damaged 3 q.dat.templates"),
+        (OLD, "Name: x\n\noops\n", "121 damaged 3 t.dat"),
         ("Name: a/b\nValue\n", "oops\n", "121 damaged 2 q.dat"),
     ] {
         let found = answered(

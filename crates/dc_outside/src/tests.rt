@@ -2,7 +2,6 @@
 use crate::{Files, FilesError, FilesOp, Link, LinkError, MemFiles, MemLink, Pick, Piece};
 use dc_text::{List, Mem, Text};
 use std::alloc::Global;
-use std::test::Fail;
 
 // The talk, a letter and the bytes for each piece.
 fn show(alloc: Global, talk: &List<Piece>) -> Mem<Text> {
@@ -29,9 +28,9 @@ fn show(alloc: Global, talk: &List<Piece>) -> Mem<Text> {
 }
 
 #[test]
-fn a_link_gives_its_input_in_cuts(rt: HostRuntime) -> Result<(), Fail> {
+fn a_link_gives_its_input_in_cuts(rt: HostRuntime) {
     let alloc = rt.alloc();
-    let mut link = MemLink::new(alloc, b"abcdef", &[2, 0], &[1, 5])?;
+    let mut link = MemLink::new(alloc, b"abcdef", &[2, 0], &[1, 5]).expect(&rt, "memory");
     let mut buf = [0u8; 4];
     for (call, answer) in [
         Ok(2),
@@ -48,26 +47,24 @@ fn a_link_gives_its_input_in_cuts(rt: HostRuntime) -> Result<(), Fail> {
         assert_eq!(rt; link.read_some(&mut buf), answer, "call {call}");
     }
     assert_eq!(rt;
-        show(alloc, link.talk())?.bytes(),
+        show(alloc, link.talk()).expect(&rt, "memory").bytes(),
         b"got ab|lost|got c|got def|lost|".as_slice()
     );
     assert_eq!(rt; link.sent().bytes(), b"".as_slice());
-    Ok(())
 }
 
 #[test]
-fn a_link_keeps_what_is_sent(rt: HostRuntime) -> Result<(), Fail> {
+fn a_link_keeps_what_is_sent(rt: HostRuntime) {
     let alloc = rt.alloc();
-    let mut link = MemLink::new(alloc, b"", &[], &[1])?;
+    let mut link = MemLink::new(alloc, b"", &[], &[1]).expect(&rt, "memory");
     assert_eq!(rt; link.write(b"ab"), Ok(()));
     assert_eq!(rt; link.write(b"cd"), Err(LinkError::Failed));
     assert_eq!(rt; link.write(b"ef"), Ok(()));
     assert_eq!(rt;
-        show(alloc, link.talk())?.bytes(),
+        show(alloc, link.talk()).expect(&rt, "memory").bytes(),
         b"sent ab|cut |sent ef|".as_slice()
     );
     assert_eq!(rt; link.sent().bytes(), b"abef".as_slice());
-    Ok(())
 }
 
 fn text(alloc: Global, bytes: &str) -> Mem<Text> {
@@ -133,10 +130,10 @@ fn make_files(alloc: Global, entries: &[(&str, &str)], failing: &[u64]) -> Mem<M
 }
 
 #[test]
-fn files_are_read_and_changed(rt: HostRuntime) -> Result<(), Fail> {
+fn files_are_read_and_changed(rt: HostRuntime) {
     let alloc = rt.alloc();
     let entries = [("d/q", "old"), ("e", "other"), ("d/q", "x")];
-    let mut files = make_files(alloc, &entries, &[2, 3, 11])?;
+    let mut files = make_files(alloc, &entries, &[2, 3, 11]).expect(&rt, "memory");
     let calls = [
         (FilesOp::Read, "d/q", "x", 0o644),
         (FilesOp::Read, "d", "none", 0o644),
@@ -154,9 +151,15 @@ fn files_are_read_and_changed(rt: HostRuntime) -> Result<(), Fail> {
         (FilesOp::Remove, "d/q", "done", 0),
         (FilesOp::List, "d", "", 0),
     ];
-    let place = text(alloc, "d/q")?;
+    let place = text(alloc, "d/q").expect(&rt, "memory");
     for (number, (op, path, answer, mode)) in calls.iter().enumerate() {
-        let given = answer_of(alloc, &mut files, *op, &text(alloc, path)?)?;
+        let given = answer_of(
+            alloc,
+            &mut files,
+            *op,
+            &text(alloc, path).expect(&rt, "memory"),
+        )
+        .expect(&rt, "memory");
         assert_eq!(rt; given.bytes(), answer.as_bytes(), "call {number}");
         assert_eq!(rt;
             files.mode(&place).unwrap_or(0),
@@ -175,11 +178,10 @@ fn files_are_read_and_changed(rt: HostRuntime) -> Result<(), Fail> {
         };
         assert_eq!(rt; call.path.bytes(), path);
     }
-    Ok(())
 }
 
 #[test]
-fn files_below_a_folder_are_listed(rt: HostRuntime) -> Result<(), Fail> {
+fn files_below_a_folder_are_listed(rt: HostRuntime) {
     let alloc = rt.alloc();
     let entries = [
         ("d/b", ""),
@@ -188,16 +190,15 @@ fn files_below_a_folder_are_listed(rt: HostRuntime) -> Result<(), Fail> {
         ("d/a/c", ""),
         ("d/a.x", ""),
     ];
-    let mut files = make_files(alloc, &entries, &[])?;
+    let mut files = make_files(alloc, &entries, &[]).expect(&rt, "memory");
     for (folder, paths) in [("d", "a.x|a/c|b|"), ("d/a", "c|"), ("x", ""), ("da", "x|")] {
-        let answer = files.list(&text(alloc, folder)?);
+        let answer = files.list(&text(alloc, folder).expect(&rt, "memory"));
         assert_eq!(rt;
-            show_paths(alloc, answer)?.bytes(),
+            show_paths(alloc, answer).expect(&rt, "memory").bytes(),
             paths.as_bytes(),
             "{folder:?}"
         );
     }
-    Ok(())
 }
 
 // What a read of "d/q" gives after a crash with each pick, a bar after each.

@@ -2,7 +2,6 @@
 use crate::{Command, Heard, Priority, Reply, print_reply, read_command};
 use dc_text::{Mem, Text};
 use std::alloc::Global;
-use std::test::Fail;
 
 // What was heard, as text: the command and its arguments with a bar before each, or the reply.
 fn shown(alloc: Global, heard: &Heard) -> Mem<Text> {
@@ -57,7 +56,7 @@ fn show(text: &mut Text, command: &str, arguments: &[&[u8]]) -> Mem<()> {
 }
 
 #[test]
-fn lines_say_commands(rt: HostRuntime) -> Result<(), Fail> {
+fn lines_say_commands(rt: HostRuntime) {
     let alloc = rt.alloc();
     for (line, escape, said) in [
         ("get a/b", false, "get|a/b"),
@@ -86,14 +85,17 @@ fn lines_say_commands(rt: HostRuntime) -> Result<(), Fail> {
         ("FSET a/b a,b true", false, "20 bad name\n"),
         ("SUBST a/b a=b x", false, "20 bad name\n"),
     ] {
-        let heard = read_command(alloc, line.as_bytes(), escape)?;
-        assert_eq!(rt; shown(alloc, &heard)?.bytes(), said.as_bytes(), "{line:?}");
+        let heard = read_command(alloc, line.as_bytes(), escape).expect(&rt, "memory");
+        assert_eq!(rt;
+            shown(alloc, &heard).expect(&rt, "memory").bytes(),
+            said.as_bytes(),
+            "{line:?}"
+        );
     }
-    Ok(())
 }
 
 #[test]
-fn replies_are_lines(rt: HostRuntime) -> Result<(), Fail> {
+fn replies_are_lines(rt: HostRuntime) {
     let alloc = rt.alloc();
     for (code, text, escape, line) in [
         (0u8, "", false, "0\n"),
@@ -101,20 +103,20 @@ fn replies_are_lines(rt: HostRuntime) -> Result<(), Fail> {
         (0, "a\nc\\n", true, "0 a\\nc\\\\n\n"),
         (10, "a/b doesn't exist", false, "10 a/b doesn't exist\n"),
     ] {
-        let reply = Reply::new(alloc, code, text.as_bytes())?;
+        let reply = Reply::new(alloc, code, text.as_bytes()).expect(&rt, "memory");
         assert_eq!(rt;
-            print_reply(alloc, &reply, escape)?.bytes(),
+            print_reply(alloc, &reply, escape)
+                .expect(&rt, "memory")
+                .bytes(),
             line.as_bytes()
         );
     }
-    Ok(())
 }
 
 #[test]
-fn priorities_are_words(rt: HostRuntime) -> Result<(), Fail> {
+fn priorities_are_words(rt: HostRuntime) {
     assert_eq!(rt; Priority::read(b"critical"), Some(Priority::Critical));
     assert_eq!(rt; Priority::read(b"medium"), Some(Priority::Medium));
     assert_eq!(rt; Priority::read(b"urgent"), None);
     assert_eq!(rt; Priority::Low < Priority::High, true);
-    Ok(())
 }

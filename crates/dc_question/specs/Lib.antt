@@ -1,1 +1,4 @@
+pub mod Changes
+pub mod Ownership
+pub mod Questions
 pub mod Readings

@@ -15,9 +15,9 @@ use Rattle.dc_question.specs.declared.choices.ChoicePair.{ChoicePair}
 
 -- ---- the template
 
--- the template of a question: the item that its field `template` names
-abbrev pub template_of : Texts ItemParts → ItemParts → Option ItemParts
-template_of templates question = option_and_then (λ name. map.get templates name) (map.get question.fields (codes "template"))
+-- the template of a question: the item that its field `template` names, if there is one of this name
+abbrev pub template_of : (List ℕ → Option ItemParts) → ItemParts → Option ItemParts
+template_of templates question = option_and_then templates (map.get question.fields (codes "template"))
 
 -- the kind of a question: what the field `type` of its template says
 abbrev pub kind_by : Option ItemParts → Option Kind

@@ -1,14 +1,23 @@
-//! Questions: what one says, from its own item and from its template.
+//! Questions: what each says and what is written to it, over the layers of a store (debconf-devel(7)).
 #![tactic(auto)]
 
+mod changes;
 pub mod choices;
+pub mod errors;
 pub mod fields;
 pub mod laws;
+pub mod questions;
+pub mod setting;
 pub mod values;
 
 pub use choices::{ChoicePair, choice_pair};
+pub use errors::QuestionError;
 pub use fields::{field, localised};
-pub use values::{kind, template_of, value};
+pub use questions::Questions;
+pub use setting::Setting;
+pub use values::{kind, value};
 
+#[cfg(test)]
+mod store_tests;
 #[cfg(test)]
 mod tests;

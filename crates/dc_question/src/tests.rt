@@ -1,8 +1,8 @@
 // The examples of readings, as tables.
-use crate::{choice_pair, field, kind, template_of, value};
+use crate::{choice_pair, field, kind, value};
 use dc_item::{Item, read_records};
 use dc_template::Kind;
-use dc_text::{FieldKey, List, Text, TextMap};
+use dc_text::{FieldKey, List, Text};
 use std::alloc::Global;
 
 const TEMPLATE: &str =
@@ -125,25 +125,19 @@ fn choices_have_labels(rt: HostRuntime) {
     }
 }
 
-// The kind of a question of these lines, among templates of two types.
-fn kind_in(alloc: Global, question: &str) -> Option<Kind> {
-    let question = item(alloc, question)?;
-    let mut templates = TextMap::new(alloc);
-    for (name, lines) in [("x/name", TEMPLATE), ("x/odd", "Type: colour\n")] {
-        let name = Text::from_bytes(alloc, name.as_bytes()).ok()?;
-        templates.insert(name, item(alloc, lines)?).ok()?;
-    }
-    kind(template_of(&templates, &question))
+// The kind of a question whose template has these lines.
+fn kind_in(alloc: Global, template: &str) -> Option<Kind> {
+    let template = item(alloc, template)?;
+    kind(Some(&template))
 }
 
 #[test]
 fn a_question_has_the_kind_of_its_template(rt: HostRuntime) {
-    for (question, expected) in [
-        ("Template: x/name\n", Some(Kind::Str)),
-        ("Template: x/odd\n", None),
-        ("Template: x/none\n", None),
+    for (template, expected) in [
+        (TEMPLATE, Some(Kind::Str)),
+        ("Type: colour\n", None),
         ("", None),
     ] {
-        assert_eq!(rt; kind_in(rt.alloc(), question), expected, "{question:?}");
+        assert_eq!(rt; kind_in(rt.alloc(), template), expected, "{template:?}");
     }
 }

@@ -1,23 +1,13 @@
-// The template, kind and value of a question.
+// The kind and value of a question.
 ghost use Rattle.std.specs.Prelude.{◌≡◌, [], IfOk, unwrap_or};
 ghost use Rattle.std.specs.Option.{option_copied};
-ghost use Rattle.dc_question.specs.Readings.{template_of as template_of_table, kind_by, default_of, value_of};
+ghost use Rattle.dc_question.specs.Readings.{kind_by, default_of, value_of};
 
 use crate::fields::localised;
 use dc_item::Item;
 use dc_template::Kind;
-use dc_text::{FieldKey, Mem, Text, TextMap};
+use dc_text::{FieldKey, Mem, Text};
 use std::alloc::Global;
-
-/// The template of a question: the item that its field `template` names.
-pub fn template_of<'t>(templates: &'t TextMap<Item>, question: &Item) -> Option<&'t Item>
-    ensures { option_copied result ≡ template_of_table templates.now question.now }
-{
-    match question.field(b"template") {
-        None => None,
-        Some(name) => templates.get(name.bytes()),
-    }
-}
 
 /// The kind of a question with this template: `None` without a template, or where its `type` is no kind's word.
 pub fn kind(template: Option<&Item>) -> Option<Kind>

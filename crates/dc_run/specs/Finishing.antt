@@ -1,41 +1,53 @@
--- What a run does when its link has ended.
-use Rattle.std.specs.Prelude.{◌≡◌, ◌⊎◌, ℕ, List, true}
+-- What a run does when its link has ended: the images of all layers are saved, in order, and then each layer is marked as saved.
+use Rattle.std.specs.Prelude.{◌≡◌, ◌⊎◌, ℕ, List, map as each}
 use Rattle.dc_outside.specs.Counts.{FaultRose, RefusalRose}
-use Rattle.dc_outside.specs.Told.{Told, Counts}
-use Rattle.dc_save.specs.Saving.{HasFailed, HasRunOut}
+use Rattle.dc_text.specs.declared.memory.OutOfMemory.{OutOfMemory}
+use Rattle.dc_layer.specs.State.{LayerState, images, saved}
+use Rattle.dc_layer.specs.declared.image.Image.{Image}
+use Rattle.dc_save.specs.Saving.{all_images, after_images, FailsAmong, StopsAmong}
 use Rattle.dc_save.specs.declared.saving.SaveError.TheVariants as save
+use Rattle.dc_serve.specs.declared.outcome.LinkEnd.{LinkEnd}
+use Rattle.dc_serve.specs.declared.outcome.LinkEnd.TheVariants as link
 use Rattle.dc_run.specs.declared.outcome.End.{End}
 use Rattle.dc_run.specs.declared.outcome.End.TheVariants as end
-use Rattle.dc_serve.specs.declared.outcome.LinkEnd.{LinkEnd}
-use Rattle.dc_text.specs.declared.memory.OutOfMemory.{OutOfMemory}
-use Rattle.dc_serve.specs.declared.outcome.LinkEnd.TheVariants as link
 use Rattle.dc_run.specs.Ends.{end_of, end_unsaved}
-use Rattle.dc_run.specs.Saving.{after_finish, questions_image}
-use Rattle.dc_run.specs.State.{State}
+use Rattle.dc_run.specs.World.{FilesState}
 
--- the table was saved, where it changed, and no call failed
-pub record IsSaved (path : List ℕ) (state : State) (files new : Told) (before now : Counts) (ended : LinkEnd OutOfMemory) (how : End) : Type 0 where
+-- the images that the layers ask for, in order
+abbrev pub images_of : List LayerState → List Image
+images_of layers = all_images (each images layers)
+
+-- the images are saved, and no call failed
+pub record IsSaved (layers used : List LayerState) (files new : FilesState) (ended : LinkEnd OutOfMemory) (how : End) : Type 0 where
   pub end_is : how ≡ end_of ended
-  pub files_are : new ≡ after_finish files path state
-  pub counts : now ≡ before
+  pub files_are : new.told ≡ after_images files.told (images_of layers)
+  pub counts : new.counts ≡ files.counts
+  pub used_are : used ≡ each saved layers
 
--- the table changed, and a call of the save failed
-pub record IsUnwritten (path : List ℕ) (state : State) (files new : Told) (before now : Counts) (ended : LinkEnd OutOfMemory) (how : End) : Type 0 where
+-- a call of the save failed for the image at this path
+pub record IsUnsaved (layers used : List LayerState) (files new : FilesState) (ended : LinkEnd OutOfMemory) (how : End) : Type 0 where
+  pub path : List ℕ
   pub end_is : how ≡ end_unsaved ended (save.Failed path)
-  pub changed : state.changed ≡ true
-  pub failed : HasFailed files new (questions_image path state.questions)
-  pub counts : FaultRose before now
+  pub failed : FailsAmong (images_of layers) path files.told new.told
+  pub counts : FaultRose files.counts new.counts
+  pub used_are : used ≡ layers
 
--- the table changed, and there was no memory to save it: the files refused a call, or none was made
-pub record IsWithoutMemory (path : List ℕ) (state : State) (files new : Told) (before now : Counts) (how : End) : Type 0 where
+-- there was no memory for the save: the files refused a call, or none was made
+pub record IsWithoutMemory (layers used : List LayerState) (files new : FilesState) (how : End) : Type 0 where
   pub end_is : how ≡ end.OutOfMemory
-  pub changed : state.changed ≡ true
-  pub ran_out : (new ≡ files) ⊎ HasRunOut files new (questions_image path state.questions)
-  pub counts : RefusalRose before now ⊎ ((now ≡ before) × (new ≡ files))
+  pub ran_out : (new.told ≡ files.told) ⊎ StopsAmong (images_of layers) files.told new.told
+  pub counts : RefusalRose files.counts new.counts ⊎ ((new.counts ≡ files.counts) × (new.told ≡ files.told))
+  pub used_are : used ≡ layers
 
--- what finishing does, by the end of the link, and the end of the run
-abbrev pub Finishes : List ℕ → State → LinkEnd OutOfMemory → Told → Told → Counts → Counts → End → Type 0
-Finishes path state link.OutOfMemory files new before now how = (how ≡ end.OutOfMemory) × (new ≡ files) × (now ≡ before)
-Finishes path state (link.Broken error) files new before now how = (how ≡ end.OutOfMemory) × (new ≡ files) × (now ≡ before)
-Finishes path state ended files new before now how =
-    IsSaved path state files new before now ended how ⊎ IsUnwritten path state files new before now ended how ⊎ IsWithoutMemory path state files new before now how
+-- want of memory before the save: no file was written
+pub record IsBrokenOff (layers used : List LayerState) (files new : FilesState) (how : End) : Type 0 where
+  pub end_is : how ≡ end.OutOfMemory
+  pub files_are : new ≡ files
+  pub used_are : used ≡ layers
+
+-- what finishing does after these layers of a session, by the end of its link: the end of the run, the layers that are used, and the
+-- files
+abbrev pub Finishes : List LayerState → List LayerState → LinkEnd OutOfMemory → FilesState → FilesState → End → Type 0
+Finishes layers used link.OutOfMemory files new how = IsBrokenOff layers used files new how
+Finishes layers used (link.Broken error) files new how = IsBrokenOff layers used files new how
+Finishes layers used ended files new how = IsSaved layers used files new ended how ⊎ IsUnsaved layers used files new ended how ⊎ IsWithoutMemory layers used files new how

@@ -1,105 +1,44 @@
--- What a run of the program says and saves, by its end.
-use Rattle.std.specs.Prelude.{◌≡◌, ◌⊎◌, ℕ, List, Option, true}
-use Rattle.dc_outside.specs.declared.link.Piece.{Piece}
-use Rattle.dc_save.specs.Saving.{HasFailed, HasRunOut}
-use Rattle.dc_outside.specs.Told.{Told, Counts}
+-- What a run of the program does, by its end, in three parts: its words are refused; or it ends before its tool, silently and with
+-- nothing written; or its tool ran from the layers as they were loaded, and what changed in them is saved.
+use Rattle.std.specs.Prelude.{◌≡◌, ◌⊎◌, ℕ, List}
+use Rattle.dc_text.specs.declared.memory.OutOfMemory.{OutOfMemory}
+use Rattle.dc_layer.specs.State.{LayerState}
+use Rattle.dc_serve.specs.declared.outcome.LinkEnd.{LinkEnd}
+use Rattle.dc_session.specs.Serving.{IsServed}
 use Rattle.dc_run.specs.declared.outcome.End.{End}
 use Rattle.dc_run.specs.declared.outcome.End.TheVariants as end
-use Rattle.dc_serve.specs.declared.outcome.LinkEnd.{LinkEnd}
-use Rattle.dc_text.specs.declared.memory.OutOfMemory.{OutOfMemory}
-use Rattle.dc_serve.specs.declared.outcome.LinkEnd.TheVariants as link
-use Rattle.dc_outside.specs.Counts.{FaultRose, RefusalRose}
-use Rattle.dc_save.specs.Loading.{HasLoaded}
-use Rattle.dc_run.specs.Loading.{database_paths, templates_path, after_reads, IsDamagedFirst, IsUnread, AreReadInPart}
-use Rattle.dc_serve.specs.Run.{HasRun}
-use Rattle.dc_run.specs.Machine.{Heeds, Breaks}
-use Rattle.dc_run.specs.Saving.{after_finish, questions_image}
-use Rattle.dc_layer.specs.State.{Table}
-use Rattle.dc_run.specs.State.{State, loaded}
+use Rattle.dc_run.specs.Finishing.{Finishes}
+use Rattle.dc_run.specs.declared.starting.Roots.{Roots}
+use Rattle.dc_run.specs.Starting.{HasStarted, EndsBefore, begun}
 use Rattle.dc_run.specs.Tools.{IsToolWords, AreRefusedAt}
+use Rattle.dc_run.specs.World.{Stock, World, IsSilent}
 
--- what a run finds and leaves: what the files tell, how often they failed and refused, the talk on the link, and the input
--- that is left on it
-pub record Surroundings : Type 0 where
-  pub files : Told
-  pub counts : Counts
-  pub talk : Option (List Piece)
-  pub input : Option (List ℕ)
+-- ---- the tool
 
--- nothing was read from the link or said on it
-pub record IsSilent (old new : Surroundings) (code : ℕ) : Type 0 where
-  pub talk : new.talk ≡ old.talk
-  pub input : new.input ≡ old.input
-  pub code_is : code ≡ 0
+-- The layers were loaded, a session was served over them, and the layers that it left were saved, or not, by the end of the link.
+pub record HasServed (path lang : List ℕ) (old new : World) (how : End) (code : ℕ) : Type 0 where
+  pub mid : Stock
+  pub roots : Roots
+  pub started : HasStarted path old.stock.files mid roots
+  pub ended : LinkEnd OutOfMemory
+  pub layers : List LayerState
+  pub served : IsServed (begun mid.used roots lang) layers old.talk new.talk old.input new.input ended code
+  pub finishes : Finishes layers new.stock.used ended mid.files new.stock.files how
 
--- a session was served over the tables of the database, and left this state
-pub record IsSession (path lang : List ℕ) (old new : Surroundings) (end : LinkEnd OutOfMemory) (state : State) (code : ℕ) : Type 0 where
-  pub questions : Table
-  pub questions_are : HasLoaded old.files.disk path questions
-  pub templates : Table
-  pub templates_are : HasLoaded old.files.disk (templates_path path) templates
-  pub ran : HasRun Heeds Breaks old.talk new.talk old.input new.input (loaded questions templates lang) end state code
+-- a run of `communicate` over the configuration at the path
+abbrev pub HasCommunicated : List ℕ → List ℕ → World → World → End → ℕ → Type 0
+HasCommunicated path lang old new how code = (EndsBefore path old.stock.files new.stock how × IsSilent old new code) ⊎ HasServed path lang old new how code
 
--- the files when the session began
-abbrev pub begun : Surroundings → List ℕ → Told
-begun old path = after_reads old.files (database_paths path)
+-- ---- the program
 
--- a session that came to its end, after which the table of questions is saved where it changed; no call of the files failed
-pub record IsFinished (path lang : List ℕ) (old new : Surroundings) (end : LinkEnd OutOfMemory) (code : ℕ) : Type 0 where
-  pub state : State
-  pub session : IsSession path lang old new end state code
-  pub files : new.files ≡ after_finish (begun old path) path state
-  pub counts : new.counts ≡ old.counts
+-- the words are refused at a place, which the end tells, and nothing was done
+pub record AreRefused (words : List (List ℕ)) (old new : World) (how : End) (code : ℕ) : Type 0 where
+  pub word : ℕ
+  pub end_is : how ≡ end.Usage word
+  pub refused : AreRefusedAt words word
+  pub silent : IsSilent old new code
+  pub untouched : new.stock ≡ old.stock
 
--- a session that came to its end, and a call of the save of its changed table failed
-pub record IsUnsaved (path lang : List ℕ) (old new : Surroundings) (end : LinkEnd OutOfMemory) (code : ℕ) : Type 0 where
-  pub state : State
-  pub session : IsSession path lang old new end state code
-  pub changed : state.changed ≡ true
-  pub failed : HasFailed (begun old path) new.files (questions_image path state.questions)
-  pub counts : FaultRose old.counts new.counts
-
--- the ends of the link after which a changed table is saved
-abbrev pub IsEnded : LinkEnd OutOfMemory → Type 0
-IsEnded link.Done = Unit {0}
-IsEnded link.LinkFault = Unit {0}
-IsEnded link.TooLong = Unit {0}
-IsEnded link.OutOfMemory = ⊥
-IsEnded (link.Broken error) = ⊥
-
--- A session that came to its end, and there was no memory to save its changed table: the files refused a call, or the program's
--- own memory ran out before the first one.
-pub record IsUnfinished (path lang : List ℕ) (old new : Surroundings) (code : ℕ) : Type 0 where
-  pub end : LinkEnd OutOfMemory
-  pub ended : IsEnded end
-  pub state : State
-  pub session : IsSession path lang old new end state code
-  pub changed : state.changed ≡ true
-  pub ran_out : (new.files ≡ begun old path) ⊎ HasRunOut (begun old path) new.files (questions_image path state.questions)
-  pub counts : RefusalRose old.counts new.counts ⊎ ((new.counts ≡ old.counts) × (new.files ≡ begun old path))
-
--- want of memory before the save: no file was written
-pub record IsBrokenOff (path lang : List ℕ) (old new : Surroundings) (code : ℕ) : Type 0 where
-  pub end : LinkEnd OutOfMemory
-  pub broke : ¬ IsEnded end
-  pub state : State
-  pub session : IsSession path lang old new end state code
-  pub files : new.files ≡ begun old path
-  pub counts : new.counts ≡ old.counts
-
--- a run of `communicate` over the database at the path
-abbrev pub HasCommunicated : List ℕ → List ℕ → Surroundings → Surroundings → End → ℕ → Type 0
-HasCommunicated path lang old new end.Done code = IsFinished path lang old new link.Done code
-HasCommunicated path lang old new end.LinkFault code = IsFinished path lang old new link.LinkFault code ⊎ IsUnsaved path lang old new link.LinkFault code
-HasCommunicated path lang old new end.TooLong code = IsFinished path lang old new link.TooLong code ⊎ IsUnsaved path lang old new link.TooLong code
-HasCommunicated path lang old new (end.Damaged damaged line) code = IsSilent old new code × IsDamagedFirst old.files new.files path damaged line
-HasCommunicated path lang old new (end.FilesFault failed) code =
-    (IsSilent old new code × IsUnread old.files new.files path failed) ⊎ ((failed ≡ path) × IsUnsaved path lang old new link.Done code)
-HasCommunicated path lang old new end.OutOfMemory code =
-    (IsSilent old new code × AreReadInPart old.files new.files path) ⊎ IsBrokenOff path lang old new code ⊎ IsUnfinished path lang old new code
-HasCommunicated path lang old new (end.Usage word) code = ⊥
-
--- what the program does with its words
-abbrev pub HasRunWords : List (List ℕ) → List ℕ → List ℕ → Surroundings → Surroundings → End → ℕ → Type 0
-HasRunWords words path lang old new (end.Usage word) code = AreRefusedAt words word × IsSilent old new code × (new.files ≡ old.files) × (new.counts ≡ old.counts)
-HasRunWords words path lang old new end code = IsToolWords words × HasCommunicated path lang old new end code
+-- What the program does with its words, over a configuration and for a user of a language: they are refused, or the tool ran.
+abbrev pub HasRunWords : List (List ℕ) → List ℕ → List ℕ → World → World → End → ℕ → Type 0
+HasRunWords words path lang old new how code = AreRefused words old new how code ⊎ IsToolWords words × HasCommunicated path lang old new how code

@@ -1,25 +1,28 @@
 // The call that the program makes.
-ghost use Rattle.std.specs.Prelude.{◌≡◌};
-ghost use Rattle.dc_run.specs.Ends.{status_of, LinkCounts, FilesCounts};
-ghost use Rattle.dc_run.specs.Finishing.{Finishes};
+ghost use Rattle.std.specs.Prelude.{◌≡◌, ◌≤◌, [], length, map as each};
+ghost use Rattle.dc_shelf.specs.Shelves.{AreBlank};
+ghost use Rattle.dc_run.specs.EndLines.{end_line, HasSaid};
+ghost use Rattle.dc_run.specs.Ends.{status_of, LinkCounts};
 ghost use Rattle.dc_run.specs.Headline.{HasRunWords, HasCommunicated};
 
-use crate::loading::load_database;
-use crate::outcome::{End, Outcome, end_at, end_at_unsaved, outcome_at};
-use crate::saving::save;
-use crate::session::Session;
+use crate::finishing::finish_used;
+use crate::outcome::{End, Outcome, outcome_at};
 use crate::settings::Settings;
+use crate::starting::start;
+use crate::telling::tell_end;
 use crate::tool::{Tool, read_tool};
+use dc_layer::Layer;
 use dc_outside::{Files, Link};
-use dc_serve::{LinkEnd, serve_link};
-use dc_text::{List, OutOfMemory, Text};
+use dc_session::serve_layers;
+use dc_shelf::Shelf;
+use dc_text::{List, Text};
 use std::alloc::Global;
 
-/// Runs the tool that the words name, over the link `io` and the database at `settings.conf_path`: the questions
-/// stand there, and the templates at that path followed by `.templates`.
+/// Runs the tool that the words name, over the link `io` and the databases that the configuration at `settings.conf_path` names
+/// (debconf.conf(5)). Blank layers of the shelf are moved to its `used`, in the order of the databases.
 ///
 /// `communicate [OWNER]` serves the commands that come on the link, as debconf-communicate(1) does, and answers each line
-/// before it reads more. At the end of the link a changed table is saved. Nothing is written to `err`.
+/// before it reads more. At the end of the link what changed in the layers is saved. An end other than `Done` is told on `err`.
 pub fn run_words<L: Link, E: Link, F: Files>(
     alloc: Global,
     words: &List<Text>,
@@ -27,83 +30,85 @@ pub fn run_words<L: Link, E: Link, F: Files>(
     io: &mut L,
     err: &mut E,
     files: &mut F,
+    shelf: &mut Shelf,
 ) -> Outcome
-    // What was said on the link is what the plain machine says, and what was saved is its table, by the end of the run.
+    requires blank { AreBlank (each (λ b. state (b.vtable, b.value)) shelf.old.files.items) }
+    requires room { 16 ≤ length shelf.old.files.items }
+    requires used { shelf.old.used.items ≡ [] }
+    // What was said on the link is what the plain machine says, and what was saved and stands in `used` are its layers, by the end.
     ensures ran { HasRunWords words.now settings.now.conf_path settings.now.lang
-        (record { files = F.told files.old; counts = F.counts files.old; talk = L.talk io.old; input = L.left io.old })
-        (record { files = F.told files.new; counts = F.counts files.new; talk = L.talk io.new; input = L.left io.new })
+        (record { stock = record { files = record { told = F.told files.old; counts = F.counts files.old }; used = each (λ b. state (b.vtable, b.value)) shelf.old.used.items }; talk = L.talk io.old; input = L.left io.old; link_counts = record { faults = L.faults io.old; refusals = L.refusals io.old } })
+        (record { stock = record { files = record { told = F.told files.new; counts = F.counts files.new }; used = each (λ b. state (b.vtable, b.value)) shelf.new.used.items }; talk = L.talk io.new; input = L.left io.new; link_counts = record { faults = L.faults io.new; refusals = L.refusals io.new } })
         result.end result.last_code }
     ensures status { result.status ≡ status_of result.end result.last_code }
 
-    // Nothing was said on `err`.
-    ensures err { err.new ≡ err.old }
+    // The end is told on `err`, but for what a write there that failed leaves out.
+    ensures err { HasSaid (end_line result.end) (E.talk err.old) (E.talk err.new) (record { faults = E.faults err.old; refusals = E.refusals err.old }) (record { faults = E.faults err.new; refusals = E.refusals err.new }) }
 
-    // Each fault has its end, and no other end passes over one. The same holds of refusals for want of memory.
-    ensures files_counts { FilesCounts result.end (F.counts files.old) (F.counts files.new) }
+    // A fault of the link has its end, unless what came after it found no memory.
     ensures link_counts { LinkCounts result.end (record { faults = L.faults io.old; refusals = L.refusals io.old }) (record { faults = L.faults io.new; refusals = L.refusals io.new }) }
 {
-    let _ = err;
+    let outcome = run_tool(alloc, words, settings, io, files, shelf);
+    tell_end(err, &outcome.end);
+    outcome
+}
+
+// The tool that the words name is run, if they name one.
+fn run_tool<L: Link, F: Files>(
+    alloc: Global,
+    words: &List<Text>,
+    settings: &Settings,
+    io: &mut L,
+    files: &mut F,
+    shelf: &mut Shelf,
+) -> Outcome
+    requires blank { AreBlank (each (λ b. state (b.vtable, b.value)) shelf.old.files.items) }
+    requires room { 16 ≤ length shelf.old.files.items }
+    requires used { shelf.old.used.items ≡ [] }
+    ensures ran { HasRunWords words.now settings.now.conf_path settings.now.lang
+        (record { stock = record { files = record { told = F.told files.old; counts = F.counts files.old }; used = each (λ b. state (b.vtable, b.value)) shelf.old.used.items }; talk = L.talk io.old; input = L.left io.old; link_counts = record { faults = L.faults io.old; refusals = L.refusals io.old } })
+        (record { stock = record { files = record { told = F.told files.new; counts = F.counts files.new }; used = each (λ b. state (b.vtable, b.value)) shelf.new.used.items }; talk = L.talk io.new; input = L.left io.new; link_counts = record { faults = L.faults io.new; refusals = L.refusals io.new } })
+        result.end result.last_code }
+    ensures status { result.status ≡ status_of result.end result.last_code }
+    ensures link_counts { LinkCounts result.end (record { faults = L.faults io.old; refusals = L.refusals io.old }) (record { faults = L.faults io.new; refusals = L.refusals io.new }) }
+{
     match read_tool(words) {
         Err(word) => outcome_at(End::Usage { word }, 0),
-        Ok(Tool::Communicate) => communicate(alloc, settings, io, files),
+        Ok(Tool::Communicate) => communicate(alloc, settings, io, files, shelf),
     }
 }
 
+// The database is loaded, a session is served over it, and what it changed is saved.
 fn communicate<L: Link, F: Files>(
     alloc: Global,
     settings: &Settings,
     io: &mut L,
     files: &mut F,
+    shelf: &mut Shelf,
 ) -> Outcome
+    requires blank { AreBlank (each (λ b. state (b.vtable, b.value)) shelf.old.files.items) }
+    requires room { 16 ≤ length shelf.old.files.items }
+    requires used { shelf.old.used.items ≡ [] }
     ensures ran { HasCommunicated settings.now.conf_path settings.now.lang
-        (record { files = F.told files.old; counts = F.counts files.old; talk = L.talk io.old; input = L.left io.old })
-        (record { files = F.told files.new; counts = F.counts files.new; talk = L.talk io.new; input = L.left io.new })
+        (record { stock = record { files = record { told = F.told files.old; counts = F.counts files.old }; used = each (λ b. state (b.vtable, b.value)) shelf.old.used.items }; talk = L.talk io.old; input = L.left io.old; link_counts = record { faults = L.faults io.old; refusals = L.refusals io.old } })
+        (record { stock = record { files = record { told = F.told files.new; counts = F.counts files.new }; used = each (λ b. state (b.vtable, b.value)) shelf.new.used.items }; talk = L.talk io.new; input = L.left io.new; link_counts = record { faults = L.faults io.new; refusals = L.refusals io.new } })
         result.end result.last_code }
     ensures status { result.status ≡ status_of result.end result.last_code }
-    ensures files_counts { FilesCounts result.end (F.counts files.old) (F.counts files.new) }
     ensures link_counts { LinkCounts result.end (record { faults = L.faults io.old; refusals = L.refusals io.old }) (record { faults = L.faults io.new; refusals = L.refusals io.new }) }
 {
-    let lang = match settings.lang.copy() {
-        Ok(lang) => lang,
-        Err(_) => return outcome_at(End::OutOfMemory, 0),
-    };
-    match load_database(alloc, &settings.conf_path, files) {
+    match start(alloc, &settings.conf_path, files, shelf) {
         Err(end) => outcome_at(end, 0),
-        Ok(database) => {
-            let mut session = Session::new(alloc, database, lang);
-            let served = serve_link(alloc, io, &mut session);
-            let end = finish(alloc, &settings.conf_path, &session, served.end, files);
+        Ok(roots) => {
+            let served = serve_layers(
+                alloc,
+                io,
+                &mut shelf.used,
+                &roots.config,
+                &roots.templates,
+                &settings.lang,
+            );
+            let end = finish_used(alloc, served.end, files, &mut shelf.used);
             outcome_at(end, served.last_code)
-        }
-    }
-}
-
-// Saves the table of questions where it changed, unless memory ran out, and answers the end of the run.
-fn finish<F: Files>(
-    alloc: Global,
-    path: &Text,
-    session: &Session,
-    end: LinkEnd<OutOfMemory>,
-    files: &mut F,
-) -> End
-    ensures finishes { Finishes path.now session.now end
-        (F.told files.old)
-        (F.told files.new)
-        (F.counts files.old)
-        (F.counts files.new)
-        result }
-    ensures counts { FilesCounts result (F.counts files.old) (F.counts files.new) }
-{
-    match end {
-        LinkEnd::OutOfMemory | LinkEnd::Broken(_) => End::OutOfMemory,
-        LinkEnd::Done | LinkEnd::LinkFault | LinkEnd::TooLong => {
-            if !session.is_changed() {
-                return end_at(end);
-            }
-            match save(alloc, path, session.questions(), files) {
-                Ok(()) => end_at(end),
-                Err(error) => end_at_unsaved(end, error),
-            }
         }
     }
 }

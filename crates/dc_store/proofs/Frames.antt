@@ -15,7 +15,8 @@ use Rattle.dc_item.specs.After.{after_at}
 use Rattle.dc_template.specs.declared.kinds.Kind.{Kind}
 use Rattle.dc_layer.specs.State.{LayerState, with_made}
 use Rattle.dc_store.specs.Holders.{look_of}
-use Rattle.dc_store.specs.Plans.{StoreState, stored, places, backup_op, tried, backed_up, told_line, write}
+use Rattle.dc_conf.specs.Plans.{places}
+use Rattle.dc_store.specs.Plans.{StoreState, stored, backup_op, tried, backed_up, told_line, write}
 use Rattle.dc_store.specs.StoreLaws.{IsSameBut, AreSameBut}
 use Rattle.dc_store.specs.Writes.{home, put_at, open_holder, by_case, write_of}
 

@@ -7,7 +7,8 @@ use Rattle.std.proofs.Math.Seq.{drop-cons}
 use Rattle.std.proofs.lemmas.List.{get_or-drop, length-drop, length-map}
 use Rattle.std.proofs.lemmas.List.Elements.{All-head, All-tail, All-from_get_or}
 use Rattle.dc_layer.specs.State.{LayerState}
-use Rattle.dc_store.specs.Plans.{StoreState, stored, places, backed_up, told_line, write}
+use Rattle.dc_conf.specs.Plans.{places}
+use Rattle.dc_store.specs.Plans.{StoreState, stored, backed_up, told_line, write}
 use Rattle.dc_store.specs.Rows.{Write, AreDistinct, AllDistinct, names_of, is_refused, first_refused, all_done, row_done}
 use Rattle.dc_store.specs.StoreLaws.{AreSameBut, AreSameButAll}
 use Rattle.dc_store.specs.Writes.{write_of}

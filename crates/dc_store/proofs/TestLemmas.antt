@@ -14,7 +14,8 @@ use Rattle.dc_item.specs.declared.op.After.TheVariants.{Same, Changed, Gone}
 use Rattle.dc_template.specs.declared.kinds.Kind.{Kind}
 use Rattle.dc_layer.specs.State.{LayerState, is_writable, admits, with_made}
 use Rattle.dc_store.specs.Holders.{item_at, has_at, holder_of, look_of}
-use Rattle.dc_store.specs.Plans.{StoreState, stored, places, backup_op, tried, backed_up, told_line, write}
+use Rattle.dc_conf.specs.Plans.{places}
+use Rattle.dc_store.specs.Plans.{StoreState, stored, backup_op, tried, backed_up, told_line, write}
 use Rattle.dc_store.specs.Rows.{Write, AreApart, AreDistinct, all_places, is_refused}
 use Rattle.dc_store.specs.StoreLaws.{IsSameBut, AreSameBut, ChangesOne}
 use Rattle.dc_store.specs.Writes.{is_writable_at, takes_at, open_holder, home, by_case, write_of}

@@ -1,13 +1,13 @@
 -- What a plan sees and writes: its base, which may have a backup, and which may tell what is done (debconf.conf(5), Stack, Backup,
 -- Debug). All that stands above speaks of plans, by these words alone.
-use Rattle.std.specs.Prelude.{ℕ, ◌<◌, Bool, false, List, [], ◌∷◌, ◌++◌, Option, Some, None, is_some, option_map, unwrap_or, slice_get, codes, if◌then◌else◌}
-use Rattle.std.specs.Option.{option_map_or, IfSome}
-use Rattle.std.specs.List.{All, filter, flat_map}
+use Rattle.std.specs.Prelude.{ℕ, Bool, false, List, [], ◌∷◌, ◌++◌, Option, Some, None, is_some, option_map, unwrap_or, slice_get, codes, if◌then◌else◌}
+use Rattle.std.specs.Option.{option_map_or}
+use Rattle.std.specs.List.{filter, flat_map}
 use Rattle.std.specs.FinMap as map
 use Rattle.dc_text.specs.Maps.{set_of}
 use Rattle.dc_conf.specs.declared.plans.Base.{Base}
-use Rattle.dc_conf.specs.declared.plans.Base.TheVariants.{Leaf, Stack}
 use Rattle.dc_conf.specs.declared.plans.Plan.{Plan}
+use Rattle.dc_conf.specs.Plans.{places}
 use Rattle.dc_item.specs.Item.{ItemParts}
 use Rattle.dc_item.specs.declared.op.Op.{Op}
 use Rattle.dc_item.specs.declared.op.Op.TheVariants.{Put, SetField, DropField, SetFlag, SetVar, AddOwner, DropOwners}
@@ -15,20 +15,6 @@ use Rattle.dc_template.specs.declared.kinds.Kind.{Kind}
 use Rattle.dc_layer.specs.State.{LayerState}
 use Rattle.dc_store.specs.Holders.{holder_of, look_of, has_below_of}
 use Rattle.dc_store.specs.Writes.{write_of, can_change_of}
-
--- the places of a base, from the top
-abbrev pub places : Base → List ℕ
-places (Leaf place) = place ∷ []
-places (Stack list) = list
-
--- each place is one of so many layers
-abbrev pub AreWithin : List ℕ → ℕ → Type 0
-AreWithin places count = All (λ place. place < count) places
-
--- the plan speaks of so many layers
-pub record IsOver (plan : Plan) (count : ℕ) : Type 0 where
-  pub base : AreWithin (places plan.base) count
-  pub backup : IfSome plan.backup (λ backup. AreWithin (places backup) count)
 
 -- ---- what is seen
 

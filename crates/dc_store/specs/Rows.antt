@@ -6,7 +6,8 @@ use Rattle.dc_conf.specs.declared.plans.Plan.{Plan}
 use Rattle.dc_item.specs.declared.op.Op.{Op}
 use Rattle.dc_template.specs.declared.kinds.Kind.{Kind}
 use Rattle.dc_layer.specs.State.{LayerState}
-use Rattle.dc_store.specs.Plans.{StoreState, IsOver, places, write, would_take}
+use Rattle.dc_conf.specs.Plans.{IsOver, places}
+use Rattle.dc_store.specs.Plans.{StoreState, write, would_take}
 
 -- a write: an operation on the item of a name, of which the kind may be known, in a plan
 pub record Write : Type 0 where

@@ -1,7 +1,8 @@
 // The backup of a base.
 ghost use Rattle.std.specs.Prelude.{◌≡◌, Some, IfOk, OnOk, OnErr, length, map as each};
 ghost use Rattle.std.specs.Option.{option_copied, IfSome};
-ghost use Rattle.dc_store.specs.Plans.{AreWithin, places as places_of, backup_op as op_of, tried, backed_up};
+ghost use Rattle.dc_conf.specs.Plans.{AreWithin, places as places_of};
+ghost use Rattle.dc_store.specs.Plans.{backup_op as op_of, tried, backed_up};
 ghost use Rattle.dc_store.specs.StoreLaws.{AreSameBut};
 
 use crate::bases::places;

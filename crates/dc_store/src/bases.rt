@@ -1,6 +1,6 @@
 // The places of a base.
 ghost use Rattle.std.specs.Prelude.{◌≡◌};
-ghost use Rattle.dc_store.specs.Plans.{places as places_of};
+ghost use Rattle.dc_conf.specs.Plans.{places as places_of};
 
 use dc_conf::plans::Base;
 

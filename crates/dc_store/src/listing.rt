@@ -3,7 +3,8 @@ ghost use Rattle.std.specs.Prelude.{◌≡◌, ◌++◌, IfOk, OnOk, length, map
 ghost use Rattle.std.specs.List.{flat_map, filter};
 ghost use Rattle.std.specs.Option.{option_copied};
 ghost use Rattle.dc_store.specs.Holders.{look_of};
-ghost use Rattle.dc_store.specs.Plans.{AreWithin, names_at as names_of, is_owned as is_owned_of};
+ghost use Rattle.dc_conf.specs.Plans.{AreWithin};
+ghost use Rattle.dc_store.specs.Plans.{names_at as names_of, is_owned as is_owned_of};
 
 use crate::boxes::names_at;
 use crate::search::look_in;

@@ -2,7 +2,8 @@
 ghost use Rattle.std.specs.Prelude.{◌≡◌, Some, None, Err, IfOk, OnOk, OnErr, length, true, false, not, map as each};
 ghost use Rattle.std.specs.List.{All, list_any};
 ghost use Rattle.std.specs.Option.{option_copied};
-ghost use Rattle.dc_store.specs.Plans.{IsOver, write as write_of, stored};
+ghost use Rattle.dc_conf.specs.Plans.{IsOver};
+ghost use Rattle.dc_store.specs.Plans.{write as write_of, stored};
 ghost use Rattle.dc_store.specs.Rows.{is_refused, first_refused, all_done, row_done, AllDistinct, AreOver, names_of};
 ghost use Rattle.dc_store.specs.StoreLaws.{AreSameBut, AreSameButAll};
 

@@ -3,7 +3,7 @@ ghost use Rattle.std.specs.Prelude.{◌≡◌, IfOk, length, map as each};
 ghost use Rattle.std.specs.Option.{option_copied};
 ghost use Rattle.std.specs.List.{list_any};
 ghost use Rattle.dc_store.specs.Holders.{holder_of, look_of, has_below_of, has_at as has_of};
-ghost use Rattle.dc_store.specs.Plans.{AreWithin};
+ghost use Rattle.dc_conf.specs.Plans.{AreWithin};
 ghost use Rattle.dc_store.specs.Writes.{home, open_holder};
 
 use crate::boxes::{has_at, is_open_at, item_at, takes_at};

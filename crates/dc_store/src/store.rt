@@ -1,7 +1,8 @@
 // The store.
 ghost use Rattle.std.specs.Prelude.{◌≡◌, ◌++◌, Some, None, Err, IfOk, OnOk, OnErr, [], length, false, map as each};
 ghost use Rattle.std.specs.Option.{option_copied, IfSome};
-ghost use Rattle.dc_store.specs.Plans.{IsOver, AreWithin, places as places_of, holder, look, has_below, can_change, would_take, names, owned, backed_up, told_line, write, stored};
+ghost use Rattle.dc_conf.specs.Plans.{IsOver, AreWithin, places as places_of};
+ghost use Rattle.dc_store.specs.Plans.{holder, look, has_below, can_change, would_take, names, owned, backed_up, told_line, write, stored};
 ghost use Rattle.dc_store.specs.StoreLaws.{AreSameBut};
 ghost use Rattle.dc_store.specs.Writes.{write_of};
 

@@ -1,7 +1,7 @@
 // A store of two layers in files, as tables.
 ghost use Rattle.std.specs.Prelude.{◌≡◌, ◌<◌, IfSome, length};
 ghost use Rattle.dc_conf.specs.declared.spec.LayerSort.TheVariants.{File};
-ghost use Rattle.dc_store.specs.Plans.{IsOver};
+ghost use Rattle.dc_conf.specs.Plans.{IsOver};
 
 use crate::Store;
 use dc_conf::plans::{Base, Plan};

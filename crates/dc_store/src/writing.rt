@@ -1,6 +1,6 @@
 // Writes to the layers of a base.
 ghost use Rattle.std.specs.Prelude.{◌≡◌, Some, None, Err, OnOk, OnErr, length, map as each};
-ghost use Rattle.dc_store.specs.Plans.{AreWithin};
+ghost use Rattle.dc_conf.specs.Plans.{AreWithin};
 ghost use Rattle.dc_store.specs.StoreLaws.{AreSameBut};
 ghost use Rattle.dc_store.specs.Writes.{home, put_up, write_of};
 

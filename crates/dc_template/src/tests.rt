@@ -5,10 +5,9 @@ use crate::{
 };
 use dc_text::{FieldKey, List, Mem, SmallMap, Text, settle};
 use std::alloc::Global;
-use std::test::Fail;
 
 #[test]
-fn kinds_are_read(rt: HostRuntime) -> Result<(), Fail> {
+fn kinds_are_read(rt: HostRuntime) {
     for (word, kind) in [
         ("string", Some(Kind::Str)),
         ("boolean", Some(Kind::Bool)),
@@ -26,11 +25,10 @@ fn kinds_are_read(rt: HostRuntime) -> Result<(), Fail> {
         assert_eq!(rt; Kind::read(word.as_bytes()), kind, "{word:?}");
     }
     assert_eq!(rt; Kind::Multiselect.word(), b"multiselect".as_slice());
-    Ok(())
 }
 
 #[test]
-fn languages_have_keys(rt: HostRuntime) -> Result<(), Fail> {
+fn languages_have_keys(rt: HostRuntime) {
     let alloc = rt.alloc();
     for (lang, tried) in [
         ("de_DE.UTF-8", "k-de_de.utf-8 k-de_de k-de.utf-8 k-de k "),
@@ -46,23 +44,37 @@ fn languages_have_keys(rt: HostRuntime) -> Result<(), Fail> {
             "k-aaaaaaaaaaaaaaaaaaaaaaaaaaaaaaaaaaaaaaaaaaaaaaaaaaaaaaaaaa_a k-aaaaaaaaaaaaaaaaaaaaaaaaaaaaaaaaaaaaaaaaaaaaaaaaaaaaaaaaaa k ",
         ),
     ] {
-        let keys = keys_tried(alloc, lang.as_bytes(), &FieldKey::read(alloc, b"k")?)?;
+        let keys = keys_tried(
+            alloc,
+            lang.as_bytes(),
+            &FieldKey::read(alloc, b"k").expect(&rt, "memory"),
+        )
+        .expect(&rt, "memory");
         let mut text = Text::new(alloc);
         for key in keys.as_slice() {
-            text.append(key.bytes())?;
-            text.push(b' ')?;
+            text.append(key.bytes()).expect(&rt, "memory");
+            text.push(b' ').expect(&rt, "memory");
         }
         assert_eq!(rt; text.bytes(), tried.as_bytes(), "{lang:?}");
     }
-    Ok(())
 }
 
 #[test]
-fn variables_are_replaced(rt: HostRuntime) -> Result<(), Fail> {
+fn variables_are_replaced(rt: HostRuntime) {
     let alloc = rt.alloc();
     let mut variables = SmallMap::new(alloc);
-    variables.insert(Text::from_bytes(alloc, b"who")?, settle(alloc, b"Al")?)?;
-    variables.insert(Text::from_bytes(alloc, b"k")?, settle(alloc, b"${who}")?)?;
+    variables
+        .insert(
+            Text::from_bytes(alloc, b"who").expect(&rt, "memory"),
+            settle(alloc, b"Al").expect(&rt, "memory"),
+        )
+        .expect(&rt, "memory");
+    variables
+        .insert(
+            Text::from_bytes(alloc, b"k").expect(&rt, "memory"),
+            settle(alloc, b"${who}").expect(&rt, "memory"),
+        )
+        .expect(&rt, "memory");
     for (text, expanded) in [
         ("Name of ${who}?", "Name of Al?"),
         ("${k}${none}.", "${who}."),
@@ -74,12 +86,13 @@ fn variables_are_replaced(rt: HostRuntime) -> Result<(), Fail> {
         ("", ""),
     ] {
         assert_eq!(rt;
-            expand(alloc, text.as_bytes(), &variables)?.bytes(),
+            expand(alloc, text.as_bytes(), &variables)
+                .expect(&rt, "memory")
+                .bytes(),
             expanded.as_bytes(),
             "{text:?}"
         );
     }
-    Ok(())
 }
 
 // The line and the fault that are found, if one is.
@@ -91,7 +104,7 @@ fn fault_of(alloc: Global, text: &str) -> Option<(u64, TemplateKind)> {
 }
 
 #[test]
-fn first_faults_are_found(rt: HostRuntime) -> Result<(), Fail> {
+fn first_faults_are_found(rt: HostRuntime) {
     let alloc = rt.alloc();
     for (text, line, kind) in [
         ("Type: string", 1, TemplateKind::NoTemplate),
@@ -145,7 +158,6 @@ fn first_faults_are_found(rt: HostRuntime) -> Result<(), Fail> {
     ] {
         assert_eq!(rt; fault_of(alloc, text), Some((line, kind)), "{text:?}");
     }
-    Ok(())
 }
 
 // The names, kinds and fields, each with a bar after it.
@@ -167,7 +179,7 @@ fn barred(alloc: Global, list: &List<Template>) -> Mem<Text> {
 }
 
 #[test]
-fn templates_are_read_and_printed(rt: HostRuntime) -> Result<(), Fail> {
+fn templates_are_read_and_printed(rt: HostRuntime) {
     let alloc = rt.alloc();
     for (text, read, printed) in [
         (
@@ -182,15 +194,22 @@ fn templates_are_read_and_printed(rt: HostRuntime) -> Result<(), Fail> {
         ),
         ("", "", ""),
     ] {
-        let list = read_templates(alloc, text.as_bytes())?;
-        assert_eq!(rt; barred(alloc, &list)?.bytes(), read.as_bytes(), "{text:?}");
+        let list = read_templates(alloc, text.as_bytes()).expect(&rt, "memory");
         assert_eq!(rt;
-            print_templates(alloc, &list)?.bytes(),
+            barred(alloc, &list).expect(&rt, "memory").bytes(),
+            read.as_bytes(),
+            "{text:?}"
+        );
+        assert_eq!(rt;
+            print_templates(alloc, &list).expect(&rt, "memory").bytes(),
             printed.as_bytes(),
             "{text:?}"
         );
-        let again = read_templates(alloc, printed.as_bytes())?;
-        assert_eq!(rt; barred(alloc, &again)?.bytes(), read.as_bytes(), "{text:?}");
+        let again = read_templates(alloc, printed.as_bytes()).expect(&rt, "memory");
+        assert_eq!(rt;
+            barred(alloc, &again).expect(&rt, "memory").bytes(),
+            read.as_bytes(),
+            "{text:?}"
+        );
     }
-    Ok(())
 }

@@ -2,7 +2,6 @@
 use crate::{Line, Lines, escape, join_choices, plain_words, split_choices, unescape_words};
 use dc_text::{List, Mem, Text};
 use std::alloc::Global;
-use std::test::Fail;
 
 // The words, with a bar after each.
 fn barred(alloc: Global, words: &List<Text>) -> Mem<Text> {
@@ -15,7 +14,7 @@ fn barred(alloc: Global, words: &List<Text>) -> Mem<Text> {
 }
 
 #[test]
-fn lines_have_words(rt: HostRuntime) -> Result<(), Fail> {
+fn lines_have_words(rt: HostRuntime) {
     let alloc = rt.alloc();
     for (line, words) in [
         ("a\\ b c\\\\d", "a\\|b|c\\\\d|"),
@@ -24,14 +23,17 @@ fn lines_have_words(rt: HostRuntime) -> Result<(), Fail> {
         (" \t", ""),
         ("", ""),
     ] {
-        let read = plain_words(alloc, line.as_bytes())?;
-        assert_eq!(rt; barred(alloc, &read)?.bytes(), words.as_bytes(), "{line:?}");
+        let read = plain_words(alloc, line.as_bytes()).expect(&rt, "memory");
+        assert_eq!(rt;
+            barred(alloc, &read).expect(&rt, "memory").bytes(),
+            words.as_bytes(),
+            "{line:?}"
+        );
     }
-    Ok(())
 }
 
 #[test]
-fn escaped_lines_have_words(rt: HostRuntime) -> Result<(), Fail> {
+fn escaped_lines_have_words(rt: HostRuntime) {
     let alloc = rt.alloc();
     for (line, words) in [
         ("a\\ b c\\\\d", "a b|c\\d|"),
@@ -41,12 +43,21 @@ fn escaped_lines_have_words(rt: HostRuntime) -> Result<(), Fail> {
         (" \t", ""),
         ("", ""),
     ] {
-        let read = unescape_words(alloc, line.as_bytes())?;
-        assert_eq!(rt; barred(alloc, &read)?.bytes(), words.as_bytes(), "{line:?}");
+        let read = unescape_words(alloc, line.as_bytes()).expect(&rt, "memory");
+        assert_eq!(rt;
+            barred(alloc, &read).expect(&rt, "memory").bytes(),
+            words.as_bytes(),
+            "{line:?}"
+        );
     }
-    assert_eq!(rt; escape(alloc, b"a\\\n")?.bytes(), b"a\\\\\\n".as_slice());
-    assert_eq!(rt; escape(alloc, b"x y")?.bytes(), b"x y".as_slice());
-    Ok(())
+    assert_eq!(rt;
+        escape(alloc, b"a\\\n").expect(&rt, "memory").bytes(),
+        b"a\\\\\\n".as_slice()
+    );
+    assert_eq!(rt;
+        escape(alloc, b"x y").expect(&rt, "memory").bytes(),
+        b"x y".as_slice()
+    );
 }
 
 // The line of a stream, with a bar after it.
@@ -59,25 +70,24 @@ fn show(text: &mut Text, line: &Line) -> Mem<()> {
 }
 
 #[test]
-fn a_stream_has_lines(rt: HostRuntime) -> Result<(), Fail> {
+fn a_stream_has_lines(rt: HostRuntime) {
     let alloc = rt.alloc();
     let mut text = Text::new(alloc);
     let mut lines = Lines::new(alloc);
-    lines.feed(b"a\n\nb")?;
+    lines.feed(b"a\n\nb").expect(&rt, "memory");
     for _ in 0..2u8 {
-        if let Some(line) = lines.next()? {
-            show(&mut text, &line)?;
+        if let Some(line) = lines.next().expect(&rt, "memory") {
+            show(&mut text, &line).expect(&rt, "memory");
         }
     }
     if let Some(line) = lines.last() {
-        show(&mut text, &line)?;
+        show(&mut text, &line).expect(&rt, "memory");
     }
     assert_eq!(rt; text.bytes(), b"a||b|".as_slice());
-    Ok(())
 }
 
 #[test]
-fn choices_are_split_and_joined(rt: HostRuntime) -> Result<(), Fail> {
+fn choices_are_split_and_joined(rt: HostRuntime) {
     let alloc = rt.alloc();
     for (text, choices, joined) in [
         ("a\\, b, c", "a, b|c|", "a\\, b, c"),
@@ -87,17 +97,16 @@ fn choices_are_split_and_joined(rt: HostRuntime) -> Result<(), Fail> {
         (" , ", "", ""),
         ("", "", ""),
     ] {
-        let read = split_choices(alloc, text.as_bytes())?;
+        let read = split_choices(alloc, text.as_bytes()).expect(&rt, "memory");
         assert_eq!(rt;
-            barred(alloc, &read)?.bytes(),
+            barred(alloc, &read).expect(&rt, "memory").bytes(),
             choices.as_bytes(),
             "{text:?}"
         );
         assert_eq!(rt;
-            join_choices(alloc, &read)?.bytes(),
+            join_choices(alloc, &read).expect(&rt, "memory").bytes(),
             joined.as_bytes(),
             "{text:?}"
         );
     }
-    Ok(())
 }

@@ -1,2 +1,3 @@
 pub mod FolderLemmas
+pub mod ShelfLemmas
 pub mod StreamLemmas

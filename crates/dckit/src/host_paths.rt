@@ -1,5 +1,6 @@
 // Paths as the host takes them, and what its errors mean.
-ghost use Rattle.std.specs.Prelude.{◌≡◌, ◌↔◌, ◌⊎◌, IfErr, IfOk, IsOk};
+ghost use Rattle.std.specs.Prelude.{◌≡◌, ◌↔◌, ◌⊎◌, IfErr, IfOk, IsOk, IsTrue};
+ghost use Rattle.std.specs.IoError.{error_kind};
 ghost use Rattle.std.specs.Str.{IsUtf8};
 
 use dc_outside::FilesError;
@@ -20,12 +21,16 @@ pub fn path_of(path: &Text) -> Result<&str, FilesError>
 }
 
 /// Whether nothing stands at the path: a name in it is missing, or a file stands in the place of a folder above.
-pub fn is_missing(error: &io::Error) -> bool {
+pub fn is_missing(error: &io::Error) -> bool
+    ensures { IsTrue result ↔ (error_kind error.now ≡ ErrorKind.NotFound) ⊎ (error_kind error.now ≡ ErrorKind.NotADirectory) }
+{
     matches!(error.kind(), ErrorKind::NotFound | ErrorKind::NotADirectory)
 }
 
 /// What an error of the host is to the files: want of memory, or else a fault.
-pub fn failed(error: &io::Error) -> FilesError {
+pub fn failed(error: &io::Error) -> FilesError
+    ensures { (result ≡ FilesError.OutOfMemory) ↔ (error_kind error.now ≡ ErrorKind.OutOfMemory) }
+{
     if error.kind() == ErrorKind::OutOfMemory {
         FilesError::OutOfMemory
     } else {

@@ -18,12 +18,22 @@ use crate::host_files::HostFiles;
 use crate::host_link::HostLink;
 use crate::host_output::HostOutput;
 use crate::surroundings::{read_settings, read_words};
-use dc_run::run_words;
-use dc_text::{List, Mem};
+use dc_layer::{FileLayer, Layer};
+use dc_run::{Settings, Shelf, run_words};
+use dc_text::{List, Mem, Text};
+use std::alloc::Global;
 use std::process::ExitCode;
 
 /// The exit status where memory ran out before the run began.
 const OUT_OF_MEMORY: u8 = 122;
+
+// A blank layer in a file, as a box.
+macro_rules! blank_layer {
+    ($alloc:expr) => {{
+        let layer: Box<dyn Layer> = Box::new($alloc, FileLayer::blank($alloc))?;
+        layer
+    }};
+}
 
 fn main(rt: HostRuntime) -> ExitCode {
     match run(rt) {
@@ -41,9 +51,35 @@ fn run(rt: HostRuntime) -> Mem<u8> {
         HostOutput::new(&rt, &rt.stdout(), "/dev/stdout"),
     );
     let mut err = HostErr::new(HostOutput::new(&rt, &rt.stderr(), "/dev/stderr"));
-    let mut files = HostFiles::new(alloc, rt, List::new(alloc));
-    let outcome = run_words(alloc, &words, &settings, &mut io, &mut err, &mut files);
+    let mut files = HostFiles::new(alloc, rt, open_to_all(alloc, &settings)?);
+    let mut shelf = Shelf::empty(alloc);
+    shelf.take_file(blank_layer!(alloc))?;
+    shelf.take_file(blank_layer!(alloc))?;
+    shelf.take_file(blank_layer!(alloc))?;
+    shelf.take_file(blank_layer!(alloc))?;
+    shelf.take_file(blank_layer!(alloc))?;
+    shelf.take_file(blank_layer!(alloc))?;
+    shelf.take_file(blank_layer!(alloc))?;
+    shelf.take_file(blank_layer!(alloc))?;
+    shelf.take_file(blank_layer!(alloc))?;
+    shelf.take_file(blank_layer!(alloc))?;
+    shelf.take_file(blank_layer!(alloc))?;
+    shelf.take_file(blank_layer!(alloc))?;
+    shelf.take_file(blank_layer!(alloc))?;
+    shelf.take_file(blank_layer!(alloc))?;
+    shelf.take_file(blank_layer!(alloc))?;
+    shelf.take_file(blank_layer!(alloc))?;
+    let outcome = run_words(
+        alloc, &words, &settings, &mut io, &mut err, &mut files, &mut shelf,
+    );
     Ok(outcome.status)
+}
+
+// The paths of files that are read without a lock: that of the configuration, which no run writes.
+fn open_to_all(alloc: Global, settings: &Settings) -> Mem<List<Text>> {
+    let mut paths = List::new(alloc);
+    paths.push(settings.conf_path.copy()?)?;
+    Ok(paths)
 }
 
 #[cfg(test)]

@@ -1,43 +1,46 @@
 // The links and files of the host, on a pipe and in a folder.
+ghost use Rattle.std.specs.Prelude.{◌≡◌, ◌≤◌, [], length, IfSome, map as each};
+ghost use Rattle.dc_shelf.specs.Shelves.{AreBlank};
+
 use crate::host_err::HostErr;
 use crate::host_files::{HostFiles, MAX_FILE};
 use crate::host_link::HostLink;
+use dc_layer::{FileLayer, Layer};
 use dc_outside::{Files, FilesError, FilesOp, Link, LinkError, MemLink};
-use dc_run::{Settings, run_words};
+use dc_run::{Settings, Shelf, run_words};
 use dc_text::{List, Mem, Text};
 use std::alloc::Global;
 use std::fs::OpenFile;
 use std::os::unix::fs::{MetadataExt, symlink};
-use std::test::Fail;
 use std::{env, fs, io};
 
 #[test]
-fn a_link_reads_and_writes(rt: HostRuntime) -> Result<(), Fail> {
-    let (input, output) = io::pipe(&rt)?;
+fn a_link_reads_and_writes(rt: HostRuntime) {
+    let (input, output) = io::pipe(&rt).ok().expect(&rt, "done");
     let mut link = HostLink::new(input, output);
     let mut buf = [0u8; 3];
     assert_eq!(rt; link.write(b"abcd"), Ok(()));
     assert_eq!(rt; link.read_some(&mut buf), Ok(3));
     assert_eq!(rt; buf.as_slice(), b"abc".as_slice());
     assert_eq!(rt; link.read_some(&mut buf), Ok(1));
-    Ok(())
 }
 
 #[test]
-fn a_link_ends_and_fails(rt: HostRuntime) -> Result<(), Fail> {
-    let folder = make_folder(&rt, "link")?;
-    let path = inside(&rt, &folder, "file")?;
-    fs::write(&rt, path.as_str(), "")?;
-    let (input, _) = io::pipe(&rt)?;
-    let mut link = HostLink::new(input, fs::open(&rt, path.as_str())?);
+fn a_link_ends_and_fails(rt: HostRuntime) {
+    let folder = make_folder(&rt, "link").ok().expect(&rt, "done");
+    let path = inside(&rt, &folder, "file").ok().expect(&rt, "done");
+    fs::write(&rt, path.as_str(), "").ok().expect(&rt, "done");
+    let (input, _) = io::pipe(&rt).ok().expect(&rt, "done");
+    let mut link = HostLink::new(input, fs::open(&rt, path.as_str()).ok().expect(&rt, "done"));
     assert_eq!(rt; link.read_some(&mut [0u8; 3]), Ok(0));
     assert_eq!(rt;
         link.write(b"x"),
         Err(LinkError::Failed),
         "a file open for reading"
     );
-    fs::remove_dir_all(&rt, folder.as_str())?;
-    Ok(())
+    fs::remove_dir_all(&rt, folder.as_str())
+        .ok()
+        .expect(&rt, "done");
 }
 
 #[test]
@@ -61,9 +64,9 @@ fn inside(rt: &HostRuntime, folder: &str, name: &str) -> io::Result<String> {
 }
 
 // The same, as the files take it.
-fn text_inside(rt: &HostRuntime, folder: &str, name: &str) -> Result<Text, Fail> {
-    let path = inside(rt, folder, name)?;
-    Ok(Text::from_bytes(rt.alloc(), path.as_bytes())?)
+fn text_inside(rt: &HostRuntime, folder: &str, name: &str) -> Option<Text> {
+    let path = inside(rt, folder, name).ok()?;
+    Some(Text::from_bytes(rt.alloc(), path.as_bytes()).ok()?)
 }
 
 // How many bytes a read gives.
@@ -76,40 +79,57 @@ fn count_of(answer: Result<Option<Text>, FilesError>) -> Result<Option<usize>, F
 }
 
 #[test]
-fn files_of_any_size_are_read(rt: HostRuntime) -> Result<(), Fail> {
-    let folder = make_folder(&rt, "size")?;
-    let mut files = HostFiles::new(rt.alloc(), rt.clone()?, List::new(rt.alloc()));
+fn files_of_any_size_are_read(rt: HostRuntime) {
+    let folder = make_folder(&rt, "size").ok().expect(&rt, "done");
+    let mut files = HostFiles::new(
+        rt.alloc(),
+        rt.clone().ok().expect(&rt, "done"),
+        List::new(rt.alloc()),
+    );
     for (name, size, answer) in [
         ("small", 3, Ok(Some(3))),
         ("pieces", 200_000, Ok(Some(200_000))),
         ("largest", MAX_FILE, Ok(Some(MAX_FILE))),
         ("larger", MAX_FILE + 1, Err(FilesError::Failed)),
     ] {
-        let path = inside(&rt, &folder, name)?;
-        fs::create(&rt, path.as_str())?.set_len(size as u64)?;
-        let found = files.read(&text_inside(&rt, &folder, name)?);
+        let path = inside(&rt, &folder, name).ok().expect(&rt, "done");
+        fs::create(&rt, path.as_str())
+            .ok()
+            .expect(&rt, "done")
+            .set_len(size as u64)
+            .ok()
+            .expect(&rt, "done");
+        let found = files.read(&text_inside(&rt, &folder, name).expect(&rt, "done"));
         assert_eq!(rt; count_of(found), answer, "{name:?}");
     }
-    fs::remove_dir_all(&rt, folder.as_str())?;
-    Ok(())
+    fs::remove_dir_all(&rt, folder.as_str())
+        .ok()
+        .expect(&rt, "done");
 }
 
 #[test]
-fn missing_files_are_read(rt: HostRuntime) -> Result<(), Fail> {
-    let folder = make_folder(&rt, "missing")?;
-    let mut files = HostFiles::new(rt.alloc(), rt.clone()?, List::new(rt.alloc()));
+fn missing_files_are_read(rt: HostRuntime) {
+    let folder = make_folder(&rt, "missing").ok().expect(&rt, "done");
+    let mut files = HostFiles::new(
+        rt.alloc(),
+        rt.clone().ok().expect(&rt, "done"),
+        List::new(rt.alloc()),
+    );
     for (name, answer) in [
         ("missing", Ok(None)),
         ("missing/below", Ok(None)),
         (".", Err(FilesError::Failed)),
     ] {
-        let found = files.read(&text_inside(&rt, &folder, name)?);
+        let found = files.read(&text_inside(&rt, &folder, name).expect(&rt, "done"));
         assert_eq!(rt; count_of(found), answer, "{name:?}");
     }
-    let not_utf8 = Text::from_bytes(rt.alloc(), b"\xff")?;
+    let not_utf8 = Text::from_bytes(rt.alloc(), b"\xff")
+        .ok()
+        .expect(&rt, "done");
     assert_eq!(rt; count_of(files.read(&not_utf8)), Err(FilesError::Failed));
-    fs::remove_dir_all(&rt, folder.as_str())?;
-    Ok(())
+    fs::remove_dir_all(&rt, folder.as_str())
+        .ok()
+        .expect(&rt, "done");
 }
 
 // What stands at the path, or no bytes where the read gives none.
@@ -121,14 +141,28 @@ fn bytes_of(alloc: Global, answer: Result<Option<Text>, FilesError>) -> Text {
 }
 
 #[test]
-fn a_file_is_read(rt: HostRuntime) -> Result<(), Fail> {
-    let folder = make_folder(&rt, "read")?;
-    let mut files = HostFiles::new(rt.alloc(), rt.clone()?, List::new(rt.alloc()));
-    fs::write(&rt, inside(&rt, &folder, "written")?.as_str(), "ab\nc")?;
-    let found = files.read(&text_inside(&rt, &folder, "written")?);
+fn a_file_is_read(rt: HostRuntime) {
+    let folder = make_folder(&rt, "read").ok().expect(&rt, "done");
+    let mut files = HostFiles::new(
+        rt.alloc(),
+        rt.clone().ok().expect(&rt, "done"),
+        List::new(rt.alloc()),
+    );
+    fs::write(
+        &rt,
+        inside(&rt, &folder, "written")
+            .ok()
+            .expect(&rt, "done")
+            .as_str(),
+        "ab\nc",
+    )
+    .ok()
+    .expect(&rt, "done");
+    let found = files.read(&text_inside(&rt, &folder, "written").expect(&rt, "done"));
     assert_eq!(rt; bytes_of(rt.alloc(), found).bytes(), b"ab\nc".as_slice());
-    fs::remove_dir_all(&rt, folder.as_str())?;
-    Ok(())
+    fs::remove_dir_all(&rt, folder.as_str())
+        .ok()
+        .expect(&rt, "done");
 }
 
 // The paths below a folder, a bar after each.
@@ -165,24 +199,39 @@ fn save(
 }
 
 #[test]
-fn files_are_saved(rt: HostRuntime) -> Result<(), Fail> {
-    let folder = make_folder(&rt, "save")?;
-    let path = inside(&rt, &folder, "a/b/q")?;
-    let new = text_inside(&rt, &folder, "a/b/q-new")?;
-    let saved = text_inside(&rt, &folder, "a/b/q")?;
-    let mut files = HostFiles::new(rt.alloc(), rt.clone()?, List::new(rt.alloc()));
+fn files_are_saved(rt: HostRuntime) {
+    let folder = make_folder(&rt, "save").ok().expect(&rt, "done");
+    let path = inside(&rt, &folder, "a/b/q").ok().expect(&rt, "done");
+    let new = text_inside(&rt, &folder, "a/b/q-new").expect(&rt, "done");
+    let saved = text_inside(&rt, &folder, "a/b/q").expect(&rt, "done");
+    let mut files = HostFiles::new(
+        rt.alloc(),
+        rt.clone().ok().expect(&rt, "done"),
+        List::new(rt.alloc()),
+    );
     for (bytes, mode) in [("first", 0o666), ("second", 0o4755), ("", 0o600)] {
         assert_eq!(rt; save(&mut files, &new, &saved, bytes, mode), Ok(()));
-        assert_eq!(rt; fs::read_to_string(&rt, path.as_str())?.as_str(), bytes);
-        assert_eq!(rt; mode_of(&rt, &path)?, u32::from(mode), "whatever the umask");
+        assert_eq!(rt;
+            fs::read_to_string(&rt, path.as_str())
+                .ok()
+                .expect(&rt, "done")
+                .as_str(),
+            bytes
+        );
+        assert_eq!(rt;
+            mode_of(&rt, &path).ok().expect(&rt, "done"),
+            u32::from(mode),
+            "whatever the umask"
+        );
     }
     assert_eq!(rt;
         save(&mut files, &new, &saved, "", 0o200),
         Ok(()),
         "it is synced though it can't be read"
     );
-    fs::remove_dir_all(&rt, folder.as_str())?;
-    Ok(())
+    fs::remove_dir_all(&rt, folder.as_str())
+        .ok()
+        .expect(&rt, "done");
 }
 
 // Whether a read, and then a save, at the path are done.
@@ -192,65 +241,110 @@ fn can_use(files: &mut HostFiles<HostRuntime>, new: &Text, path: &Text) -> (bool
 }
 
 // The same of another program, which ends at once.
-fn another_can_use(rt: &HostRuntime, new: &Text, path: &Text) -> Result<(bool, bool), Fail> {
-    let mut files = HostFiles::new(rt.alloc(), rt.clone()?, List::new(rt.alloc()));
-    Ok(can_use(&mut files, new, path))
+fn another_can_use(rt: &HostRuntime, new: &Text, path: &Text) -> Option<(bool, bool)> {
+    let mut files = HostFiles::new(rt.alloc(), rt.clone().ok()?, List::new(rt.alloc()));
+    Some(can_use(&mut files, new, path))
 }
 
 #[test]
-fn a_locked_file_is_a_fault(rt: HostRuntime) -> Result<(), Fail> {
-    let folder = make_folder(&rt, "lock")?;
-    let path = text_inside(&rt, &folder, "q")?;
-    let new = text_inside(&rt, &folder, "q-new")?;
-    let mut first = HostFiles::new(rt.alloc(), rt.clone()?, List::new(rt.alloc()));
+fn a_locked_file_is_a_fault(rt: HostRuntime) {
+    let folder = make_folder(&rt, "lock").ok().expect(&rt, "done");
+    let path = text_inside(&rt, &folder, "q").expect(&rt, "done");
+    let new = text_inside(&rt, &folder, "q-new").expect(&rt, "done");
+    let mut first = HostFiles::new(
+        rt.alloc(),
+        rt.clone().ok().expect(&rt, "done"),
+        List::new(rt.alloc()),
+    );
     assert_eq!(rt;
         can_use(&mut first, &new, &path),
         (true, true),
         "nothing there"
     );
     assert_eq!(rt;
-        another_can_use(&rt, &new, &path)?,
+        another_can_use(&rt, &new, &path).expect(&rt, "done"),
         (false, false),
         "a file of the first"
     );
     assert_eq!(rt; can_use(&mut first, &new, &path), (true, true), "its own");
-    fs::remove_dir_all(&rt, folder.as_str())?;
-    Ok(())
+    fs::remove_dir_all(&rt, folder.as_str())
+        .ok()
+        .expect(&rt, "done");
 }
 
 #[test]
-fn a_file_that_came_meanwhile_is_kept(rt: HostRuntime) -> Result<(), Fail> {
-    let folder = make_folder(&rt, "meanwhile")?;
-    let path = text_inside(&rt, &folder, "q")?;
-    let new = text_inside(&rt, &folder, "q-new")?;
-    let mut files = HostFiles::new(rt.alloc(), rt.clone()?, List::new(rt.alloc()));
+fn a_file_that_came_meanwhile_is_kept(rt: HostRuntime) {
+    let folder = make_folder(&rt, "meanwhile").ok().expect(&rt, "done");
+    let path = text_inside(&rt, &folder, "q").expect(&rt, "done");
+    let new = text_inside(&rt, &folder, "q-new").expect(&rt, "done");
+    let mut files = HostFiles::new(
+        rt.alloc(),
+        rt.clone().ok().expect(&rt, "done"),
+        List::new(rt.alloc()),
+    );
     assert_eq!(rt; files.read(&path).is_ok(), true);
-    fs::write(&rt, inside(&rt, &folder, "q")?.as_str(), "other")?;
+    fs::write(
+        &rt,
+        inside(&rt, &folder, "q").ok().expect(&rt, "done").as_str(),
+        "other",
+    )
+    .ok()
+    .expect(&rt, "done");
     assert_eq!(rt;
         save(&mut files, &new, &path, "x", 0o600),
         Err(FilesError::Failed)
     );
-    let kept = fs::read_to_string(&rt, inside(&rt, &folder, "q")?.as_str())?;
+    let kept = fs::read_to_string(
+        &rt,
+        inside(&rt, &folder, "q").ok().expect(&rt, "done").as_str(),
+    )
+    .ok()
+    .expect(&rt, "done");
     assert_eq!(rt; kept.as_str(), "other");
-    fs::remove_dir_all(&rt, folder.as_str())?;
-    Ok(())
+    fs::remove_dir_all(&rt, folder.as_str())
+        .ok()
+        .expect(&rt, "done");
 }
 
 #[test]
-fn links_and_devices_are_not_written(rt: HostRuntime) -> Result<(), Fail> {
-    let folder = make_folder(&rt, "links")?;
-    let path = text_inside(&rt, &folder, "q")?;
-    let new = text_inside(&rt, &folder, "q-new")?;
-    let target = inside(&rt, &folder, "target")?;
-    fs::write(&rt, target.as_str(), "kept")?;
-    symlink(&rt, "target", inside(&rt, &folder, "q-new")?.as_str())?;
-    let mut files = HostFiles::new(rt.alloc(), rt.clone()?, List::new(rt.alloc()));
+fn links_and_devices_are_not_written(rt: HostRuntime) {
+    let folder = make_folder(&rt, "links").ok().expect(&rt, "done");
+    let path = text_inside(&rt, &folder, "q").expect(&rt, "done");
+    let new = text_inside(&rt, &folder, "q-new").expect(&rt, "done");
+    let target = inside(&rt, &folder, "target").ok().expect(&rt, "done");
+    fs::write(&rt, target.as_str(), "kept")
+        .ok()
+        .expect(&rt, "done");
+    symlink(
+        &rt,
+        "target",
+        inside(&rt, &folder, "q-new")
+            .ok()
+            .expect(&rt, "done")
+            .as_str(),
+    )
+    .ok()
+    .expect(&rt, "done");
+    let mut files = HostFiles::new(
+        rt.alloc(),
+        rt.clone().ok().expect(&rt, "done"),
+        List::new(rt.alloc()),
+    );
     assert_eq!(rt; save(&mut files, &new, &path, "x", 0o600), Ok(()));
-    assert_eq!(rt; fs::read_to_string(&rt, target.as_str())?.as_str(), "kept");
-    let device = Text::from_bytes(rt.alloc(), b"/dev/zero")?;
+    assert_eq!(rt;
+        fs::read_to_string(&rt, target.as_str())
+            .ok()
+            .expect(&rt, "done")
+            .as_str(),
+        "kept"
+    );
+    let device = Text::from_bytes(rt.alloc(), b"/dev/zero")
+        .ok()
+        .expect(&rt, "done");
     assert_eq!(rt; files.read(&device).is_err(), true);
-    fs::remove_dir_all(&rt, folder.as_str())?;
-    Ok(())
+    fs::remove_dir_all(&rt, folder.as_str())
+        .ok()
+        .expect(&rt, "done");
 }
 
 // A call on the path. A write leaves "x" with mode 640, and a rename puts the file in its own place.
@@ -267,9 +361,13 @@ fn call(files: &mut HostFiles<HostRuntime>, op: FilesOp, path: &Text) -> Result<
 }
 
 #[test]
-fn files_are_changed(rt: HostRuntime) -> Result<(), Fail> {
-    let folder = make_folder(&rt, "change")?;
-    let mut files = HostFiles::new(rt.alloc(), rt.clone()?, List::new(rt.alloc()));
+fn files_are_changed(rt: HostRuntime) {
+    let folder = make_folder(&rt, "change").ok().expect(&rt, "done");
+    let mut files = HostFiles::new(
+        rt.alloc(),
+        rt.clone().ok().expect(&rt, "done"),
+        List::new(rt.alloc()),
+    );
     for (number, (op, name, answer)) in [
         (FilesOp::Write, "a/q", Ok(())),
         (FilesOp::Write, "a/q", Ok(())),
@@ -287,83 +385,141 @@ fn files_are_changed(rt: HostRuntime) -> Result<(), Fail> {
     .into_iter()
     .enumerate()
     {
-        let given = call(&mut files, op, &text_inside(&rt, &folder, name)?);
+        let given = call(
+            &mut files,
+            op,
+            &text_inside(&rt, &folder, name).expect(&rt, "done"),
+        );
         assert_eq!(rt; given, answer, "call {number}");
     }
-    fs::remove_dir_all(&rt, folder.as_str())?;
-    Ok(())
+    fs::remove_dir_all(&rt, folder.as_str())
+        .ok()
+        .expect(&rt, "done");
 }
 
 // Files at any depth, and links.
-fn fill(rt: &HostRuntime, files: &mut HostFiles<HostRuntime>, folder: &str) -> Result<(), Fail> {
+fn fill(rt: &HostRuntime, files: &mut HostFiles<HostRuntime>, folder: &str) -> Option<()> {
     for name in ["d/b", "d/a/c", "d/a.x", "da/x"] {
-        files.write(&text_inside(rt, folder, name)?, b"", 0o600)?;
+        files
+            .write(&text_inside(rt, folder, name)?, b"", 0o600)
+            .ok()?;
     }
     for (name, target) in [
         ("d/to_file", "a/c"),
         ("d/to_folder", "a"),
         ("d/nowhere", "x"),
     ] {
-        symlink(rt, target, inside(rt, folder, name)?.as_str())?;
+        symlink(rt, target, inside(rt, folder, name).ok()?.as_str()).ok()?;
     }
-    Ok(())
+    Some(())
 }
 
 #[test]
-fn files_are_listed(rt: HostRuntime) -> Result<(), Fail> {
-    let folder = make_folder(&rt, "list")?;
-    let mut files = HostFiles::new(rt.alloc(), rt.clone()?, List::new(rt.alloc()));
-    fill(&rt, &mut files, &folder)?;
+fn files_are_listed(rt: HostRuntime) {
+    let folder = make_folder(&rt, "list").ok().expect(&rt, "done");
+    let mut files = HostFiles::new(
+        rt.alloc(),
+        rt.clone().ok().expect(&rt, "done"),
+        List::new(rt.alloc()),
+    );
+    fill(&rt, &mut files, &folder).expect(&rt, "done");
     for (name, paths) in [
         ("d", "a.x|a/c|b|to_file|"),
         ("d/a", "c|"),
         ("x", ""),
         ("d/b", "failed"),
     ] {
-        let answer = files.list(&text_inside(&rt, &folder, name)?);
-        let shown = show_paths(rt.alloc(), answer)?;
+        let answer = files.list(&text_inside(&rt, &folder, name).expect(&rt, "done"));
+        let shown = show_paths(rt.alloc(), answer).ok().expect(&rt, "done");
         assert_eq!(rt; shown.bytes(), paths.as_bytes(), "{name:?}");
     }
-    fs::remove_dir_all(&rt, folder.as_str())?;
-    Ok(())
+    fs::remove_dir_all(&rt, folder.as_str())
+        .ok()
+        .expect(&rt, "done");
 }
 
-// What `communicate` answers to the input over the questions in the folder.
-fn answered(rt: &HostRuntime, folder: &str, input: &[u8]) -> Result<Text, Fail> {
+// Writes a configuration of questions and templates in the folder.
+fn configure(rt: &HostRuntime, folder: &str) -> Option<()> {
+    let path = inside(rt, folder, "conf").ok()?;
+    let conf = format!(in rt.alloc();
+        "Config: q\nTemplates: t\n\nName: q\nDriver: File\nFilename: {folder}/questions\n\nName: t\nDriver: File\nFilename: {folder}/templates\n"
+    ).ok()?;
+    fs::write(rt, path.as_str(), conf.as_str()).ok()?;
+    Some(())
+}
+
+// A shelf of blank layers.
+fn blank_shelf(alloc: Global) -> Option<Shelf>
+    ensures blank { IfSome result (λ shelf. AreBlank (each (λ b. state (b.vtable, b.value)) shelf.files.items)) }
+    ensures room { IfSome result (λ shelf. 16 ≤ length shelf.files.items) }
+    ensures used { IfSome result (λ shelf. shelf.used.items ≡ []) }
+{
+    let mut shelf = Shelf::empty(alloc);
+    while shelf.files.len() < 16 {
+        let layer: Box<dyn Layer> = Box::new(alloc, FileLayer::blank(alloc)).ok()?;
+        shelf.take_file(layer).ok()?;
+    }
+    Some(shelf)
+}
+
+// What `communicate` answers to the input over the configuration in the folder.
+fn answered(rt: &HostRuntime, folder: &str, input: &[u8]) -> Option<Text> {
     let alloc = rt.alloc();
     let settings = Settings {
-        conf_path: text_inside(rt, folder, "questions")?,
+        conf_path: text_inside(rt, folder, "conf")?,
         frontend: None,
         priority: None,
         lang: Text::new(alloc),
         nonint_seen: false,
     };
     let mut words = List::new(alloc);
-    words.push(Text::from_bytes(alloc, b"communicate")?)?;
-    let mut io = MemLink::new(alloc, input, &[], &[])?;
-    let mut err = MemLink::new(alloc, b"", &[], &[])?;
-    let mut files = HostFiles::new(alloc, rt.clone()?, List::new(alloc));
-    let _ = run_words(alloc, &words, &settings, &mut io, &mut err, &mut files);
-    Ok(io.sent().copy()?)
+    words
+        .push(Text::from_bytes(alloc, b"communicate").ok()?)
+        .ok()?;
+    let mut io = MemLink::new(alloc, input, &[], &[]).ok()?;
+    let mut err = MemLink::new(alloc, b"", &[], &[]).ok()?;
+    let mut files = HostFiles::new(alloc, rt.clone().ok()?, List::new(alloc));
+    let mut shelf = blank_shelf(alloc)?;
+    let _ = run_words(
+        alloc, &words, &settings, &mut io, &mut err, &mut files, &mut shelf,
+    );
+    Some(io.sent().copy().ok()?)
 }
 
 #[test]
-fn a_run_saves_its_questions(rt: HostRuntime) -> Result<(), Fail> {
-    let folder = make_folder(&rt, "run")?;
-    let path = inside(&rt, &folder, "questions")?;
-    fs::write(&rt, path.as_str(), "Name: a/b\nValue: old\n")?;
-    let said = answered(&rt, &folder, b"SET a/b new\n")?;
+fn a_run_saves_its_questions(rt: HostRuntime) {
+    let folder = make_folder(&rt, "run").ok().expect(&rt, "done");
+    let path = inside(&rt, &folder, "questions").ok().expect(&rt, "done");
+    configure(&rt, folder.as_str()).expect(&rt, "done");
+    fs::write(&rt, path.as_str(), "Name: a/b\nValue: old\n")
+        .ok()
+        .expect(&rt, "done");
+    let said = answered(&rt, &folder, b"SET a/b new\n").expect(&rt, "done");
     assert_eq!(rt; said.bytes(), b"0 value set\n".as_slice());
-    let saved = fs::read_to_string(&rt, path.as_str())?;
+    let saved = fs::read_to_string(&rt, path.as_str())
+        .ok()
+        .expect(&rt, "done");
     assert_eq!(rt; saved.as_str(), "Name: a/b\nValue: new\n\n");
-    assert_eq!(rt; mode_of(&rt, &path)?, 0o600);
-    let mut files = HostFiles::new(rt.alloc(), rt.clone()?, List::new(rt.alloc()));
-    let left = files.list(&Text::from_bytes(rt.alloc(), folder.as_bytes())?);
-    assert_eq!(rt;
-        show_paths(rt.alloc(), left)?.bytes(),
-        b"questions|".as_slice(),
-        "nothing is left beside it"
+    assert_eq!(rt; mode_of(&rt, &path).ok().expect(&rt, "done"), 0o600);
+    let mut files = HostFiles::new(
+        rt.alloc(),
+        rt.clone().ok().expect(&rt, "done"),
+        List::new(rt.alloc()),
     );
-    fs::remove_dir_all(&rt, folder.as_str())?;
-    Ok(())
+    let left = files.list(
+        &Text::from_bytes(rt.alloc(), folder.as_bytes())
+            .ok()
+            .expect(&rt, "done"),
+    );
+    assert_eq!(rt;
+        show_paths(rt.alloc(), left)
+            .ok()
+            .expect(&rt, "done")
+            .bytes(),
+        b"conf|questions|questions-old|".as_slice(),
+        "nothing else is left beside it"
+    );
+    fs::remove_dir_all(&rt, folder.as_str())
+        .ok()
+        .expect(&rt, "done");
 }

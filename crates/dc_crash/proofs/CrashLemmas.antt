@@ -1,0 +1,248 @@
+-- What the parts of a run do to the disk, and to the databases that its layers are of.
+use Rattle.std.proofs.Common.{◌≡◌, ◌⊎◌, ℕ, List, [], ◌∷◌, ◌++◌, Option, Some, None, false, refl, sym, ap, subst, ◌∙◌, inl, inr, map as each}
+use Rattle.std.specs.Prelude.{Result, Ok, Err}
+use Rattle.dc_text.specs.declared.memory.OutOfMemory.{OutOfMemory}
+use Rattle.dc_words.specs.declared.stream.Line.{Line}
+use Rattle.dc_words.specs.declared.stream.Line.TheVariants.{Whole, TooLong}
+use Rattle.dc_outside.specs.Disk.{Disk, IsSettled}
+use Rattle.dc_outside.specs.Told.{Told, Counts}
+use Rattle.dc_outside.specs.declared.link.Piece.{Piece}
+use Rattle.dc_outside.proofs.Moments.{none_more}
+use Rattle.dc_proto.specs.Commands.{heard}
+use Rattle.dc_proto.specs.declared.command.Heard.{Heard}
+use Rattle.dc_proto.specs.declared.command.Heard.TheVariants.{Nothing, Known, Refused}
+use Rattle.dc_conf.specs.Configuration.{Configuration}
+use Rattle.dc_conf.specs.declared.spec.LayerSpec.{LayerSpec}
+use Rattle.dc_conf.proofs.AnswerLemmas.{sound_answer}
+use Rattle.dc_conf.proofs.ResolvedLemmas.{places_apart as places_kept_apart}
+use Rattle.dc_layer.specs.State.{Table, LayerState}
+use Rattle.dc_layer.specs.declared.image.Image.{Image}
+use Rattle.dc_store.specs.StoreLaws.{AreSameBut}
+use Rattle.dc_save.specs.Loading.{with_loaded, LoadsLayer, LoadsFiles}
+use Rattle.dc_save.specs.Saving.{Saves, Ends, MayAddAny, AreApart, StandSaved, all_saved}
+use Rattle.dc_save.specs.declared.loading.Loaded.{Loaded}
+use Rattle.dc_save.specs.declared.loading.Loaded.TheVariants.{Here, LeftOut}
+use Rattle.dc_save.specs.declared.loading.LoadError.{LoadError}
+use Rattle.dc_save.specs.declared.loading.LoadError.TheVariants as load
+use Rattle.dc_save.specs.declared.saving.SaveError.{SaveError}
+use Rattle.dc_save.specs.declared.saving.SaveError.TheVariants as save
+use Rattle.dc_save.proofs.Standing.{same_some, every_moment}
+use Rattle.dc_save.proofs.Ends.{ends, keeps_paths, stand_saved}
+use Rattle.dc_save.proofs.PlaceLemmas.{places_apart, layers_of}
+use Rattle.dc_shelf.specs.Shelves.{all_set_up, GoesOn, LoadsAll}
+use Rattle.dc_serve.specs.Course.{Turn, state_after, IsCourse}
+use Rattle.dc_serve.specs.Run.{Answered}
+use Rattle.dc_serve.specs.declared.outcome.LinkEnd.{LinkEnd}
+use Rattle.dc_serve.specs.declared.outcome.LinkEnd.TheVariants as link
+use Rattle.dc_session.specs.Machine.{Heeds, Breaks, after_heard, next}
+use Rattle.dc_session.specs.SessionState.{SessionState}
+use Rattle.dc_session.proofs.LineLaws.{others_stay}
+use Rattle.dc_session.specs.Answers.{question_word, after_command}
+use Rattle.dc_run.specs.Ends.{IsEnded, end_unsaved}
+use Rattle.dc_run.specs.Finishing.{images_of, IsSaved, IsUnsaved, IsWithoutMemory, Finishes}
+use Rattle.dc_run.specs.Headline.{HasServed, HasRunWords}
+use Rattle.dc_run.specs.Starting.{IsConfiguration, EndsBefore, begun, databases_of, roots}
+use Rattle.dc_run.specs.World.{FilesState, Stock, World}
+use Rattle.dc_run.specs.declared.outcome.End.{End}
+use Rattle.dc_run.specs.declared.outcome.End.TheVariants as end
+use Rattle.dc_run.proofs.StartLemmas.{files_reached}
+use Rattle.dc_crash.specs.Crashes.{KeepsDatabases}
+
+-- ---- reads change nothing on the disk
+
+load_reads : (old new : Told) (path : List ℕ) (first : Result Loaded LoadError) → LoadsFiles old new path first → new.disk ≡ old.disk
+load_reads old new path (Ok Here) is = ap (λ (t : Told). t.disk) is
+load_reads old new path (Ok LeftOut) is = ap (λ (t : Told). t.disk) is
+load_reads old new path (Err (load.Failed failed)) is = ap (λ (t : Told). t.disk) is
+load_reads old new path (Err (load.Damaged damaged line)) is = ap (λ (t : Told). t.disk) is
+load_reads old new path (Err load.OutOfMemory) (inl is) = ap (λ (t : Told). t.disk) is
+load_reads old new path (Err load.OutOfMemory) (inr is) = ap (λ (t : Told). t.disk) is
+
+goes_on : (P : Type 0) (first : Result Loaded LoadError) (result : Result (Unit {0}) LoadError) (more last : Type 0) → (more → P) → (last → P) → GoesOn first result more last → P
+goes_on P (Ok loaded) result more last on at is = on is
+goes_on P (Err error) result more last on at is = at is.1
+
+all_read : (specs : List LayerSpec) (old new : List LayerState) (files files_new : Told) (before now : Counts) (result : Result (Unit {0}) LoadError) → LoadsAll specs old new files files_new before now result → files_new.disk ≡ files.disk
+all_read [] old new files files_new before now result is = ap (λ (t : Told). t.disk) is.2
+all_read (spec ∷ specs) [] new files files_new before now result is = absurd is
+all_read (spec ∷ specs) (layer ∷ old) [] files files_new before now result is = absurd is
+all_read (spec ∷ specs) (layer ∷ old) (made ∷ new) files files_new before now result is =
+    goes_on (files_new.disk ≡ is.1.disk) is.0 result (LoadsAll specs old new is.1 files_new is.2 now result) ((new ≡ old) × (files_new ≡ is.1) × (now ≡ is.2))
+    (all_read specs old new is.1 files_new is.2 now result) (λ last. ap (λ (t : Told). t.disk) last.1) is.6
+    ∙ load_reads files is.1 spec.place is.0 is.4
+
+before_reads : (path : List ℕ) (old : FilesState) (new : Stock) (how : End) → EndsBefore path old new how → new.files.told.disk ≡ old.told.disk
+before_reads path old new how (inl memory) = elim memory.begun [
+  | inl none ↦ ap (λ (t : Told). t.disk) none.files_are
+  | inr read ↦ ap (λ (t : Told). t.disk) read.files_are
+]
+before_reads path old new how (inr (inl unread)) = ap (λ (t : Told). t.disk) unread.files_are
+before_reads path old new how (inr (inr (inl refused))) = ap (λ (t : Told). t.disk) refused.read.files_are
+before_reads path old new how (inr (inr (inr (inl unset)))) = ap (λ (t : Told). t.disk) unset.read.files_are
+before_reads path old new how (inr (inr (inr (inr unloaded)))) = all_read _ _ _ _ _ _ _ _ unloaded.loaded.loads
+
+-- ---- each layer stays one of its database
+
+abbrev specs_in : List LayerState → List (Option LayerSpec)
+specs_in layers = each (λ (layer : LayerState). layer.spec) layers
+
+loaded_spec : (spec : LayerSpec) (layer : LayerState) (table : Table) (found : Option (List ℕ)) → (with_loaded spec layer table found).spec ≡ layer.spec
+loaded_spec spec layer table None = refl
+loaded_spec spec layer table (Some text) = refl
+
+load_keeps : (disk : Option Disk) (spec : LayerSpec) (layer made : LayerState) (first : Result Loaded LoadError) → LoadsLayer disk spec layer made first → made.spec ≡ layer.spec
+load_keeps disk spec layer made (Ok Here) is = ap (λ (l : LayerState). l.spec) is.layer_is ∙ loaded_spec spec layer _ is.found
+load_keeps disk spec layer made (Ok LeftOut) is = ap (λ (l : LayerState). l.spec) is.1
+load_keeps disk spec layer made (Err (load.Failed failed)) is = ap (λ (l : LayerState). l.spec) is.2
+load_keeps disk spec layer made (Err (load.Damaged damaged line)) is = ap (λ (l : LayerState). l.spec) is.2
+load_keeps disk spec layer made (Err load.OutOfMemory) is = ap (λ (l : LayerState). l.spec) is
+
+loads_keep : (specs : List LayerSpec) (old new : List LayerState) (files files_new : Told) (before now : Counts) (result : Result (Unit {0}) LoadError) → LoadsAll specs old new files files_new before now result → specs_in new ≡ specs_in old
+loads_keep [] old new files files_new before now result is = ap specs_in is.1
+loads_keep (spec ∷ specs) [] new files files_new before now result is = absurd is
+loads_keep (spec ∷ specs) (layer ∷ old) [] files files_new before now result is = absurd is
+loads_keep (spec ∷ specs) (layer ∷ old) (made ∷ new) files files_new before now result is =
+    let later : specs_in new ≡ specs_in old = goes_on (specs_in new ≡ specs_in old) is.0 result (LoadsAll specs old new is.1 files_new is.2 now result) ((new ≡ old) × (files_new ≡ is.1) × (now ≡ is.2))
+    (loads_keep specs old new is.1 files_new is.2 now result) (λ last. ap specs_in last.0) is.6 in
+    λ i. load_keeps files.disk spec layer made is.0 is.3 i ∷ later i
+
+set_up_specs : (specs : List LayerSpec) → specs_in (all_set_up specs) ≡ each Some specs
+set_up_specs [] = refl
+set_up_specs (spec ∷ specs) = ap (λ (l : List (Option LayerSpec)). Some spec ∷ l) (set_up_specs specs)
+
+same_specs : (name : List ℕ) (old new : List LayerState) → AreSameBut name old new → specs_in new ≡ specs_in old
+same_specs name [] [] is = refl
+same_specs name [] (layer ∷ new) is = absurd is
+same_specs name (layer ∷ old) [] is = absurd is
+same_specs name (layer ∷ old) (made ∷ new) is = λ i. is.0.spec i ∷ same_specs name old new is.1 i
+
+abbrev specs_of : SessionState → List (Option LayerSpec)
+specs_of state = specs_in state.store.layers
+
+heard_keeps : (state : SessionState) (said : Heard) → specs_of (after_heard state said) ≡ specs_of state
+heard_keeps state Nothing = refl
+heard_keeps state (Known command) = same_specs (question_word command) state.store.layers (after_command state command).store.layers (others_stay state command)
+heard_keeps state (Refused reply) = refl
+
+next_keeps : (state : SessionState) (line : Line) → specs_of (next state line) ≡ specs_of state
+next_keeps state TooLong = refl
+next_keeps state (Whole line) = heard_keeps state (heard false line)
+
+course_keeps : (start : SessionState) (turns : List (Turn SessionState)) → IsCourse Heeds start turns → specs_of (state_after start turns) ≡ specs_of start
+course_keeps start [] is = refl
+course_keeps start (turn ∷ turns) is = course_keeps turn.new turns is.2 ∙ ap specs_of is.0.1 ∙ next_keeps start turn.line
+
+last_after : (start : SessionState) (gone : List (Turn SessionState)) (last : Turn SessionState) → state_after start (gone ++ last ∷ []) ≡ last.new
+last_after start [] last = refl
+last_after start (turn ∷ gone) last = last_after turn.new gone last
+
+module _ (start new : SessionState) (turns : List (Turn SessionState)) (rest : List Line) (talk : List Piece) (input : Option (List ℕ)) (code : ℕ) where
+  -- the state is the one that the turns leave, where the layers are saved
+  state_left : (ended : LinkEnd OutOfMemory) → IsEnded ended → Answered Breaks ended start turns rest talk input new code → new ≡ state_after start turns
+  state_left link.Done is answered = answered.are_said.state_is
+  state_left link.LinkFault is (inl lost) = lost.answered.are_said.state_is
+  state_left link.LinkFault is (inr cut) = cut.answered.state_is ∙ sym (last_after start cut.answered.gone cut.answered.last) ∙ ap (state_after start) (sym cut.answered.turns_are)
+  state_left link.TooLong is answered = answered.answered.are_said.state_is
+  state_left link.OutOfMemory is answered = absurd is
+  state_left (link.Broken error) is answered = absurd is
+
+-- ---- the save
+
+-- what the save did, and with which answer
+pub record HasSaved (images : List Image) (files new : Told) (how : End) : Type 0 where
+  pub saves : Result (Unit {0}) SaveError
+  pub did : Saves images files new saves
+  pub all_done : how ≡ end.Done → saves ≡ Ok tt
+
+not_done : (ended : LinkEnd OutOfMemory) (path : List ℕ) (how : End) (saves : Result (Unit {0}) SaveError) → how ≡ end_unsaved ended (save.Failed path) → how ≡ end.Done → saves ≡ Ok tt
+not_done link.Done path how saves is done = cc
+not_done link.LinkFault path how saves is done = cc
+not_done link.TooLong path how saves is done = cc
+not_done link.OutOfMemory path how saves is done = cc
+not_done (link.Broken error) path how saves is done = cc
+
+no_memory : (how : End) (saves : Result (Unit {0}) SaveError) → how ≡ end.OutOfMemory → how ≡ end.Done → saves ≡ Ok tt
+no_memory how saves is done = cc
+
+module _ (layers used : List LayerState) (files new : FilesState) (ended : LinkEnd OutOfMemory) (how : End) where
+  saved_by : IsSaved layers used files new ended how ⊎ IsUnsaved layers used files new ended how ⊎ IsWithoutMemory layers used files new how → HasSaved (images_of layers) files.told new.told how
+  saved_by (inl all) = record { saves = Ok tt; did = all.files_are; all_done = λ done. refl }
+  saved_by (inr (inl failed)) = record { saves = Err (save.Failed failed.path); did = failed.failed; all_done = not_done ended failed.path how (Err (save.Failed failed.path)) failed.end_is }
+  saved_by (inr (inr memory)) = record { saves = Err save.OutOfMemory; did = memory.ran_out; all_done = no_memory how (Err save.OutOfMemory) memory.end_is }
+
+-- ---- the whole run
+
+module _ (path : List ℕ) (how : End) (before after : Disk) (settled : IsSettled before.standing) where
+  none_saved : after ≡ before → KeepsDatabases path before after how
+  none_saved same = subst (λ (disk : Disk). KeepsDatabases path before disk how) (sym same) (record {
+    images = [];
+    are_of = inl refl;
+    keeps = keeps_paths [] before before tt settled (none_more (MayAddAny []) before);
+    saves = Ok tt;
+    ends = refl;
+    all_done = λ done. refl;
+    stands = λ ok. stand_saved [] before.standing tt;
+  })
+
+  module _ (conf : Configuration) (is : IsConfiguration (Some before) path conf) (layers : List LayerState) (specs : specs_in layers ≡ each Some (databases_of conf)) where
+    apart : AreApart (images_of layers)
+    apart = places_apart (databases_of conf) (images_of layers) (files_reached is.text conf (roots conf) is.reads)
+        (places_kept_apart conf (roots conf) (sound_answer is.text conf is.reads)) (layers_of layers (databases_of conf) specs)
+
+    all_stand : after.standing ≡ all_saved before.standing (images_of layers) → StandSaved (images_of layers) before.standing after.standing
+    all_stand same = subst (StandSaved (images_of layers) before.standing) (sym same) (stand_saved (images_of layers) before.standing apart)
+
+    some_saved : (files new : Told) → files.disk ≡ Some before → new.disk ≡ Some after → HasSaved (images_of layers) files new how → KeepsDatabases path before after how
+    some_saved files new at to save = record {
+      images = images_of layers;
+      are_of = inr (record { conf = conf; conf_is = is; are_of = layers_of layers (databases_of conf) specs });
+      keeps = keeps_paths (images_of layers) before after apart settled (every_moment (images_of layers) files new save.saves save.did before after at to settled);
+      saves = save.saves;
+      ends = ends (images_of layers) files new save.saves save.did before after at to settled;
+      all_done = save.all_done;
+      stands = λ ok. all_stand (subst (λ (saves : Result (Unit {0}) SaveError). Ends (images_of layers) before.standing after.standing saves) ok (ends (images_of layers) files new save.saves save.did before after at to settled));
+    }
+
+module _ (path lang : List ℕ) (old new : World) (how : End) (code : ℕ) (before after : Disk) (at : old.stock.files.told.disk ≡ Some before) (to : new.stock.files.told.disk ≡ Some after) (settled : IsSettled before.standing) where
+  nothing_done : new.stock.files.told.disk ≡ old.stock.files.told.disk → KeepsDatabases path before after how
+  nothing_done same = none_saved path how before after settled (same_some after before (sym to ∙ same ∙ at))
+
+  module _ (run : HasServed path lang old new how code) where
+    mid_at : run.mid.files.told.disk ≡ Some before
+    mid_at = all_read _ _ _ _ _ _ _ _ run.started.loaded.loads ∙ at
+
+    mid_specs : specs_in run.mid.used ≡ each Some (databases_of run.started.conf)
+    mid_specs = loads_keep _ _ _ _ _ _ _ _ run.started.loaded.loads ∙ set_up_specs (databases_of run.started.conf)
+
+    specs_left : IsEnded run.ended → specs_in run.layers ≡ each Some (databases_of run.started.conf)
+    specs_left is =
+        let ran = run.served.ran in
+        ap specs_in run.served.layers_are
+        ∙ ap specs_of (state_left (begun run.mid.used run.roots lang) run.served.state ran.turns ran.rest ran.pieces old.input code run.ended is ran.answered)
+        ∙ course_keeps (begun run.mid.used run.roots lang) ran.turns ran.course
+        ∙ mid_specs
+
+    kept_by : HasSaved (images_of run.layers) run.mid.files.told new.stock.files.told how → specs_in run.layers ≡ each Some (databases_of run.started.conf) → KeepsDatabases path before after how
+    kept_by save specs =
+        some_saved path how before after settled run.started.conf (subst (λ (disk : Option Disk). IsConfiguration disk path run.started.conf) at run.started.loaded.conf_is)
+        run.layers specs run.mid.files.told new.stock.files.told mid_at to save
+
+    none_by : new.stock.files ≡ run.mid.files → KeepsDatabases path before after how
+    none_by same = none_saved path how before after settled (same_some after before (sym to ∙ ap (λ (files : FilesState). files.told.disk) same ∙ mid_at))
+
+    finished : (ended : LinkEnd OutOfMemory) → (IsEnded ended → specs_in run.layers ≡ each Some (databases_of run.started.conf)) → Finishes run.layers new.stock.used ended run.mid.files new.stock.files how
+        → KeepsDatabases path before after how
+    finished link.Done specs does = kept_by (saved_by run.layers new.stock.used run.mid.files new.stock.files link.Done how does) (specs tt)
+    finished link.LinkFault specs does = kept_by (saved_by run.layers new.stock.used run.mid.files new.stock.files link.LinkFault how does) (specs tt)
+    finished link.TooLong specs does = kept_by (saved_by run.layers new.stock.used run.mid.files new.stock.files link.TooLong how does) (specs tt)
+    finished link.OutOfMemory specs does = none_by does.files_are
+    finished (link.Broken error) specs does = none_by does.files_are
+
+  run_by : (words : List (List ℕ)) → HasRunWords words path lang old new how code → KeepsDatabases path before after how
+  run_by words (inl refused) = nothing_done (ap (λ (stock : Stock). stock.files.told.disk) refused.untouched)
+  run_by words (inr (is, inl ends)) = nothing_done (before_reads path old.stock.files new.stock how ends.0)
+  run_by words (inr (is, inr run)) = finished run run.ended (specs_left run) run.finishes
+
+pub run_keeps : (words : List (List ℕ)) (path lang : List ℕ) (old new : World) (how : End) (code : ℕ) (before after : Disk) → HasRunWords words path lang old new how code → old.stock.files.told.disk ≡ Some before
+    → new.stock.files.told.disk ≡ Some after → IsSettled before.standing → KeepsDatabases path before after how
+run_keeps words path lang old new how code before after run at to settled = run_by path lang old new how code before after at to settled words run

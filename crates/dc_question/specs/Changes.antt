@@ -1,0 +1,58 @@
+-- What calls write to questions: the row of writes of each, and what it leaves.
+use Rattle.std.specs.Prelude.{◌≡◌, ℕ, Bool, List, [], ◌∷◌, Option, Some, None, Result, Ok, Err, codes}
+use Rattle.std.specs.FinMap as map
+use Rattle.dc_text.specs.Settled.{settled}
+use Rattle.dc_item.specs.Item.{ItemParts}
+use Rattle.dc_item.specs.declared.op.Op.{Op}
+use Rattle.dc_item.specs.declared.op.Op.TheVariants.{Put, SetField, SetFlag, SetVar}
+use Rattle.dc_layer.specs.State.{LayerState}
+use Rattle.dc_store.specs.Plans.{StoreState}
+use Rattle.dc_store.specs.Rows.{Write, row_done}
+use Rattle.dc_question.specs.Readings.{kind_by}
+use Rattle.dc_question.specs.Questions.{Setting, question, template, read}
+use Rattle.dc_question.specs.declared.errors.QuestionError.{QuestionError}
+use Rattle.dc_question.specs.declared.errors.QuestionError.TheVariants.{CantChange, OutOfMemory}
+
+-- ---- one write to a question
+
+-- a write to a question, whose kind is that of its template
+abbrev pub question_write : List LayerState → Setting → List ℕ → ItemParts → Op → Write
+question_write layers at name item op = record { plan = at.config; name = name; kind = kind_by (template layers at item); op = op }
+
+-- what a row leaves of which a refused write is told as a question that can't be changed
+abbrev pub done_or : List ℕ → Option StoreState → Result StoreState QuestionError
+done_or name None = Err (CantChange name)
+done_or name (Some store) = Ok store
+
+-- the question takes the operation
+abbrev pub changed : StoreState → Setting → List ℕ → Op → Result StoreState QuestionError
+changed store at name op =
+    read name (question store.layers at name) (λ item. done_or name (row_done store (question_write store.layers at name item op ∷ [])))
+
+-- its value is the settled bytes
+abbrev pub value_set : StoreState → Setting → List ℕ → List ℕ → Result StoreState QuestionError
+value_set store at name value = changed store at name (SetField (codes "value") (settled value))
+
+-- a flag of it is true exactly where it is set on
+abbrev pub flag_set : StoreState → Setting → List ℕ → List ℕ → Bool → Result StoreState QuestionError
+flag_set store at name key on = changed store at name (SetFlag key on)
+
+-- a variable of it is the settled bytes
+abbrev pub variable_set : StoreState → Setting → List ℕ → List ℕ → List ℕ → Result StoreState QuestionError
+variable_set store at name key value = changed store at name (SetVar key (settled value))
+
+-- the item without its value, and not seen
+abbrev pub without_answer : ItemParts → ItemParts
+without_answer item = record item { fields = map.remove item.fields (codes "value"); flags = map.remove item.flags (codes "seen") }
+
+-- it has no value of its own any more, and isn't seen
+abbrev pub value_reset : StoreState → Setting → List ℕ → Result StoreState QuestionError
+value_reset store at name = read name (question store.layers at name) (λ item. changed store at name (Put (without_answer item)))
+
+-- ---- what a call does
+
+-- A call that writes leaves what its row does. After a refusal nothing has changed, and want of memory may come in any place.
+abbrev pub Does : {A : Type 0} → Result A QuestionError → Result StoreState QuestionError → StoreState → StoreState → Type 0
+Does (Ok answer) row old new = row ≡ Ok new
+Does (Err OutOfMemory) row old new = Unit {0}
+Does (Err error) row old new = (row ≡ Err error) × (new ≡ old)

@@ -1,0 +1,170 @@
+// Questions over a store.
+ghost use Rattle.std.specs.Prelude.{◌≡◌, Err, length, map as each, Some, IfOk};
+ghost use Rattle.std.specs.Option.{option_copied, option_map_or};
+ghost use Rattle.dc_question.specs.declared.errors.QuestionError.TheVariants.{NoQuestion};
+ghost use Rattle.dc_conf.specs.Plans.{IsOver};
+ghost use Rattle.dc_store.specs.Plans.{look};
+ghost use Rattle.dc_question.specs.Questions.{IsSetOver, question as question_of, template as template_of, exists as exists_of, kind as kind_of, value as value_of, field as field_of, expanded_field, choices as choices_of, flag as flag_of, read, read_template, Answers};
+
+use crate::choices::{ChoicePair, choice_pair};
+use crate::errors::QuestionError;
+use crate::fields::{field, localised};
+use crate::setting::Setting;
+use crate::values::{kind, value};
+use dc_conf::plans::Plan;
+use dc_item::Item;
+use dc_layer::Layer;
+use dc_store::Store;
+use dc_template::Kind;
+use dc_text::{FieldKey, FlagName, Name, Text};
+use std::alloc::Global;
+
+/// Questions and their templates, which stand in two plans of a store (debconf-devel(7)). Each plan speaks of the store's layers.
+#[derive(Drop)]
+pub struct Questions<'q> {
+    pub alloc: Global,
+    pub store: &'q mut Store,
+    /// The plans of questions and of templates, and the user's language.
+    pub setting: Setting<'q>,
+}
+
+impl<'q> Questions<'q> {
+    pub fn new(
+        alloc: Global,
+        store: &'q mut Store,
+        config: &'q Plan,
+        templates: &'q Plan,
+        lang: &'q Text,
+    ) -> Questions<'q>
+        requires config { IsOver config.now (length store.old.layers.items) }
+        requires templates { IsOver templates.now (length store.old.layers.items) }
+        ensures store { result.store.now ≡ store.old }
+        ensures held { result.store.ghost_name ≡ store.entry.ghost_name }
+        ensures setting { result.setting ≡ record { config = config.now; templates = templates.now; lang = lang.now } }
+    {
+        Questions {
+            alloc,
+            store,
+            setting: Setting {
+                config,
+                templates,
+                lang,
+            },
+        }
+    }
+
+    /// Whether there is such a question.
+    pub fn exists(&self, name: &Name) -> bool
+        requires { IsSetOver self.now.setting (length self.now.store.now.layers.items) }
+        ensures { result ≡ exists_of (each (λ b. state (b.vtable, b.value)) self.now.store.now.layers.items) self.now.setting name.now }
+    {
+        self.question(name).is_some()
+    }
+
+    /// The kind of the question: `None` without a template, or where the template's type is no kind's word.
+    pub fn kind(&self, name: &Name) -> Option<Kind>
+        requires { IsSetOver self.now.setting (length self.now.store.now.layers.items) }
+        ensures { result ≡ kind_of (each (λ b. state (b.vtable, b.value)) self.now.store.now.layers.items) self.now.setting name.now }
+    {
+        kind(self.template(self.question(name)?))
+    }
+
+    /// The value of the question: its own, else its template's default in the user's language, else the empty text.
+    pub fn value(&self, name: &Name) -> Result<Text, QuestionError>
+        requires { IsSetOver self.now.setting (length self.now.store.now.layers.items) }
+        ensures { Answers result (value_of (each (λ b. state (b.vtable, b.value)) self.now.store.now.layers.items) self.now.setting name.now) }
+    {
+        match self.question(name) {
+            None => Err(QuestionError::NoQuestion { name: name.copy()? }),
+            Some(item) => Ok(value(
+                self.alloc,
+                self.setting.lang.bytes(),
+                item,
+                self.template(item),
+            )?),
+        }
+    }
+
+    /// A field of the question's template in the user's language. `NoField` comes exactly where the template has it in no
+    /// language that is tried.
+    pub fn field(&self, name: &Name, key: &FieldKey) -> Result<Text, QuestionError>
+        requires { IsSetOver self.now.setting (length self.now.store.now.layers.items) }
+        ensures { Answers result (field_of (each (λ b. state (b.vtable, b.value)) self.now.store.now.layers.items) self.now.setting name.now key.now) }
+    {
+        let Some(item) = self.question(name) else {
+            return Err(QuestionError::NoQuestion { name: name.copy()? });
+        };
+        let Some(template) = self.template(item) else {
+            return Err(QuestionError::NoTemplate { name: name.copy()? });
+        };
+        match localised(self.alloc, self.setting.lang.bytes(), template, key)? {
+            None => Err(QuestionError::NoField),
+            Some(text) => Ok(Text::from_bytes(self.alloc, text.bytes())?),
+        }
+    }
+
+    /// The same with the question's variables put in.
+    pub fn expanded(&self, name: &Name, key: &FieldKey) -> Result<Text, QuestionError>
+        requires { IsSetOver self.now.setting (length self.now.store.now.layers.items) }
+        ensures { Answers result (expanded_field (each (λ b. state (b.vtable, b.value)) self.now.store.now.layers.items) self.now.setting name.now key.now) }
+    {
+        let Some(item) = self.question(name) else {
+            return Err(QuestionError::NoQuestion { name: name.copy()? });
+        };
+        let Some(template) = self.template(item) else {
+            return Err(QuestionError::NoTemplate { name: name.copy()? });
+        };
+        match field(self.alloc, self.setting.lang.bytes(), item, template, key)? {
+            None => Err(QuestionError::NoField),
+            Some(text) => Ok(text),
+        }
+    }
+
+    /// The choices of the question, each with its label.
+    pub fn choices(&self, name: &Name) -> Result<ChoicePair, QuestionError>
+        requires { IsSetOver self.now.setting (length self.now.store.now.layers.items) }
+        ensures { Answers result (choices_of (each (λ b. state (b.vtable, b.value)) self.now.store.now.layers.items) self.now.setting name.now) }
+    {
+        let Some(item) = self.question(name) else {
+            return Err(QuestionError::NoQuestion { name: name.copy()? });
+        };
+        let Some(template) = self.template(item) else {
+            return Err(QuestionError::NoTemplate { name: name.copy()? });
+        };
+        Ok(choice_pair(self.alloc, self.setting.lang.bytes(), item, template)?)
+    }
+
+    /// Whether a flag of the question is true.
+    pub fn flag(&self, name: &Name, flag: &FlagName) -> Result<bool, QuestionError>
+        requires { IsSetOver self.now.setting (length self.now.store.now.layers.items) }
+        ensures { Answers result (flag_of (each (λ b. state (b.vtable, b.value)) self.now.store.now.layers.items) self.now.setting name.now flag.now) }
+    {
+        match self.question(name) {
+            None => Err(QuestionError::NoQuestion { name: name.copy()? }),
+            Some(item) => Ok(item.flag(flag.bytes())),
+        }
+    }
+
+    pub(crate) fn question(&self, name: &Name) -> Option<&Item>
+        requires { IsSetOver self.now.setting (length self.now.store.now.layers.items) }
+        ensures { option_copied result ≡ question_of (each (λ b. state (b.vtable, b.value)) self.now.store.now.layers.items) self.now.setting name.now }
+    {
+        self.store.look(self.setting.config, name)
+    }
+
+    pub(crate) fn template(&self, item: &Item) -> Option<&Item>
+        requires { IsSetOver self.now.setting (length self.now.store.now.layers.items) }
+        ensures { option_copied result ≡ template_of (each (λ b. state (b.vtable, b.value)) self.now.store.now.layers.items) self.now.setting item.now }
+    {
+        let name = item.field(b"template")?;
+        self.named_template(name.bytes())
+    }
+
+    // The template of this name.
+    pub(crate) fn named_template(&self, name: &[u8]) -> Option<&Item>
+        requires { IsSetOver self.now.setting (length self.now.store.now.layers.items) }
+        ensures { option_copied result ≡ look (each (λ b. state (b.vtable, b.value)) self.now.store.now.layers.items) self.now.setting.templates name.now }
+    {
+        self.store.seek(self.setting.templates, name)
+    }
+}

@@ -1,7 +1,0 @@
--- The machine is a function.
-use Rattle.std.proofs.Common.{sym, ◌∙◌}
-use Rattle.dc_serve.specs.Determined.{IsFunction}
-use Rattle.dc_run.specs.Machine.{Heeds}
-
-pub heeds_is_function : IsFunction Heeds
-heeds_is_function old line did other new left first second = (first.0 ∙ sym second.0, first.1 ∙ sym second.1)

@@ -1,0 +1,129 @@
+-- What a run does before its tool: the configuration is read, a layer for each database that its roots reach is set up, and each is
+-- loaded.
+use Rattle.std.specs.Prelude.{◌≡◌, ◌⊎◌, ℕ, List, [], ◌∷◌, true, false, Option, Result, Ok, Err}
+use Rattle.dc_outside.specs.Disk.{Disk}
+use Rattle.dc_outside.specs.Counts.{FaultRose, RefusalRose}
+use Rattle.dc_outside.specs.Steps.{after_look}
+use Rattle.dc_outside.specs.Told.{Told}
+use Rattle.dc_outside.specs.declared.files.FilesOp.TheVariants.{Read}
+use Rattle.dc_conf.specs.Configuration.{Configuration, IsAnswer, reached, plan_of}
+use Rattle.dc_conf.specs.declared.faults.ConfError.{ConfError}
+use Rattle.dc_conf.specs.declared.spec.LayerSpec.{LayerSpec}
+use Rattle.dc_layer.specs.State.{LayerState}
+use Rattle.dc_save.specs.Loading.{IsTextAt}
+use Rattle.dc_save.specs.declared.loading.LoadError.{LoadError}
+use Rattle.dc_session.specs.SessionState.{SessionState}
+use Rattle.dc_shelf.specs.Shelves.{all_set_up, IsRefusedAt, LoadsAll}
+use Rattle.dc_shelf.specs.declared.shelf.NotSetUp.{NotSetUp}
+use Rattle.dc_store.specs.Plans.{stored}
+use Rattle.dc_run.specs.declared.outcome.End.{End}
+use Rattle.dc_run.specs.declared.outcome.End.TheVariants as end
+use Rattle.dc_run.specs.declared.starting.Roots.{Roots}
+use Rattle.dc_run.specs.Ends.{end_of_conf, end_of_patterns, end_of_load}
+use Rattle.dc_run.specs.World.{FilesState, Stock}
+
+-- ---- the configuration
+
+-- the text at the path is this configuration; a file that isn't there is the empty text
+pub record IsConfiguration (disk : Option Disk) (path : List ℕ) (conf : Configuration) : Type 0 where
+  pub text : List ℕ
+  pub text_is : IsTextAt disk path text
+  pub reads : IsAnswer text (Ok conf)
+
+-- the databases of questions and of templates
+abbrev pub roots : Configuration → List (List ℕ)
+roots conf = conf.config ∷ conf.templates ∷ []
+
+-- the databases that hold their items, in the order of the file
+abbrev pub databases_of : Configuration → List LayerSpec
+databases_of conf = reached conf (roots conf)
+
+-- the files once the configuration was read
+abbrev pub conf_read : Told → List ℕ → Told
+conf_read files path = after_look files Read path true
+
+-- ---- the start of a session
+
+-- the session over these layers, by the plans of questions and of templates
+abbrev pub begun : List LayerState → Roots → List ℕ → SessionState
+begun layers roots lang = record { store = stored layers []; at = record { config = roots.config; templates = roots.templates; lang = lang } }
+
+-- ---- the ends of a run before its tool: nothing is written
+
+-- nothing was done on the files but the read of the configuration
+pub record HasReadConf (path : List ℕ) (old new : FilesState) : Type 0 where
+  pub files_are : new.told ≡ conf_read old.told path
+  pub counts : new.counts ≡ old.counts
+
+-- no call of the files was done, and they may have refused one for want of memory
+pub record HasNotBegun (old new : FilesState) : Type 0 where
+  pub files_are : new.told ≡ old.told
+  pub counts : (new.counts ≡ old.counts) ⊎ RefusalRose old.counts new.counts
+
+-- there was no memory before the first layer was set up
+pub record IsOutOfMemory (path : List ℕ) (old new : FilesState) (how : End) : Type 0 where
+  pub end_is : how ≡ end.OutOfMemory
+  pub begun : HasNotBegun old new ⊎ HasReadConf path old new
+
+-- the read of the configuration failed
+pub record IsUnread (path : List ℕ) (old new : FilesState) (how : End) : Type 0 where
+  pub end_is : how ≡ end.FilesFault path
+  pub files_are : new.told ≡ after_look old.told Read path false
+  pub counts : FaultRose old.counts new.counts
+
+-- the text at the path has this fault, which decides
+pub record IsRefused (path : List ℕ) (old new : FilesState) (how : End) : Type 0 where
+  pub error : ConfError
+  pub end_is : how ≡ end_of_conf error
+  pub text : List ℕ
+  pub text_is : IsTextAt old.told.disk path text
+  pub refused : IsAnswer text (Err error)
+  pub read : HasReadConf path old new
+
+-- the patterns of a database of the configuration are refused
+pub record IsNotSetUp (path : List ℕ) (old new : FilesState) (how : End) : Type 0 where
+  pub refused : NotSetUp
+  pub end_is : how ≡ end_of_patterns refused
+  pub conf : Configuration
+  pub conf_is : IsConfiguration old.told.disk path conf
+  pub refused_at : IsRefusedAt (databases_of conf) refused.place refused.error
+  pub read : HasReadConf path old new
+
+-- A layer of each database of the configuration was set up, and the loads of these, which had this answer, left the layers and the
+-- files so.
+pub record HasLoaded (path : List ℕ) (conf : Configuration) (old : FilesState) (new : Stock) (result : Result (Unit {0}) LoadError) : Type 0 where
+  pub conf_is : IsConfiguration old.told.disk path conf
+  pub loads : LoadsAll (databases_of conf) (all_set_up (databases_of conf)) new.used (conf_read old.told path) new.files.told old.counts new.files.counts result
+
+-- a load was refused
+pub record IsNotLoaded (path : List ℕ) (old : FilesState) (new : Stock) (how : End) : Type 0 where
+  pub error : LoadError
+  pub end_is : how ≡ end_of_load error
+  pub conf : Configuration
+  pub loaded : HasLoaded path conf old new (Err error)
+
+abbrev pub EndsBefore : List ℕ → FilesState → Stock → End → Type 0
+EndsBefore path old new how =
+    IsOutOfMemory path old new.files how ⊎ IsUnread path old new.files how ⊎ IsRefused path old new.files how ⊎ IsNotSetUp path old new.files how ⊎ IsNotLoaded path old new how
+
+-- ---- what is done before the tool, by the answer
+
+-- all layers were loaded, and these are the plans of questions and of templates
+pub record HasStarted (path : List ℕ) (old : FilesState) (new : Stock) (roots : Roots) : Type 0 where
+  pub conf : Configuration
+  pub loaded : HasLoaded path conf old new (Ok tt)
+  pub config_is : roots.config ≡ plan_of conf (databases_of conf) conf.config
+  pub templates_is : roots.templates ≡ plan_of conf (databases_of conf) conf.templates
+
+abbrev pub Starts : List ℕ → FilesState → Stock → Result Roots End → Type 0
+Starts path old new (Ok roots) = HasStarted path old new roots
+Starts path old new (Err how) = EndsBefore path old new how
+
+-- what reading the configuration does
+abbrev pub ReadsConf : List ℕ → FilesState → FilesState → Result Configuration End → Type 0
+ReadsConf path old new (Ok conf) = IsConfiguration old.told.disk path conf × HasReadConf path old new
+ReadsConf path old new (Err how) = IsOutOfMemory path old new how ⊎ IsUnread path old new how ⊎ IsRefused path old new how
+
+-- some text is this configuration
+abbrev pub IsSomeConfiguration : Configuration → Type 0
+IsSomeConfiguration conf = (text : List ℕ) × IsAnswer text (Ok conf)

@@ -1,0 +1,66 @@
+// What a run does when its link has ended.
+ghost use Rattle.std.specs.Prelude.{◌≡◌, map as each, MatchResult};
+ghost use Rattle.dc_save.specs.Saving.{Saves, SaveCounts};
+ghost use Rattle.dc_layer.specs.State.{saved};
+ghost use Rattle.dc_run.specs.Finishing.{Finishes, images_of};
+
+use crate::outcome::{End, end_at_save};
+use dc_layer::Layer;
+use dc_outside::Files;
+use dc_save::{SaveError, save_images};
+use dc_serve::LinkEnd;
+use dc_shelf::{images_of_all, mark_all_saved};
+use dc_text::OutOfMemory;
+use std::alloc::Global;
+
+/// Saves what changed in the layers, unless memory ran out, and answers the end of the run.
+#[tactic(auto, using(crate::proofs::StartLemmas::whole_slice))]
+pub fn finish_used<F: Files>(
+    alloc: Global,
+    end: LinkEnd<OutOfMemory>,
+    files: &mut F,
+    used: &mut Vec<Box<dyn Layer>>,
+) -> End
+    ensures { Finishes (each state used.old.items) (each state used.new.items) end (record { told = F.told files.old; counts = F.counts files.old }) (record { told = F.told files.new; counts = F.counts files.new }) result }
+{
+    finish(alloc, end, files, used.as_mut_slice())
+}
+
+fn finish<F: Files>(
+    alloc: Global,
+    end: LinkEnd<OutOfMemory>,
+    files: &mut F,
+    layers: &mut [Box<dyn Layer>],
+) -> End
+    ensures { Finishes (each state layers.old) (each state layers.new) end (record { told = F.told files.old; counts = F.counts files.old }) (record { told = F.told files.new; counts = F.counts files.new }) result }
+{
+    match end {
+        LinkEnd::OutOfMemory | LinkEnd::Broken(_) => End::OutOfMemory,
+        LinkEnd::Done | LinkEnd::LinkFault | LinkEnd::TooLong => {
+            let saved = save_all(alloc, files, layers);
+            end_at_save(end, saved)
+        }
+    }
+}
+
+// Saves the images of all layers, which are made before the first call of the files, and then marks each layer as saved.
+fn save_all<F: Files>(
+    alloc: Global,
+    files: &mut F,
+    layers: &mut [Box<dyn Layer>],
+) -> Result<(), SaveError>
+    ensures saves { Saves (images_of (each state layers.old)) (F.told files.old) (F.told files.new) result }
+    ensures counts { SaveCounts (F.told files.old) (F.told files.new) result (F.counts files.old) (F.counts files.new) }
+    ensures marked { MatchResult result (λ _. each state layers.new ≡ each saved (each state layers.old)) (λ _. each state layers.new ≡ each state layers.old) }
+{
+    match images_of_all(alloc, layers) {
+        Err(_) => Err(SaveError::OutOfMemory),
+        Ok(images) => match save_images(alloc, files, &images) {
+            Ok(()) => {
+                mark_all_saved(layers, images);
+                Ok(())
+            }
+            Err(error) => Err(error),
+        },
+    }
+}

@@ -1,0 +1,160 @@
+// What a run does before its tool.
+ghost use Rattle.std.specs.Prelude.{◌≡◌, ◌≤◌, ◌∷◌, [], length, map as each, IfOk};
+ghost use Rattle.std.specs.List.{AllByRecursion};
+ghost use Rattle.dc_conf.specs.Configuration.{plan_of, IsAnswer};
+ghost use Rattle.dc_conf.specs.Plans.{IsOver};
+ghost use Rattle.dc_shelf.specs.Shelves.{AreBlank, AreFiles, LoadsAll, all_set_up};
+ghost use Rattle.dc_save.specs.Loading.{text_in};
+ghost use Rattle.dc_run.specs.Ends.{end_of_conf as end_of_conf_by, end_of_patterns as end_of_patterns_by, end_of_load as end_of_load_by};
+ghost use Rattle.dc_run.specs.Starting.{Starts, ReadsConf, IsSomeConfiguration, databases_of};
+
+use crate::outcome::{End, PatternAt};
+use dc_conf::spec::LayerSpec;
+use dc_conf::{Conf, ConfError, Plan, ResolveError, Resolved, read_conf};
+use dc_layer::{Layer, PatternError};
+use dc_outside::{Files, FilesError};
+use dc_save::LoadError;
+use dc_shelf::{NotSetUp, Shelf, load_all, set_up_all};
+use dc_text::{List, Text};
+use std::alloc::Global;
+
+/// The plans of the databases of questions and of templates, over the layers in `used`.
+#[derive(Drop)]
+pub struct Roots {
+    pub config: Plan,
+    pub templates: Plan,
+}
+
+/// Reads the configuration, and sets up and loads a layer for each database that its roots reach.
+pub fn start<F: Files>(
+    alloc: Global,
+    path: &Text,
+    files: &mut F,
+    shelf: &mut Shelf,
+) -> Result<Roots, End>
+    requires blank { AreBlank (each (λ b. state (b.vtable, b.value)) shelf.old.files.items) }
+    requires room { 16 ≤ length shelf.old.files.items }
+    requires used { shelf.old.used.items ≡ [] }
+    ensures starts { Starts path.now (record { told = F.told files.old; counts = F.counts files.old }) (record { files = record { told = F.told files.new; counts = F.counts files.new }; used = each (λ b. state (b.vtable, b.value)) shelf.new.used.items }) result }
+    ensures over { IfOk result (λ roots. IsOver roots.config (length shelf.new.used.items) × IsOver roots.templates (length shelf.new.used.items)) }
+{
+    let conf = match read_configuration(alloc, path, files) {
+        Ok(conf) => conf,
+        Err(end) => return Err(end),
+    };
+    let resolved = match resolve(alloc, &conf) {
+        Ok(resolved) => resolved,
+        // No root is unknown, as a configuration with such a one is refused.
+        Err(_) => return Err(End::OutOfMemory),
+    };
+    let Resolved { specs, plans } = resolved;
+    match set_up_all(shelf, specs.as_slice()) {
+        Ok(()) => {}
+        Err(refused) => return Err(end_of_patterns(refused)),
+    }
+    match load_used(alloc, files, specs.as_slice(), &mut shelf.used) {
+        Ok(()) => Ok(both(plans)),
+        Err(error) => Err(end_of_load(error)),
+    }
+}
+
+// Loads the layers, each of which was set up.
+#[tactic(auto, using(crate::proofs::StartLemmas::whole_slice))]
+fn load_used<F: Files>(
+    alloc: Global,
+    files: &mut F,
+    specs: &[LayerSpec],
+    used: &mut Vec<Box<dyn Layer>>,
+) -> Result<(), LoadError>
+    requires { each state used.old.items ≡ all_set_up specs.now }
+    ensures loads { LoadsAll specs.now (each state used.old.items) (each state used.new.items) (F.told files.old) (F.told files.new) (F.counts files.old) (F.counts files.new) result }
+    ensures count { length used.new.items ≡ length specs.now }
+{
+    load_all(alloc, files, specs, used.as_mut_slice())
+}
+
+// The two plans of the roots.
+fn both(plans: List<Plan>) -> Roots
+    requires { length plans ≡ 2 }
+    ensures { plans ≡ result.config ∷ result.templates ∷ [] }
+{
+    let mut left = plans;
+    match (left.pop(), left.pop()) {
+        (Some(templates), Some(config)) => Roots { config, templates },
+        _ => unreachable!(),
+    }
+}
+
+// The configuration at the path. A file that isn't there is the empty text.
+fn read_configuration<F: Files>(alloc: Global, path: &Text, files: &mut F) -> Result<Conf, End>
+    ensures { ReadsConf path.now (record { told = F.told files.old; counts = F.counts files.old }) (record { told = F.told files.new; counts = F.counts files.new }) result }
+{
+    let kept = match path.copy() {
+        Ok(kept) => kept,
+        Err(_) => return Err(End::OutOfMemory),
+    };
+    match files.read(path) {
+        Ok(found) => match configuration_in(alloc, &found) {
+            Ok(conf) => Ok(conf),
+            Err(error) => Err(end_of_conf(error)),
+        },
+        Err(FilesError::Failed) => Err(End::FilesFault { path: kept }),
+        Err(FilesError::OutOfMemory) => Err(End::OutOfMemory),
+    }
+}
+
+// The configuration that was found.
+fn configuration_in(alloc: Global, found: &Option<Text>) -> Result<Conf, ConfError>
+    ensures { IsAnswer (text_in found.now) result }
+{
+    match found {
+        None => read_conf(alloc, b""),
+        Some(text) => read_conf(alloc, text.bytes()),
+    }
+}
+
+// The databases that the two roots reach, and the plan of each root.
+#[tactic(auto, using(crate::proofs::StartLemmas::plans_resolved, crate::proofs::StartLemmas::few_resolved, crate::proofs::StartLemmas::files_resolved))]
+fn resolve(alloc: Global, conf: &Conf) -> Result<Resolved, ResolveError>
+    requires { IsSomeConfiguration conf.now }
+    ensures specs { IfOk result (λ resolved. resolved.specs ≡ databases_of conf.now) }
+    ensures plans { IfOk result (λ resolved. resolved.plans ≡ plan_of conf.now (databases_of conf.now) conf.now.config ∷ plan_of conf.now (databases_of conf.now) conf.now.templates ∷ []) }
+    ensures over { IfOk result (λ resolved. AllByRecursion (λ plan. IsOver plan (length resolved.specs)) resolved.plans) }
+    ensures few { IfOk result (λ resolved. length resolved.specs ≤ 16) }
+    ensures sorts { IfOk result (λ resolved. AreFiles resolved.specs) }
+{
+    let mut roots = List::new(alloc);
+    roots.push(conf.config().copy()?)?;
+    roots.push(conf.templates().copy()?)?;
+    conf.resolve(alloc, &roots)
+}
+
+fn end_of_conf(error: ConfError) -> End
+    ensures { result ≡ end_of_conf_by error }
+{
+    match error {
+        ConfError::Refused { line, kind } => End::ConfRefused { line, kind },
+        ConfError::OutOfMemory => End::OutOfMemory,
+    }
+}
+
+fn end_of_patterns(refused: NotSetUp) -> End
+    ensures { result ≡ end_of_patterns_by refused }
+{
+    let at = PatternAt::Database(refused.place);
+    match refused.error {
+        PatternError::Bad => End::BadPattern { at },
+        PatternError::TooLarge => End::PatternTooLarge { at },
+        PatternError::OutOfMemory => End::OutOfMemory,
+    }
+}
+
+fn end_of_load(error: LoadError) -> End
+    ensures { result ≡ end_of_load_by error }
+{
+    match error {
+        LoadError::Failed { path } => End::FilesFault { path },
+        LoadError::Damaged { path, line } => End::Damaged { path, line },
+        LoadError::OutOfMemory => End::OutOfMemory,
+    }
+}

@@ -1,0 +1,107 @@
+// The line of an end, told on standard error in pieces for which no memory is taken.
+ghost use Rattle.std.specs.Prelude.{◌≡◌, decimal};
+ghost use Rattle.dc_run.specs.EndLines.{end_line, place_text, HasSaid};
+ghost use Rattle.dc_run.specs.Kinds.{kind_word as kind_word_of};
+
+use crate::outcome::{End, PatternAt};
+use dc_conf::ConfKind;
+use dc_outside::Link;
+use itoa::Buffer;
+
+// Says some bytes. A write that fails is passed over.
+#[tactic(auto, using(crate::proofs::Saying::written_said))]
+fn say<E: Link>(err: &mut E, bytes: &[u8])
+    ensures { HasSaid bytes.now (E.talk err.old) (E.talk err.new) (record { faults = E.faults err.old; refusals = E.refusals err.old }) (record { faults = E.faults err.new; refusals = E.refusals err.new }) }
+{
+    let _ = err.write(bytes);
+}
+
+fn say_number<E: Link>(err: &mut E, number: u64)
+    ensures { HasSaid (decimal number) (E.talk err.old) (E.talk err.new) (record { faults = E.faults err.old; refusals = E.refusals err.old }) (record { faults = E.faults err.new; refusals = E.refusals err.new }) }
+{
+    let mut buffer = Buffer::new();
+    say(err, buffer.format(number).as_bytes());
+}
+
+fn say_place<E: Link>(err: &mut E, at: PatternAt)
+    ensures { HasSaid (place_text at) (E.talk err.old) (E.talk err.new) (record { faults = E.faults err.old; refusals = E.refusals err.old }) (record { faults = E.faults err.new; refusals = E.refusals err.new }) }
+{
+    match at {
+        PatternAt::Database(place) => {
+            say(err, b", database ");
+            say_number(err, place as u64)
+        }
+        PatternAt::Word(word) => {
+            say(err, b", word ");
+            say_number(err, word as u64)
+        }
+    }
+}
+
+/// Tells of the end of a run on standard error, in one line, unless it did all that it was to do.
+#[tactic(auto, using(crate::proofs::Saying::none_said))]
+pub fn tell_end<E: Link>(err: &mut E, end: &End)
+    ensures { HasSaid (end_line end.now) (E.talk err.old) (E.talk err.new) (record { faults = E.faults err.old; refusals = E.refusals err.old }) (record { faults = E.faults err.new; refusals = E.refusals err.new }) }
+{
+    match end {
+        End::Done => {}
+        End::Usage { word } => {
+            say(err, b"dckit: usage, word ");
+            say_number(err, *word as u64);
+            say(err, b"\n")
+        }
+        End::ConfRefused { line, kind } => {
+            say(err, b"dckit: configuration, line ");
+            say_number(err, *line);
+            say(err, b": ");
+            say(err, kind_word(*kind));
+            say(err, b"\n")
+        }
+        End::BadPattern { at } => {
+            say(err, b"dckit: bad pattern");
+            say_place(err, *at);
+            say(err, b"\n")
+        }
+        End::PatternTooLarge { at } => {
+            say(err, b"dckit: pattern too large");
+            say_place(err, *at);
+            say(err, b"\n")
+        }
+        End::Damaged { path, line } => {
+            say(err, b"dckit: ");
+            say(err, path.bytes());
+            say(err, b": damaged, line ");
+            say_number(err, *line);
+            say(err, b"\n")
+        }
+        End::OutOfMemory => say(err, b"dckit: out of memory\n"),
+        End::FilesFault { path } => {
+            say(err, b"dckit: ");
+            say(err, path.bytes());
+            say(err, b": read or write failed\n")
+        }
+        End::LinkFault => say(err, b"dckit: link failed\n"),
+        End::TooLong => say(err, b"dckit: input too long\n"),
+    }
+}
+
+fn kind_word(kind: ConfKind) -> &'static [u8]
+    ensures { result.now ≡ kind_word_of kind }
+{
+    match kind {
+        ConfKind::NoColon => b"NoColon",
+        ConfKind::Twice => b"Twice",
+        ConfKind::TooMany => b"TooMany",
+        ConfKind::NoConfig => b"NoConfig",
+        ConfKind::NoTemplates => b"NoTemplates",
+        ConfKind::NoName => b"NoName",
+        ConfKind::NoDriver => b"NoDriver",
+        ConfKind::UnknownDriver => b"UnknownDriver",
+        ConfKind::MissingField => b"MissingField",
+        ConfKind::BadValue => b"BadValue",
+        ConfKind::SamePlace => b"SamePlace",
+        ConfKind::UnknownDatabase => b"UnknownDatabase",
+        ConfKind::Nested => b"Nested",
+        ConfKind::SharedDatabase => b"SharedDatabase",
+    }
+}

@@ -1,0 +1,10 @@
+//! A session: commands on the questions of a store, line by line (debconf-devel(7)).
+#![tactic(auto)]
+
+pub mod laws;
+pub mod replies;
+pub mod serving;
+pub mod session;
+
+pub use serving::serve_layers;
+pub use session::Session;

@@ -1,0 +1,3 @@
+pub mod LoadLemmas
+pub mod MarkLemmas
+pub mod ShelfLemmas

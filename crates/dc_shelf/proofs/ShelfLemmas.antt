@@ -1,0 +1,87 @@
+-- Boxes taken from the end of a list, and lists that are handed out from their end.
+use Rattle.std.proofs.Common.{◌≡◌, ℕ, ◌+◌, ◌-◌, ◌≤◌, List, [], ◌∷◌, ◌++◌, length, take, drop, get_or, map as each, refl, sym, ap, subst, ◌∙◌, append_assoc, arith}
+use Rattle.std.proofs.Common.{Result, Ok, Err}
+use Rattle.std.specs.Prelude.{OnOk, IfErr}
+use Rattle.std.proofs.lemmas.List.{map-append}
+use Rattle.dc_text.specs.declared.memory.OutOfMemory.{OutOfMemory}
+use Rattle.dc_shelf.specs.declared.shelf.NotSetUp.{NotSetUp}
+use Rattle.dc_conf.specs.declared.spec.LayerSort.TheVariants.{File}
+use Rattle.dc_conf.specs.declared.spec.LayerSpec.{LayerSpec}
+use Rattle.dc_layer.specs.State.{LayerState, blank}
+use Rattle.dc_layer.specs.declared.image.Image.{Image}
+use Rattle.dc_layer.specs.declared.pattern.PatternError.{PatternError}
+use Rattle.dc_shelf.specs.Shelves.{AreBlank, AreRefusedFor, IsRefusedAt, IsRefusedFrom}
+
+blank_last : (front : List LayerState) (last : LayerState) → AreBlank (front ++ last ∷ []) → (last ≡ blank File) × AreBlank front
+blank_last [] last all = (all.0, tt)
+blank_last (layer ∷ front) last all = let later = blank_last front last all.1 in (later.0, (all.0, later.1))
+
+pub taken_blank : {A : Type 0} (f : A → LayerState) (items rest : List A) (last : A) → items ≡ rest ++ last ∷ [] → AreBlank (each f items) → (f last ≡ blank File) × AreBlank (each f rest)
+taken_blank f items rest last are all = blank_last (each f rest) (f last) (subst AreBlank (ap (λ l. each f l) are ∙ map-append f rest (last ∷ [])) all)
+
+blank_more : (layers : List LayerState) (last : LayerState) → AreBlank layers → last ≡ blank File → AreBlank (layers ++ last ∷ [])
+blank_more [] last all is = (is, tt)
+blank_more (layer ∷ layers) last all is = (all.0, blank_more layers last all.1 is)
+
+-- a blank box behind blank ones
+pub put_blank : {A : Type 0} (f : A → LayerState) (items more : List A) (last : A) → more ≡ items ++ last ∷ [] → AreBlank (each f items) → f last ≡ blank File → AreBlank (each f more)
+put_blank f items more last are all is = subst AreBlank (sym (map-append f items (last ∷ [])) ∙ ap (λ l. each f l) (sym are)) (blank_more (each f items) (f last) all is)
+
+-- the first of these databases is refused
+pub first_refused : (place : ℕ) (spec : LayerSpec) (rest : List LayerSpec) (error : PatternError) → AreRefusedFor spec error → IsRefusedFrom place (spec ∷ rest) place error
+first_refused place spec rest error refused = (0, omega arith, record { before = []; spec = spec; after = rest; whole = refl; place_is = refl; refused = refused })
+
+-- a later one is
+pub later_refused : (first place : ℕ) (spec : LayerSpec) (rest : List LayerSpec) (error : PatternError) → IsRefusedFrom (first + 1) rest place error → IsRefusedFrom first (spec ∷ rest) place error
+later_refused first place spec rest error from = (
+  from.0 + 1,
+  (let e : place ≡ first + 1 + from.0 = from.1 in omega arith),
+  record {
+    before = spec ∷ from.2.before;
+    spec = from.2.spec;
+    after = from.2.after;
+    whole = ap (λ (l : List LayerSpec). spec ∷ l) from.2.whole;
+    place_is = (let e : from.0 ≡ length from.2.before = from.2.place_is in omega arith);
+    refused = from.2.refused;
+  },
+)
+
+pub from_start : (specs : List LayerSpec) (place : ℕ) (error : PatternError) → IsRefusedFrom 0 specs place error → IsRefusedAt specs place error
+from_start specs place error from =
+    let same : from.0 ≡ place = (let e : place ≡ 0 + from.0 = from.1 in omega arith) in
+    subst (λ (n : ℕ). IsRefusedAt specs n error) same from.2
+
+-- ---- the first element of a list
+
+all_of : {A : Type 0} (xs : List A) → take (length xs) xs ≡ xs
+all_of [] = refl
+all_of (x ∷ xs) = ap (λ l. x ∷ l) (all_of xs)
+
+-- a list is its first element and those behind it
+pub first_and_rest : {A : Type 0} (xs : List A) (x : A) → 1 ≤ length xs → x ≡ get_or xs 0 x → xs ≡ x ∷ take (length xs - 1) (drop 1 xs)
+first_and_rest [] x long is = absurd (omega arith)
+first_and_rest (y ∷ xs) x long is =
+    let count : length (y ∷ xs) - 1 ≡ length xs = omega arith in
+    rw (count, all_of xs) (ap (λ z. z ∷ xs) (sym is))
+
+pub gathered : {A : Type 0} (f : A → LayerState) (images : LayerState → List Image) (layers : List A) (layer : A) (old mid new : List (List Image)) → 1 ≤ length layers → layer ≡ get_or layers 0 layer
+    → mid ≡ old ++ images (f layer) ∷ [] → new ≡ mid ++ each images (each f (take (length layers - 1) (drop 1 layers))) → new ≡ old ++ each images (each f layers)
+gathered f images layers layer old mid new long is first rest =
+    rest ∙ ap (λ l. l ++ each images (each f (take (length layers - 1) (drop 1 layers)))) first ∙ append_assoc old (images (f layer) ∷ []) (each images (each f (take (length layers - 1) (drop 1 layers))))
+    ∙ ap (λ l. old ++ each images (each f l)) (sym (first_and_rest layers layer long is))
+
+pub refused_behind : (first : ℕ) (specs : List LayerSpec) (spec : LayerSpec) (place : ℕ) (error : PatternError) → 1 ≤ length specs → spec ≡ get_or specs 0 spec → IsRefusedFrom (first + 1) (take (length specs - 1) (drop 1 specs)) place error → IsRefusedFrom first specs place error
+refused_behind first specs spec place error long is from =
+    subst (λ (l : List LayerSpec). IsRefusedFrom first l place error) (sym (first_and_rest specs spec long is)) (later_refused first place spec (take (length specs - 1) (drop 1 specs)) error from)
+
+-- ---- by the answer of the calls behind
+
+pub gathered_if : {A : Type 0} (f : A → LayerState) (images : LayerState → List Image) (layers : List A) (layer : A) (old mid new : List (List Image)) → 1 ≤ length layers → layer ≡ get_or layers 0 layer
+    → mid ≡ old ++ images (f layer) ∷ [] → (result : Result (Unit {0}) OutOfMemory) → OnOk result (new ≡ mid ++ each images (each f (take (length layers - 1) (drop 1 layers)))) → OnOk result (new ≡ old ++ each images (each f layers))
+gathered_if f images layers layer old mid new long is first (Ok value) rest = gathered f images layers layer old mid new long is first rest
+gathered_if f images layers layer old mid new long is first (Err error) rest = tt
+
+pub refused_if : (first : ℕ) (specs : List LayerSpec) (spec : LayerSpec) → 1 ≤ length specs → spec ≡ get_or specs 0 spec → (result : Result (Unit {0}) NotSetUp)
+    → IfErr result (λ refused. IsRefusedFrom (first + 1) (take (length specs - 1) (drop 1 specs)) refused.place refused.error) → IfErr result (λ refused. IsRefusedFrom first specs refused.place refused.error)
+refused_if first specs spec long is (Ok value) from = tt
+refused_if first specs spec long is (Err refused) from = refused_behind first specs spec refused.place refused.error long is from

@@ -1,0 +1,78 @@
+// The layers of a run loaded, one after another.
+ghost use Rattle.std.specs.Prelude.{◌≡◌, ◌<◌, map as each, length, take, drop, slice_get, Some};
+ghost use Rattle.dc_conf.specs.declared.spec.LayerSort.TheVariants.{File as OneFile};
+ghost use Rattle.dc_layer.specs.State.{LayerState, blank, set_up};
+ghost use Rattle.dc_save.specs.Loading.{LoadsLayer, LoadsFiles, LoadCounts};
+ghost use Rattle.dc_shelf.specs.Shelves.{all_set_up, LoadsAll, IsLoadedAt};
+
+use dc_conf::spec::LayerSpec;
+use dc_layer::Layer;
+use dc_outside::Files;
+use dc_save::{LoadError, Loaded, load};
+use std::alloc::Global;
+
+/// Loads each layer, which was set up for its database and is empty, in order.
+pub fn load_all<F: Files>(
+    alloc: Global,
+    files: &mut F,
+    specs: &[LayerSpec],
+    layers: &mut [Box<dyn Layer>],
+) -> Result<(), LoadError>
+    requires { each state layers.old ≡ all_set_up specs.now }
+    ensures { LoadsAll specs.now (each state layers.old) (each state layers.new) (F.told files.old) (F.told files.new) (F.counts files.old) (F.counts files.new) result }
+{
+    load_from(alloc, files, specs, layers, 0)
+}
+
+// The same of the layers from a place on.
+fn load_from<F: Files>(
+    alloc: Global,
+    files: &mut F,
+    specs: &[LayerSpec],
+    layers: &mut [Box<dyn Layer>],
+    place: usize,
+) -> Result<(), LoadError>
+    requires same { length layers.old ≡ length specs.now }
+    requires set { drop place (each state layers.old) ≡ all_set_up (drop place specs.now) }
+    ensures loads { LoadsAll (drop place specs.now) (drop place (each state layers.old)) (drop place (each state layers.new)) (F.told files.old) (F.told files.new) (F.counts files.old) (F.counts files.new) result }
+    ensures kept { take place (each state layers.new) ≡ take place (each state layers.old) }
+{
+    if place >= specs.len() {
+        return Ok(());
+    }
+    let spec = &specs[place];
+    match load_at(alloc, files, spec, layers, place) {
+        Ok(_) => load_from(alloc, files, specs, layers, place + 1),
+        Err(error) => Err(error),
+    }
+}
+
+// Loads the layer at a place.
+fn load_at<F: Files>(
+    alloc: Global,
+    files: &mut F,
+    spec: &LayerSpec,
+    layers: &mut [Box<dyn Layer>],
+    place: usize,
+) -> Result<Loaded, LoadError>
+    requires within { place < length layers.old }
+    requires set { (layer : LayerState) → slice_get (each state layers.old) place ≡ Some layer → layer ≡ set_up (blank OneFile) spec.now }
+    ensures { IsLoadedAt spec.now place (each state layers.old) (each state layers.new) (F.told files.old) (F.told files.new) (F.counts files.old) (F.counts files.new) result }
+{
+    let layer = &mut layers[place];
+    load_one(alloc, files, spec, layer)
+}
+
+fn load_one<F: Files>(
+    alloc: Global,
+    files: &mut F,
+    spec: &LayerSpec,
+    layer: &mut Box<dyn Layer>,
+) -> Result<Loaded, LoadError>
+    requires { state layer.old ≡ set_up (blank OneFile) spec.now }
+    ensures loads { LoadsLayer (F.told files.old).disk spec.now (state layer.old) (state layer.new) result }
+    ensures files { LoadsFiles (F.told files.old) (F.told files.new) spec.now.place result }
+    ensures counts { LoadCounts (F.told files.old) (F.told files.new) result (F.counts files.old) (F.counts files.new) }
+{
+    load(alloc, files, spec, layer)
+}
