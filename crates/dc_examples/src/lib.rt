@@ -5,6 +5,8 @@
 #[cfg(test)]
 mod configured;
 #[cfg(test)]
+mod crashing;
+#[cfg(test)]
 mod saving;
 #[cfg(test)]
 mod serving;

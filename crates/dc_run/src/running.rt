@@ -1,6 +1,8 @@
 // The call that the program makes.
-ghost use Rattle.std.specs.Prelude.{◌≡◌, ◌≤◌, [], length, map as each};
+ghost use Rattle.std.specs.Prelude.{◌≡◌, ◌≤◌, [], Some, length, map as each};
+ghost use Rattle.dc_outside.specs.Disk.{Disk, IsSettled};
 ghost use Rattle.dc_shelf.specs.Shelves.{AreBlank};
+ghost use Rattle.dc_run.specs.Crashes.{KeepsDatabases};
 ghost use Rattle.dc_run.specs.EndLines.{end_line, HasSaid};
 ghost use Rattle.dc_run.specs.Ends.{status_of, LinkCounts};
 ghost use Rattle.dc_run.specs.Headline.{HasRunWords, HasCommunicated};
@@ -47,6 +49,9 @@ pub fn run_words<L: Link, E: Link, F: Files>(
 
     // A fault of the link has its end, unless what came after it found no memory.
     ensures link_counts { LinkCounts result.end (record { faults = L.faults io.old; refusals = L.refusals io.old }) (record { faults = L.faults io.new; refusals = L.refusals io.new }) }
+
+    // Killed at any moment, it leaves each database as before or as it is saved, where nothing was pending on the disk when it began.
+    ensures killed { (before after : Disk) → (F.told files.old).disk ≡ Some before → (F.told files.new).disk ≡ Some after → IsSettled before.standing → KeepsDatabases settings.now.conf_path before after result.end }
 {
     let outcome = run_tool(alloc, words, settings, io, files, shelf);
     tell_end(err, &outcome.end);

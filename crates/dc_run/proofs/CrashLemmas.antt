@@ -46,7 +46,7 @@ use Rattle.dc_run.specs.World.{FilesState, Stock, World}
 use Rattle.dc_run.specs.declared.outcome.End.{End}
 use Rattle.dc_run.specs.declared.outcome.End.TheVariants as end
 use Rattle.dc_run.proofs.StartLemmas.{files_reached}
-use Rattle.dc_crash.specs.Crashes.{KeepsDatabases}
+use Rattle.dc_run.specs.Crashes.{KeepsDatabases}
 
 -- ---- reads change nothing on the disk
 
