@@ -1,13 +1,13 @@
 -- The command lines of the confmodule protocol, version 2 (debconf-devel(7)).
-use Rattle.std.specs.Prelude.{ℕ, Bool, false, ◌==◌, List, [], ◌∷◌, map, if◌then◌else◌, codes}
+use Rattle.std.specs.Prelude.{ℕ, Bool, false, ◌==◌, List, [], ◌∷◌, map, Some, None, if◌then◌else◌, codes}
 use Rattle.std.specs.List.{join_by}
 use Rattle.std.specs.Str.{bytes_eq}
 use Rattle.dc_text.specs.Ascii.{space, hash}
 use Rattle.dc_text.specs.Bytes.{lower}
 use Rattle.dc_words.specs.Escaped.{escaped_words_of}
-use Rattle.dc_text.specs.Names.{is_flag_name, is_variable_key}
+use Rattle.dc_text.specs.Names.{is_name, is_flag_name, is_variable_key}
 use Rattle.dc_words.specs.Words.{plain_words_of}
-use Rattle.dc_proto.specs.declared.command.Command.TheVariants.{Get, Set, Reset, Subst, Fget, Fset, Metaget}
+use Rattle.dc_proto.specs.declared.command.Command.TheVariants.{Get, Set, Reset, Subst, Fget, Fset, Metaget, Register, Unregister, Purge, LoadTemplateFile}
 use Rattle.dc_proto.specs.declared.command.Heard.{Heard}
 use Rattle.dc_proto.specs.declared.command.Heard.TheVariants.{Nothing, Known, Refused}
 use Rattle.dc_proto.specs.Replies.{unsupported_command, wrong_number, bad_name}
@@ -59,6 +59,27 @@ abbrev pub metaget : List (List ℕ) → Heard
 metaget (question ∷ field ∷ []) = Known (Metaget question field)
 metaget arguments = Refused wrong_number
 
+-- REGISTER template question
+abbrev pub register : List (List ℕ) → Heard
+register (template ∷ question ∷ []) = if is_name question then Known (Register template question) else Refused bad_name
+register arguments = Refused wrong_number
+
+-- UNREGISTER question
+abbrev pub unregister : List (List ℕ) → Heard
+unregister (question ∷ []) = Known (Unregister question)
+unregister arguments = Refused wrong_number
+
+-- PURGE
+abbrev pub purge : List (List ℕ) → Heard
+purge [] = Known Purge
+purge arguments = Refused wrong_number
+
+-- X_LOADTEMPLATEFILE path [owner]
+abbrev pub load_template_file : List (List ℕ) → Heard
+load_template_file (path ∷ []) = Known (LoadTemplateFile path None)
+load_template_file (path ∷ owner ∷ []) = if is_name owner then Known (LoadTemplateFile path (Some owner)) else Refused bad_name
+load_template_file arguments = Refused wrong_number
+
 -- ---- the table of commands
 
 -- a command's word, in lower case, and what its arguments say
@@ -75,6 +96,10 @@ commands =
     ∷ record { word = codes "fget"; read = fget }
     ∷ record { word = codes "fset"; read = fset }
     ∷ record { word = codes "metaget"; read = metaget }
+    ∷ record { word = codes "register"; read = register }
+    ∷ record { word = codes "unregister"; read = unregister }
+    ∷ record { word = codes "purge"; read = purge }
+    ∷ record { word = codes "x_loadtemplatefile"; read = load_template_file }
     ∷ []
 
 -- what the arguments of a word say, by the first row of the word

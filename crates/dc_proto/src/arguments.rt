@@ -2,12 +2,12 @@
 ghost use Rattle.std.specs.Prelude.{◌≡◌, ◌∷◌, ◌++◌, IfOk, OnOk};
 ghost use Rattle.std.specs.List.{flat_map};
 ghost use Rattle.dc_text.specs.Ascii.{space};
-ghost use Rattle.dc_proto.specs.Commands.{get, set, reset, subst, fget, fset, metaget, joined_value};
+ghost use Rattle.dc_proto.specs.Commands.{get, set, reset, subst, fget, fset, metaget, register, unregister, purge, load_template_file, joined_value};
 ghost use Rattle.dc_proto.specs.Replies.{reply as reply_of};
 
 use crate::command::{Command, Heard};
 use crate::reply::Reply;
-use dc_text::{FlagName, Mem, NameRefused, OutOfMemory, Text, VarKey};
+use dc_text::{FlagName, Mem, Name, NameRefused, OutOfMemory, Text, VarKey};
 use std::alloc::Global;
 
 const WRONG_NUMBER: &[u8] = b"wrong number of arguments";
@@ -126,6 +126,68 @@ pub fn read_metaget(alloc: Global, arguments: &[Text]) -> Mem<Heard>
         })),
         [] => refuse(alloc, WRONG_NUMBER),
         [_] => refuse(alloc, WRONG_NUMBER),
+        [_, _, _, ..] => refuse(alloc, WRONG_NUMBER),
+    }
+}
+
+/// REGISTER template question
+pub fn read_register(alloc: Global, arguments: &[Text]) -> Mem<Heard>
+    ensures { IfOk result (λ said. said ≡ register arguments.now) }
+{
+    match arguments {
+        [template, question] => match Name::read(alloc, question.bytes()) {
+            Ok(question) => Ok(Heard::Known(Command::Register {
+                template: template.copy()?,
+                question,
+            })),
+            Err(NameRefused::Bad) => refuse(alloc, BAD_NAME),
+            Err(NameRefused::OutOfMemory) => Err(OutOfMemory),
+        },
+        [] => refuse(alloc, WRONG_NUMBER),
+        [_] => refuse(alloc, WRONG_NUMBER),
+        [_, _, _, ..] => refuse(alloc, WRONG_NUMBER),
+    }
+}
+
+/// UNREGISTER question
+pub fn read_unregister(alloc: Global, arguments: &[Text]) -> Mem<Heard>
+    ensures { IfOk result (λ said. said ≡ unregister arguments.now) }
+{
+    match arguments {
+        [question] => Ok(Heard::Known(Command::Unregister(question.copy()?))),
+        [] => refuse(alloc, WRONG_NUMBER),
+        [_, _, ..] => refuse(alloc, WRONG_NUMBER),
+    }
+}
+
+/// PURGE
+pub fn read_purge(alloc: Global, arguments: &[Text]) -> Mem<Heard>
+    ensures { IfOk result (λ said. said ≡ purge arguments.now) }
+{
+    match arguments {
+        [] => Ok(Heard::Known(Command::Purge)),
+        [_, ..] => refuse(alloc, WRONG_NUMBER),
+    }
+}
+
+/// X_LOADTEMPLATEFILE path [owner]
+pub fn read_load_template_file(alloc: Global, arguments: &[Text]) -> Mem<Heard>
+    ensures { IfOk result (λ said. said ≡ load_template_file arguments.now) }
+{
+    match arguments {
+        [path] => Ok(Heard::Known(Command::LoadTemplateFile {
+            path: path.copy()?,
+            owner: None,
+        })),
+        [path, owner] => match Name::read(alloc, owner.bytes()) {
+            Ok(owner) => Ok(Heard::Known(Command::LoadTemplateFile {
+                path: path.copy()?,
+                owner: Some(owner),
+            })),
+            Err(NameRefused::Bad) => refuse(alloc, BAD_NAME),
+            Err(NameRefused::OutOfMemory) => Err(OutOfMemory),
+        },
+        [] => refuse(alloc, WRONG_NUMBER),
         [_, _, _, ..] => refuse(alloc, WRONG_NUMBER),
     }
 }

@@ -4,11 +4,12 @@ ghost use Rattle.dc_text.specs.Bytes.{lower};
 ghost use Rattle.dc_proto.specs.Commands.{heard, commands, read_by, words_of, is_comment as is_comment_of};
 
 use crate::arguments::{
-    read_fget, read_fset, read_get, read_metaget, read_reset, read_set, read_subst, refuse,
+    read_fget, read_fset, read_get, read_load_template_file, read_metaget, read_purge,
+    read_register, read_reset, read_set, read_subst, read_unregister, refuse,
 };
 use crate::reply::Reply;
 use dc_text::bytes::lowered;
-use dc_text::{FlagName, List, Mem, Text, VarKey};
+use dc_text::{FlagName, List, Mem, Name, Text, VarKey};
 use dc_words::{plain_words, unescape_words};
 use std::alloc::Global;
 
@@ -39,6 +40,18 @@ pub enum Command {
     Metaget {
         question: Text,
         field: Text,
+    },
+    /// The word of a template need not be a name: one that isn't names no template.
+    Register {
+        template: Text,
+        question: Name,
+    },
+    Unregister(Text),
+    Purge,
+    /// Without an owner the session's is meant.
+    LoadTemplateFile {
+        path: Text,
+        owner: Option<Name>,
     },
 }
 
@@ -105,6 +118,14 @@ fn read_words(alloc: Global, word: &Text, arguments: &[Text]) -> Mem<Heard>
         read_fset(alloc, arguments)
     } else if word == b"metaget".as_slice() {
         read_metaget(alloc, arguments)
+    } else if word == b"register".as_slice() {
+        read_register(alloc, arguments)
+    } else if word == b"unregister".as_slice() {
+        read_unregister(alloc, arguments)
+    } else if word == b"purge".as_slice() {
+        read_purge(alloc, arguments)
+    } else if word == b"x_loadtemplatefile".as_slice() {
+        read_load_template_file(alloc, arguments)
     } else {
         refuse(alloc, b"unsupported command")
     }

@@ -43,6 +43,15 @@ fn show_command(text: &mut Text, command: &Command) -> Mem<()> {
         Command::Metaget { question, field } => {
             show(text, "metaget", &[question.bytes(), field.bytes()])
         }
+        Command::Register { template, question } => {
+            show(text, "register", &[template.bytes(), question.bytes()])
+        }
+        Command::Unregister(question) => show(text, "unregister", &[question.bytes()]),
+        Command::Purge => show(text, "purge", &[]),
+        Command::LoadTemplateFile { path, owner } => match owner {
+            Some(owner) => show(text, "load", &[path.bytes(), owner.bytes()]),
+            None => show(text, "load", &[path.bytes()]),
+        },
     }
 }
 
@@ -70,6 +79,32 @@ fn lines_say_commands(rt: HostRuntime) {
         ("FSET a/b seen maybe", false, "fset|a/b|seen|maybe"),
         ("MetaGet a/b Description", false, "metaget|a/b|Description"),
         ("METAGET a/b", false, "20 wrong number of arguments\n"),
+        ("register a//b a/b", false, "register|a//b|a/b"),
+        ("UnRegister a//b", false, "unregister|a//b"),
+        ("PURGE", false, "purge"),
+        ("X_LoadTemplateFile /x", false, "load|/x"),
+        ("x_loadtemplatefile /x p", false, "load|/x|p"),
+        ("REGISTER a/b", false, "20 wrong number of arguments\n"),
+        (
+            "REGISTER a/b c/d e",
+            false,
+            "20 wrong number of arguments\n",
+        ),
+        ("REGISTER a/b c//d", false, "20 bad name\n"),
+        ("UNREGISTER", false, "20 wrong number of arguments\n"),
+        ("UNREGISTER a b", false, "20 wrong number of arguments\n"),
+        ("PURGE p", false, "20 wrong number of arguments\n"),
+        (
+            "X_LOADTEMPLATEFILE",
+            false,
+            "20 wrong number of arguments\n",
+        ),
+        (
+            "X_LOADTEMPLATEFILE x y z",
+            false,
+            "20 wrong number of arguments\n",
+        ),
+        ("X_LOADTEMPLATEFILE x y,z", false, "20 bad name\n"),
         ("", false, ""),
         (" \t", false, ""),
         ("# GET a/b", false, ""),

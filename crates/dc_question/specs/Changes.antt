@@ -1,5 +1,5 @@
 -- What calls write to questions: the row of writes of each, and what it leaves.
-use Rattle.std.specs.Prelude.{◌≡◌, ℕ, Bool, List, [], ◌∷◌, Option, Some, None, Result, Ok, Err, codes}
+use Rattle.std.specs.Prelude.{◌≡◌, ℕ, Bool, List, [], ◌∷◌, Option, Some, None, Result, Ok, Err, unwrap_or, codes}
 use Rattle.std.specs.FinMap as map
 use Rattle.dc_text.specs.Settled.{settled}
 use Rattle.dc_item.specs.Item.{ItemParts}
@@ -7,7 +7,7 @@ use Rattle.dc_item.specs.declared.op.Op.{Op}
 use Rattle.dc_item.specs.declared.op.Op.TheVariants.{Put, SetField, SetFlag, SetVar}
 use Rattle.dc_layer.specs.State.{LayerState}
 use Rattle.dc_store.specs.Plans.{StoreState}
-use Rattle.dc_store.specs.Rows.{Write, row_done}
+use Rattle.dc_store.specs.Rows.{Write, row_done, first_held_up}
 use Rattle.dc_question.specs.Readings.{kind_by}
 use Rattle.dc_question.specs.Questions.{Setting, question, template, read}
 use Rattle.dc_question.specs.declared.errors.QuestionError.{QuestionError}
@@ -17,12 +17,21 @@ use Rattle.dc_question.specs.declared.errors.QuestionError.TheVariants.{CantChan
 
 -- a write to a question, whose kind is that of its template
 abbrev pub question_write : List LayerState → Setting → List ℕ → ItemParts → Op → Write
-question_write layers at name item op = record { plan = at.config; name = name; kind = kind_by (template layers at item); op = op }
+question_write layers at name item op = record { plan = at.config; name = name; kind = kind_by (template layers at item); op = op; behalf = name ∷ [] }
 
 -- what a row leaves of which a refused write is told as a question that can't be changed
 abbrev pub done_or : List ℕ → Option StoreState → Result StoreState QuestionError
 done_or name None = Err (CantChange name)
 done_or name (Some store) = Ok store
+
+-- what a row leaves, of which a refusal is told by a question
+abbrev pub told_by : Option (List ℕ) → Option StoreState → Result StoreState QuestionError
+told_by held (Some store) = Ok store
+told_by held None = Err (CantChange (unwrap_or held []))
+
+-- What a row of writes leaves that is done for some questions: a refusal is told by the first of them for which a write is refused.
+abbrev pub row_for : StoreState → List (List ℕ) → List Write → Result StoreState QuestionError
+row_for store names row = told_by (first_held_up store.layers names row) (row_done store row)
 
 -- the question takes the operation
 abbrev pub changed : StoreState → Setting → List ℕ → Op → Result StoreState QuestionError

@@ -1,7 +1,8 @@
 -- What questions say, over the layers of a store (debconf-devel(7)). A question is an item of the configuration's plan, and its
 -- template is one of the templates' plan.
-use Rattle.std.specs.Prelude.{◌≡◌, ℕ, Bool, List, Option, Some, None, Result, Ok, Err, is_some, option_and_then}
+use Rattle.std.specs.Prelude.{◌≡◌, ℕ, Bool, List, Option, Some, None, Result, Ok, Err, is_some, option_and_then, if◌then◌else◌}
 use Rattle.std.specs.FinMap as map
+use Rattle.dc_text.specs.Names.{is_name}
 use Rattle.dc_conf.specs.declared.plans.Plan.{Plan}
 use Rattle.dc_item.specs.Item.{ItemParts}
 use Rattle.dc_template.specs.declared.kinds.Kind.{Kind}
@@ -36,6 +37,10 @@ exists layers at name = is_some (question layers at name)
 -- the template of an item
 abbrev pub template : List LayerState → Setting → ItemParts → Option ItemParts
 template layers at item = template_of (look layers at.templates) item
+
+-- the template of a name; a text that isn't one names none
+abbrev pub named_template : List LayerState → Setting → List ℕ → Option ItemParts
+named_template layers at name = if is_name name then look layers at.templates name else None
 
 -- the kind of a question
 abbrev pub kind : List LayerState → Setting → List ℕ → Option Kind

@@ -6,6 +6,7 @@ pub mod choices;
 pub mod errors;
 pub mod fields;
 pub mod laws;
+mod ownership;
 pub mod questions;
 pub mod setting;
 pub mod values;

@@ -28,6 +28,10 @@ above layers places name = before_first (has_at layers name) places
 abbrev pub below : List LayerState → List ℕ → List ℕ → List ℕ
 below layers places name = after_first (has_at layers name) places
 
+-- what is seen under the name below the holder
+abbrev pub look_below_of : List LayerState → List ℕ → List ℕ → Option ItemParts
+look_below_of layers places name = look_of layers (below layers places name) name
+
 -- a layer below the holder has an item of this name too
 abbrev pub has_below_of : List LayerState → List ℕ → List ℕ → Bool
 has_below_of layers places name = list_any (has_at layers name) (below layers places name)

@@ -9,11 +9,14 @@ use Rattle.dc_conf.specs.declared.plans.Base.{Base}
 use Rattle.dc_conf.specs.declared.plans.Plan.{Plan}
 use Rattle.dc_conf.specs.Plans.{places}
 use Rattle.dc_item.specs.Item.{ItemParts}
+use Rattle.dc_item.specs.After.{after_at}
+use Rattle.dc_item.specs.declared.op.After.{After}
+use Rattle.dc_item.specs.declared.op.After.TheVariants.{Same, Changed, Gone}
 use Rattle.dc_item.specs.declared.op.Op.{Op}
 use Rattle.dc_item.specs.declared.op.Op.TheVariants.{Put, SetField, DropField, SetFlag, SetVar, AddOwner, DropOwners}
 use Rattle.dc_template.specs.declared.kinds.Kind.{Kind}
 use Rattle.dc_layer.specs.State.{LayerState}
-use Rattle.dc_store.specs.Holders.{holder_of, look_of, has_below_of}
+use Rattle.dc_store.specs.Holders.{holder_of, look_of, look_below_of, has_below_of}
 use Rattle.dc_store.specs.Writes.{write_of, can_change_of}
 
 -- ---- what is seen
@@ -24,8 +27,21 @@ holder layers plan name = holder_of layers (places plan.base) name
 abbrev pub look : List LayerState → Plan → List ℕ → Option ItemParts
 look layers plan name = look_of layers (places plan.base) name
 
+abbrev pub look_below : List LayerState → Plan → List ℕ → Option ItemParts
+look_below layers plan name = look_below_of layers (places plan.base) name
+
 abbrev pub has_below : List LayerState → Plan → List ℕ → Bool
 has_below layers plan name = has_below_of layers (places plan.base) name
+
+-- what is seen where an operation made this of an item: the changed item, and where the item went the one below it
+abbrev pub seen_after : Option ItemParts → Option ItemParts → After → Option ItemParts
+seen_after item below Same = item
+seen_after item below (Changed made) = Some made
+seen_after item below Gone = below
+
+-- what is seen under the name once the operation is done
+abbrev pub look_after : List LayerState → Plan → List ℕ → Op → Option ItemParts
+look_after layers plan name op = seen_after (look layers plan name) (look_below layers plan name) (after_at op (look layers plan name))
 
 abbrev pub can_change : List LayerState → Plan → List ℕ → Option Kind → Bool
 can_change layers plan name kind = can_change_of layers (places plan.base) name kind

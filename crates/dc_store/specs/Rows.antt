@@ -1,7 +1,8 @@
 -- Several writes, of which all are done or none.
 use Rattle.std.specs.Prelude.{◌≡◌, ℕ, Bool, not, List, [], ◌∷◌, ◌++◌, ◌⊎◌, Option, Some, None, unwrap_or, map as each, if◌then◌else◌}
 use Rattle.std.specs.Option.{option_map_or}
-use Rattle.std.specs.List.{All, find, list_any, AllPairs, Contains}
+use Rattle.std.specs.List.{All, find, filter, flat_map, list_any, AllPairs, Contains}
+use Rattle.std.specs.Str.{bytes_eq}
 use Rattle.dc_conf.specs.declared.plans.Plan.{Plan}
 use Rattle.dc_item.specs.declared.op.Op.{Op}
 use Rattle.dc_template.specs.declared.kinds.Kind.{Kind}
@@ -9,12 +10,14 @@ use Rattle.dc_layer.specs.State.{LayerState}
 use Rattle.dc_conf.specs.Plans.{IsOver, places}
 use Rattle.dc_store.specs.Plans.{StoreState, write, would_take}
 
--- a write: an operation on the item of a name, of which the kind may be known, in a plan
+-- a write: an operation on the item of a name, of which the kind may be known, in a plan; and the names of the items for which it is
+-- done, by which its refusal is told
 pub record Write : Type 0 where
   pub plan : Plan
   pub name : List ℕ
   pub kind : Option Kind
   pub op : Op
+  pub behalf : List (List ℕ)
 
 -- whether the write would be refused
 abbrev pub is_refused : List LayerState → Write → Bool
@@ -32,6 +35,14 @@ all_done store (w ∷ row) = all_done (unwrap_or (write store w.plan w.name w.ki
 -- A row of writes: each is tested on the layers before the row, and all are done in order, or none where one is refused.
 abbrev pub row_done : StoreState → List Write → Option StoreState
 row_done store row = if list_any (is_refused store.layers) row then None else Some (all_done store row)
+
+-- the names for which a write is done that would be refused
+abbrev pub held_up : List LayerState → List Write → List (List ℕ)
+held_up layers row = flat_map (λ w. w.behalf) (filter (is_refused layers) row)
+
+-- the first of these names for which one is
+abbrev pub first_held_up : List LayerState → List (List ℕ) → List Write → Option (List ℕ)
+first_held_up layers names row = find (λ name. list_any (bytes_eq name) (held_up layers row)) names
 
 -- ---- which writes stand in a row
 

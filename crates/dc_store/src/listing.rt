@@ -26,8 +26,8 @@ pub fn names_in(alloc: Global, layers: &[Box<dyn Layer>], places: &[usize]) -> M
     Ok(names)
 }
 
-// Adds the names at the end.
-fn append(names: &mut List<Name>, more: &List<Name>) -> Mem<()>
+/// Adds the names at the end.
+pub fn append(names: &mut List<Name>, more: &List<Name>) -> Mem<()>
     ensures { OnOk result (names.new ≡ names.old ++ more.now) }
 {
     for name in more.as_slice() {

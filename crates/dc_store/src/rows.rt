@@ -2,26 +2,30 @@
 ghost use Rattle.std.specs.Prelude.{◌≡◌, Some, None, Err, IfOk, OnOk, OnErr, length, true, false, not, map as each};
 ghost use Rattle.std.specs.List.{All, list_any};
 ghost use Rattle.std.specs.Option.{option_copied};
+ghost use Rattle.std.specs.Str.{bytes_eq};
 ghost use Rattle.dc_conf.specs.Plans.{IsOver};
 ghost use Rattle.dc_store.specs.Plans.{write as write_of, stored};
-ghost use Rattle.dc_store.specs.Rows.{is_refused, first_refused, all_done, row_done, AllDistinct, AreOver, names_of};
+ghost use Rattle.dc_store.specs.Rows.{is_refused, first_refused, held_up, first_held_up, all_done, row_done, AllDistinct, AreOver, names_of};
 ghost use Rattle.dc_store.specs.StoreLaws.{AreSameBut, AreSameButAll};
 
+use crate::listing::append;
 use crate::store::{Store, StoreError};
 use dc_conf::plans::Plan;
 use dc_item::Op;
 use dc_layer::Layer;
 use dc_template::Kind;
-use dc_text::{Mem, Name, OutOfMemory};
+use dc_text::{List, Mem, Name, OutOfMemory};
 use std::marker::Model;
 
-/// A write: an operation on the item of a name, of which the kind may be known, in a plan.
+/// A write: an operation on the item of a name, of which the kind may be known, in a plan; and the names of the items for which it
+/// is done, by which its refusal is told.
 #[derive(Drop)]
 pub struct Write<'p> {
     pub plan: &'p Plan,
     pub name: Name,
     pub kind: Option<Kind>,
     pub op: Op,
+    pub behalf: List<Name>,
 }
 
 impl<'p> Model for Write<'p> {
@@ -33,7 +37,7 @@ impl<'p> Model for Write<'p> {
 
     ghost coded = { Prim.hlevel (codes, parts_code) };
 
-    ghost view = { λ w. record { plan = w.plan.now; name = w.name; kind = w.kind; op = w.op } };
+    ghost view = { λ w. record { plan = w.plan.now; name = w.name; kind = w.kind; op = w.op; behalf = w.behalf } };
 }
 
 impl Store {
@@ -66,6 +70,34 @@ impl Store {
             }
         }
         Ok(None)
+    }
+
+    /// The first of the names for which a write of the row would be refused.
+    pub fn first_held_up<'n>(&self, names: &'n [Name], row: &[Write<'_>]) -> Mem<Option<&'n Name>>
+        requires { AreOver row.now (length self.now.layers.items) }
+        ensures { IfOk result (λ found. option_copied found ≡ first_held_up (each state self.now.layers.items) names.now row.now) }
+    {
+        let held = self.held_up(row)?;
+        for name in names {
+            if is_among(name, held.as_slice()) {
+                return Ok(Some(name));
+            }
+        }
+        Ok(None)
+    }
+
+    // The names for which a write of the row would be refused.
+    fn held_up(&self, row: &[Write<'_>]) -> Mem<List<Name>>
+        requires { AreOver row.now (length self.now.layers.items) }
+        ensures { IfOk result (λ names. names ≡ held_up (each state self.now.layers.items) row.now) }
+    {
+        let mut names = List::new(self.alloc);
+        for write in row {
+            if self.refuses(write)? {
+                append(&mut names, &write.behalf)?;
+            }
+        }
+        Ok(names)
     }
 
     fn refuses(&self, write: &Write<'_>) -> Mem<bool>
@@ -104,4 +136,10 @@ impl Store {
         }
         Ok(())
     }
+}
+
+fn is_among(name: &Name, names: &[Name]) -> bool
+    ensures { result ≡ list_any (bytes_eq name.now) names.now }
+{
+    names.iter().any(|other| name.bytes() == other.bytes())
 }

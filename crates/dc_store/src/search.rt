@@ -2,7 +2,7 @@
 ghost use Rattle.std.specs.Prelude.{◌≡◌, IfOk, length, map as each};
 ghost use Rattle.std.specs.Option.{option_copied};
 ghost use Rattle.std.specs.List.{list_any};
-ghost use Rattle.dc_store.specs.Holders.{holder_of, look_of, has_below_of, has_at as has_of};
+ghost use Rattle.dc_store.specs.Holders.{holder_of, look_of, look_below_of, has_below_of, has_at as has_of};
 ghost use Rattle.dc_conf.specs.Plans.{AreWithin};
 ghost use Rattle.dc_store.specs.Writes.{home, open_holder};
 
@@ -41,6 +41,23 @@ pub fn seek_in<'a>(layers: &'a [Box<dyn Layer>], places: &[usize], name: &[u8]) 
     for place in places {
         if let Some(item) = item_at(layers, *place, name) {
             return Some(item);
+        }
+    }
+    None
+}
+
+/// The item that is seen below the topmost place that has it.
+pub fn look_below_in<'a>(
+    layers: &'a [Box<dyn Layer>],
+    places: &[usize],
+    name: &Name,
+) -> Option<&'a Item>
+    requires { AreWithin places.now (length layers.now) }
+    ensures { option_copied result ≡ look_below_of (each state layers.now) places.now name.now }
+{
+    for (index, place) in places.iter().enumerate() {
+        if has_at(layers, *place, name) {
+            return look_in(layers, &places[index + 1..], name);
         }
     }
     None

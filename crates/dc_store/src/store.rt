@@ -2,14 +2,16 @@
 ghost use Rattle.std.specs.Prelude.{◌≡◌, ◌++◌, Some, None, Err, IfOk, OnOk, OnErr, [], length, false, map as each};
 ghost use Rattle.std.specs.Option.{option_copied, IfSome};
 ghost use Rattle.dc_conf.specs.Plans.{IsOver, AreWithin, places as places_of};
-ghost use Rattle.dc_store.specs.Plans.{holder, look, has_below, can_change, would_take, names, owned, backed_up, told_line, write, stored};
+ghost use Rattle.dc_store.specs.Plans.{holder, look, look_below, has_below, can_change, would_take, names, owned, backed_up, told_line, write, stored};
 ghost use Rattle.dc_store.specs.StoreLaws.{AreSameBut};
 ghost use Rattle.dc_store.specs.Writes.{write_of};
 
 use crate::backup::back_up_in;
 use crate::bases::places;
 use crate::listing::{names_in, owned_in};
-use crate::search::{has_below_in, holder_in, home_in, look_in, open_holder_in, seek_in};
+use crate::search::{
+    has_below_in, holder_in, home_in, look_below_in, look_in, open_holder_in, seek_in,
+};
 use crate::telling::tell;
 use crate::writing::write_in;
 use dc_conf::plans::{Base, Plan};
@@ -22,7 +24,7 @@ use std::alloc::Global;
 /// The layers of the databases that are used, and the lines that were told. Each plan names layers by their places.
 #[derive(Drop)]
 pub struct Store {
-    alloc: Global,
+    pub(crate) alloc: Global,
     pub layers: Vec<Box<dyn Layer>>,
     /// What the plans that tell what is done told, until it is taken.
     pub told: Text,
@@ -82,6 +84,14 @@ impl Store {
         ensures { option_copied result ≡ look (each state self.now.layers.items) plan.now name.now }
     {
         seek_in(self.layers.as_slice(), places(&plan.base), name)
+    }
+
+    /// The item that is seen below the topmost layer of the base that has it.
+    pub fn look_below(&self, plan: &Plan, name: &Name) -> Option<&Item>
+        requires { IsOver plan.now (length self.now.layers.items) }
+        ensures { option_copied result ≡ look_below (each state self.now.layers.items) plan.now name.now }
+    {
+        look_below_in(self.layers.as_slice(), places(&plan.base), name)
     }
 
     /// Whether a layer of the base below the holder has an item of this name too.
