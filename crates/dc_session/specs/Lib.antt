@@ -1,5 +1,5 @@
 pub mod Answers
-pub mod Inside
 pub mod Machine
 pub mod Serving
 pub mod SessionState
+pub mod TemplateFiles

@@ -6,10 +6,11 @@ use Rattle.dc_layer.specs.State.{LayerState}
 use Rattle.dc_serve.specs.Run.{HasRun}
 use Rattle.dc_serve.specs.declared.outcome.LinkEnd.{LinkEnd}
 use Rattle.dc_session.specs.Machine.{Heeds, Breaks}
-use Rattle.dc_session.specs.SessionState.{SessionState}
+use Rattle.dc_session.specs.SessionState.{FilesState, SessionState}
 
--- a session that began so was served, and left these layers
-pub record IsServed (start : SessionState) (layers : List LayerState) (talk new_talk : Option (List Piece)) (input left : Option (List ℕ)) (ended : LinkEnd OutOfMemory) (code : ℕ) : Type 0 where
+-- a session that began so was served, and left these layers and files
+pub record IsServed (start : SessionState) (layers : List LayerState) (files : FilesState) (talk new_talk : Option (List Piece)) (input left : Option (List ℕ)) (ended : LinkEnd OutOfMemory) (code : ℕ) : Type 0 where
   pub state : SessionState
   pub layers_are : layers ≡ state.store.layers
+  pub files_are : files ≡ state.files
   pub ran : HasRun Heeds Breaks talk new_talk input left start ended state code
