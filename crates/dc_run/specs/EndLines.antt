@@ -10,6 +10,7 @@ use Rattle.dc_run.specs.declared.outcome.End.TheVariants as end
 use Rattle.dc_run.specs.declared.outcome.PatternAt.{PatternAt}
 use Rattle.dc_run.specs.declared.outcome.PatternAt.TheVariants.{Database, Word}
 use Rattle.dc_run.specs.Kinds.{kind_word}
+use Rattle.dc_run.specs.World.{LinkState}
 
 -- where the refused pattern stands
 abbrev pub place_text : PatternAt → List ℕ
@@ -41,3 +42,7 @@ pub record HasSaid (text : List ℕ) (old new : Option (List Piece)) (before now
   pub told_is : new ≡ then_pieces old pieces
   pub none_got : got pieces ≡ []
   pub whole : ((now ≡ before) × (sent pieces ≡ text)) ⊎ HasRisen before now
+
+-- a text was said on a link whose state is told
+abbrev pub HasSaidOn : List ℕ → LinkState → LinkState → Type 0
+HasSaidOn text old new = HasSaid text old.talk new.talk old.counts new.counts

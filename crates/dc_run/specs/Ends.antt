@@ -15,21 +15,23 @@ use Rattle.dc_serve.specs.declared.outcome.LinkEnd.{LinkEnd}
 use Rattle.dc_serve.specs.declared.outcome.LinkEnd.TheVariants as link
 use Rattle.dc_run.specs.declared.outcome.End.{End}
 use Rattle.dc_run.specs.declared.outcome.End.TheVariants as end
+use Rattle.dc_run.specs.declared.outcome.ToolEnd.{ToolEnd}
+use Rattle.dc_run.specs.declared.outcome.ToolEnd.TheVariants as tool
 use Rattle.dc_run.specs.declared.outcome.PatternAt.TheVariants.{Database}
 use Rattle.dc_shelf.specs.declared.shelf.NotSetUp.{NotSetUp}
 
--- the exit status of an end
+-- the exit status of an end, of a tool that gives this one where it did all that it was to do
 abbrev pub status_of : End → ℕ → ℕ
-status_of end.Done last_code = last_code
-status_of (end.Usage word) last_code = 120
-status_of (end.ConfRefused line kind) last_code = 121
-status_of (end.BadPattern place) last_code = 121
-status_of (end.PatternTooLarge place) last_code = 121
-status_of (end.Damaged path line) last_code = 121
-status_of end.OutOfMemory last_code = 122
-status_of (end.FilesFault path) last_code = 123
-status_of end.LinkFault last_code = 124
-status_of end.TooLong last_code = 125
+status_of end.Done status = status
+status_of (end.Usage word) status = 120
+status_of (end.ConfRefused line kind) status = 121
+status_of (end.BadPattern place) status = 121
+status_of (end.PatternTooLarge place) status = 121
+status_of (end.Damaged path line) status = 121
+status_of end.OutOfMemory status = 122
+status_of (end.FilesFault path) status = 123
+status_of end.LinkFault status = 124
+status_of end.TooLong status = 125
 
 -- the end of a run whose configuration is refused
 abbrev pub end_of_conf : ConfError → End
@@ -51,36 +53,41 @@ end_of_load (load.Failed path) = end.FilesFault path
 end_of_load (load.Damaged path line) = end.Damaged path line
 end_of_load load.OutOfMemory = end.OutOfMemory
 
--- the end of a run whose link ended so
-abbrev pub end_of : LinkEnd OutOfMemory → End
-end_of link.Done = end.Done
-end_of link.LinkFault = end.LinkFault
-end_of link.TooLong = end.TooLong
-end_of link.OutOfMemory = end.OutOfMemory
-end_of (link.Broken error) = end.OutOfMemory
+-- how a tool ended that serves a link, by the end of the link
+abbrev pub tool_end_of : LinkEnd OutOfMemory → ToolEnd
+tool_end_of link.Done = tool.Done
+tool_end_of link.LinkFault = tool.LinkFault
+tool_end_of link.TooLong = tool.TooLong
+tool_end_of link.OutOfMemory = tool.OutOfMemory
+tool_end_of (link.Broken error) = tool.OutOfMemory
 
--- The end of a run whose link ended so, and whose layers weren't saved. A fault of the link and too long an input came first and
+-- the end of a run whose tool ended so
+abbrev pub end_of : ToolEnd → End
+end_of tool.Done = end.Done
+end_of tool.LinkFault = end.LinkFault
+end_of tool.TooLong = end.TooLong
+end_of tool.OutOfMemory = end.OutOfMemory
+end_of (tool.FilesFault path) = end.FilesFault path
+
+-- The end of a run whose tool ended so, and whose layers weren't saved. A fault of the link and too long an input came first and
 -- stay.
-abbrev pub end_unsaved : LinkEnd OutOfMemory → SaveError → End
-end_unsaved link.Done (save.Failed path) = end.FilesFault path
-end_unsaved link.LinkFault (save.Failed path) = end.LinkFault
-end_unsaved link.TooLong (save.Failed path) = end.TooLong
-end_unsaved link.OutOfMemory (save.Failed path) = end.OutOfMemory
-end_unsaved (link.Broken error) (save.Failed path) = end.OutOfMemory
+abbrev pub end_unsaved : ToolEnd → SaveError → End
+end_unsaved tool.Done (save.Failed path) = end.FilesFault path
+end_unsaved ended (save.Failed path) = end_of ended
 end_unsaved ended save.OutOfMemory = end.OutOfMemory
 
--- the end of a run whose link ended so, by the answer of the save
-abbrev pub end_by : LinkEnd OutOfMemory → Result (Unit {0}) SaveError → End
+-- the end of a run whose tool ended so, by the answer of the save
+abbrev pub end_by : ToolEnd → Result (Unit {0}) SaveError → End
 end_by ended (Ok done) = end_of ended
 end_by ended (Err error) = end_unsaved ended error
 
--- the ends of a link after which the layers are saved
-abbrev pub IsEnded : LinkEnd OutOfMemory → Type 0
-IsEnded link.Done = Unit {0}
-IsEnded link.LinkFault = Unit {0}
-IsEnded link.TooLong = Unit {0}
-IsEnded link.OutOfMemory = ⊥
-IsEnded (link.Broken error) = ⊥
+-- the ends of a tool after which the layers are saved
+abbrev pub IsEnded : ToolEnd → Type 0
+IsEnded tool.Done = Unit {0}
+IsEnded tool.LinkFault = Unit {0}
+IsEnded tool.TooLong = Unit {0}
+IsEnded tool.OutOfMemory = ⊥
+IsEnded (tool.FilesFault path) = ⊥
 
 -- how the link counts the calls of a run, by its end: a fault where it failed, which the end tells unless what came after it found
 -- no memory, and a refusal where it found none itself

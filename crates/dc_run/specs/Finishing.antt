@@ -1,31 +1,30 @@
--- What a run does when its link has ended: the images of all layers are saved, in order, and then each layer is marked as saved.
+-- What a run does when its tool has ended: the images of all layers are saved, in order, and then each layer is marked as saved.
 use Rattle.std.specs.Prelude.{◌≡◌, ◌⊎◌, ℕ, List, map as each}
 use Rattle.dc_outside.specs.Counts.{FaultRose, RefusalRose}
-use Rattle.dc_text.specs.declared.memory.OutOfMemory.{OutOfMemory}
 use Rattle.dc_layer.specs.State.{LayerState, images, saved}
 use Rattle.dc_layer.specs.declared.image.Image.{Image}
 use Rattle.dc_save.specs.Saving.{all_images, after_images, FailsAmong, StopsAmong}
 use Rattle.dc_save.specs.declared.saving.SaveError.TheVariants as save
-use Rattle.dc_serve.specs.declared.outcome.LinkEnd.{LinkEnd}
-use Rattle.dc_serve.specs.declared.outcome.LinkEnd.TheVariants as link
 use Rattle.dc_run.specs.declared.outcome.End.{End}
 use Rattle.dc_run.specs.declared.outcome.End.TheVariants as end
+use Rattle.dc_run.specs.declared.outcome.ToolEnd.{ToolEnd}
+use Rattle.dc_run.specs.declared.outcome.ToolEnd.TheVariants as tool
 use Rattle.dc_run.specs.Ends.{end_of, end_unsaved}
-use Rattle.dc_run.specs.World.{FilesState}
+use Rattle.dc_session.specs.SessionState.{FilesState}
 
 -- the images that the layers ask for, in order
 abbrev pub images_of : List LayerState → List Image
 images_of layers = all_images (each images layers)
 
 -- the images are saved, and no call failed
-pub record IsSaved (layers used : List LayerState) (files new : FilesState) (ended : LinkEnd OutOfMemory) (how : End) : Type 0 where
+pub record IsSaved (layers used : List LayerState) (files new : FilesState) (ended : ToolEnd) (how : End) : Type 0 where
   pub end_is : how ≡ end_of ended
   pub files_are : new.told ≡ after_images files.told (images_of layers)
   pub counts : new.counts ≡ files.counts
   pub used_are : used ≡ each saved layers
 
 -- a call of the save failed for the image at this path
-pub record IsUnsaved (layers used : List LayerState) (files new : FilesState) (ended : LinkEnd OutOfMemory) (how : End) : Type 0 where
+pub record IsUnsaved (layers used : List LayerState) (files new : FilesState) (ended : ToolEnd) (how : End) : Type 0 where
   pub path : List ℕ
   pub end_is : how ≡ end_unsaved ended (save.Failed path)
   pub failed : FailsAmong (images_of layers) path files.told new.told
@@ -39,15 +38,14 @@ pub record IsWithoutMemory (layers used : List LayerState) (files new : FilesSta
   pub counts : RefusalRose files.counts new.counts ⊎ ((new.counts ≡ files.counts) × (new.told ≡ files.told))
   pub used_are : used ≡ layers
 
--- want of memory before the save: no file was written
-pub record IsBrokenOff (layers used : List LayerState) (files new : FilesState) (how : End) : Type 0 where
-  pub end_is : how ≡ end.OutOfMemory
+-- the tool didn't end so that its layers are saved: no file was written
+pub record IsBrokenOff (layers used : List LayerState) (files new : FilesState) (ended : ToolEnd) (how : End) : Type 0 where
+  pub end_is : how ≡ end_of ended
   pub files_are : new ≡ files
   pub used_are : used ≡ layers
 
--- what finishing does after these layers of a session, by the end of its link: the end of the run, the layers that are used, and the
--- files
-abbrev pub Finishes : List LayerState → List LayerState → LinkEnd OutOfMemory → FilesState → FilesState → End → Type 0
-Finishes layers used link.OutOfMemory files new how = IsBrokenOff layers used files new how
-Finishes layers used (link.Broken error) files new how = IsBrokenOff layers used files new how
+-- what finishing does after these layers and files of a tool that ended so: the end of the run, the layers that are used, and the files
+abbrev pub Finishes : List LayerState → List LayerState → ToolEnd → FilesState → FilesState → End → Type 0
+Finishes layers used tool.OutOfMemory files new how = IsBrokenOff layers used files new tool.OutOfMemory how
+Finishes layers used (tool.FilesFault path) files new how = IsBrokenOff layers used files new (tool.FilesFault path) how
 Finishes layers used ended files new how = IsSaved layers used files new ended how ⊎ IsUnsaved layers used files new ended how ⊎ IsWithoutMemory layers used files new how

@@ -12,7 +12,7 @@ use Rattle.dc_conf.specs.declared.spec.LayerSpec.{LayerSpec}
 use Rattle.dc_layer.specs.State.{LayerState}
 use Rattle.dc_save.specs.Loading.{IsTextAt}
 use Rattle.dc_save.specs.declared.loading.LoadError.{LoadError}
-use Rattle.dc_session.specs.SessionState.{SessionState}
+use Rattle.dc_session.specs.SessionState.{FilesState, SessionState}
 use Rattle.dc_shelf.specs.Shelves.{all_set_up, IsRefusedAt, LoadsAll}
 use Rattle.dc_shelf.specs.declared.shelf.NotSetUp.{NotSetUp}
 use Rattle.dc_store.specs.Plans.{stored}
@@ -20,7 +20,7 @@ use Rattle.dc_run.specs.declared.outcome.End.{End}
 use Rattle.dc_run.specs.declared.outcome.End.TheVariants as end
 use Rattle.dc_run.specs.declared.starting.Roots.{Roots}
 use Rattle.dc_run.specs.Ends.{end_of_conf, end_of_patterns, end_of_load}
-use Rattle.dc_run.specs.World.{FilesState, Stock}
+use Rattle.dc_run.specs.World.{Stock}
 
 -- ---- the configuration
 
@@ -44,9 +44,9 @@ conf_read files path = after_look files Read path true
 
 -- ---- the start of a session
 
--- the session over these layers, by the plans of questions and of templates
-abbrev pub begun : List LayerState → Roots → List ℕ → SessionState
-begun layers roots lang = record { store = stored layers []; at = record { config = roots.config; templates = roots.templates; lang = lang } }
+-- the session over these layers and files, by the plans of questions and of templates, for a user of the language and an owner
+abbrev pub begun : Stock → Roots → List ℕ → List ℕ → SessionState
+begun stock roots lang owner = record { store = stored stock.used []; files = stock.files; at = record { config = roots.config; templates = roots.templates; lang = lang }; owner = owner }
 
 -- ---- the ends of a run before its tool: nothing is written
 
