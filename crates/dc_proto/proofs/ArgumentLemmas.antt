@@ -1,6 +1,6 @@
 -- Commands with a wrong number of arguments.
 use Rattle.std.proofs.Common.{◌≡◌, ◌≤◌, ◌<◌, ℕ, List, [], ◌∷◌, length, refl, arith}
-use Rattle.dc_proto.specs.Commands.{get, reset, subst, fget, fset, metaget}
+use Rattle.dc_proto.specs.Commands.{get, reset, subst, fget, fset, metaget, register, unregister, purge, load_template_file}
 use Rattle.dc_proto.specs.Replies.{wrong_number}
 use Rattle.dc_proto.specs.declared.command.Heard.TheVariants.{Refused}
 
@@ -58,3 +58,29 @@ metaget_long [] long = absurd (omega arith)
 metaget_long (question ∷ []) long = absurd (omega arith)
 metaget_long (question ∷ field ∷ []) long = absurd (omega arith)
 metaget_long (question ∷ field ∷ more ∷ arguments) long = refl
+
+pub register_one : (arguments : List (List ℕ)) → 1 ≤ length arguments → length arguments < 2 → register arguments ≡ Refused wrong_number
+register_one [] least below = absurd (omega arith)
+register_one (template ∷ []) least below = refl
+register_one (template ∷ more ∷ arguments) least below = absurd (omega arith)
+
+pub register_long : (arguments : List (List ℕ)) → 3 ≤ length arguments → register arguments ≡ Refused wrong_number
+register_long [] long = absurd (omega arith)
+register_long (template ∷ []) long = absurd (omega arith)
+register_long (template ∷ question ∷ []) long = absurd (omega arith)
+register_long (template ∷ question ∷ more ∷ arguments) long = refl
+
+pub unregister_long : (arguments : List (List ℕ)) → 2 ≤ length arguments → unregister arguments ≡ Refused wrong_number
+unregister_long [] long = absurd (omega arith)
+unregister_long (question ∷ []) long = absurd (omega arith)
+unregister_long (question ∷ more ∷ arguments) long = refl
+
+pub purge_long : (arguments : List (List ℕ)) → 1 ≤ length arguments → purge arguments ≡ Refused wrong_number
+purge_long [] long = absurd (omega arith)
+purge_long (more ∷ arguments) long = refl
+
+pub load_long : (arguments : List (List ℕ)) → 3 ≤ length arguments → load_template_file arguments ≡ Refused wrong_number
+load_long [] long = absurd (omega arith)
+load_long (path ∷ []) long = absurd (omega arith)
+load_long (path ∷ owner ∷ []) long = absurd (omega arith)
+load_long (path ∷ owner ∷ more ∷ arguments) long = refl
