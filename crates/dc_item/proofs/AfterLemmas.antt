@@ -124,7 +124,7 @@ and_some : (b : Bool) (o : Option (Unit {0})) → is_some (cond b o None) ≡ (b
 and_some true o = refl
 and_some false o = refl
 
-has-without : (s : TextSet) (names : List (List ℕ)) (q : List ℕ) → contains_key (without s names) q ≡ (not (contains_key (set_of names) q) && contains_key s q)
+pub has-without : (s : TextSet) (names : List (List ℕ)) (q : List ℕ) → contains_key (without s names) q ≡ (not (contains_key (set_of names) q) && contains_key s q)
 has-without s names q =
     ap is_some (get-retain_keys s (λ owner. not (contains_key (set_of names) owner)) q (λ x t. ap (λ owner. not (contains_key (set_of names) owner)) (sym (exact_texts q x t))))
     ∙ and_some (not (contains_key (set_of names) q)) (get s q)
@@ -177,11 +177,11 @@ no_first parts names (k ∷ ks) t e =
     let h : (not (contains_key (set_of names) k) ≡ true) × (contains_key parts.owners k ≡ true) = both_true _ _ (sym (has-without parts.owners names k) ∙ has-first (without parts.owners names) k ks e) in
     absurd (not_named (contains_key (set_of names) k) h.0 (t.1 k h.1))
 
-false_from : (b : Bool) → (b ≡ true → ⊥) → b ≡ false
+pub false_from : (b : Bool) → (b ≡ true → ⊥) → b ≡ false
 false_from true h = absurd (h refl)
 false_from false h = refl
 
-named_out : (n h : Bool) → n ≡ true → (not n && h) ≡ false
+pub named_out : (n h : Bool) → n ≡ true → (not n && h) ≡ false
 named_out true h e = refl
 named_out false h e = absurd (cc)
 

@@ -2,7 +2,7 @@
 use Rattle.std.proofs.Common.{◌≡◌, ℕ, ◌+◌, ◌<◌, length, take, get_or, Bool, true, false, cond, List, [], ◌∷◌, ◌++◌, Some, None, Option, map as each, refl, sym, ap, ◌∙◌, subst}
 use Rattle.std.specs.Prelude.{is_some, not, ◌&&◌, ◌||◌}
 use Rattle.std.specs.List.{filter, list_all, list_any}
-use Rattle.std.proofs.lemmas.List.{take_more, append-nil}
+use Rattle.std.proofs.lemmas.List.{take_more}
 use Rattle.std.specs.declared.cmp.Ordering.{Ordering}
 use Rattle.std.specs.declared.cmp.Ordering.TheVariants.{Less, Equal, Greater}
 use Rattle.std.specs.Ordering.{eq_by_cmp, is_eq}
@@ -14,7 +14,7 @@ use Rattle.dc_text.specs.Names.{is_name, is_field_key, is_flag_name, is_variable
 use Rattle.dc_text.specs.Settled.{is_settled}
 use Rattle.dc_text.proofs.MapLemmas.{exact_texts, get-set_of, set_of-push, entries-in_order, from_entries-entries}
 use Rattle.dc_item.specs.After.{without, left_of}
-use Rattle.dc_item.specs.Item.{IsItem, no_parts, selves}
+use Rattle.dc_item.specs.Item.{ItemParts, IsItem, no_parts, selves}
 
 is_equal : (o : Ordering) → is_eq o ≡ true → o ≡ Equal
 is_equal Less e = absurd (cc)
@@ -180,6 +180,65 @@ with_flag_unset f v s t os k kept is = (
   kept.1,
 )
 
+-- ---- a set of owners with one more, and with one less
+
+pub insert_there : (s : TextSet) (k : List ℕ) → contains_key s k ≡ true → insert s k tt ≡ s
+insert_there s k there = same_map nat_list_cmp_total exact_texts _ _ (λ q. get-insert nat_list_cmp_total s k tt q
+    ∙ elim (eq_by_cmp text_cmp q k) as (λ b. eq_by_cmp text_cmp q k ≡ b → cond b here (get s q) ≡ get s q) [
+      | true ↦ λ t. some (get s q) (ap (contains_key s) (same_key q k t) ∙ there)
+      | false ↦ λ t. refl
+    ] refl) where
+      some : (o : Option (Unit {0})) → is_some o ≡ true → here ≡ o
+      some (Some u) e = refl
+      some None e = absurd (cc)
+
+pub remove_missing : (s : TextSet) (k : List ℕ) → contains_key s k ≡ false → remove s k ≡ s
+remove_missing s k missing = same_map nat_list_cmp_total exact_texts _ _ (λ q. get-remove nat_list_cmp_total s k q
+    ∙ elim (eq_by_cmp text_cmp q k) as (λ b. eq_by_cmp text_cmp q k ≡ b → cond b None (get s q) ≡ get s q) [
+      | true ↦ λ t. none (get s q) (ap (contains_key s) (same_key q k t) ∙ missing)
+      | false ↦ λ t. refl
+    ] refl) where
+      none : (o : Option (Unit {0})) → is_some o ≡ false → None ≡ o
+      none (Some u) e = absurd (cc)
+      none None e = refl
+
+with_set : (f v : Texts (List ℕ)) (s t : TextSet) (os ps : List (List ℕ)) → Kept f s v os → ps ≡ keys t → KeepsAll is_name t → Kept f s v ps
+with_set f v s t os ps kept is keeps = (
+  record { fields = kept.0.fields; flags = kept.0.flags; variables = kept.0.variables; owners = subst (KeepsAll is_name) (sym (set_of-is_keys ps t is)) keeps },
+  is ∙ ap keys (sym (set_of-is_keys ps t is)),
+)
+
+pub with_owner : (f v : Texts (List ℕ)) (s : TextSet) (os ps : List (List ℕ)) (k : List ℕ) → Kept f s v os → ps ≡ keys (insert (set_of os) k tt) → is_name k ≡ true → Kept f s v ps
+with_owner f v s os ps k kept is good = with_set f v s (insert (set_of os) k tt) os ps kept is (KeepsAll-insert is_name (set_of os) k kept.0.owners good)
+
+pub without_owner : (f v : Texts (List ℕ)) (s : TextSet) (os ps : List (List ℕ)) (k : List ℕ) → Kept f s v os → ps ≡ keys (remove (set_of os) k) → Kept f s v ps
+without_owner f v s os ps k kept is = with_set f v s (remove (set_of os) k) os ps kept is (KeepsAll-remove is_name (set_of os) k kept.0.owners)
+
+-- ---- an item with one owner more, and with one less, by its list of owners
+
+abbrev parts_of : Texts (List ℕ) → TextSet → Texts (List ℕ) → List (List ℕ) → ItemParts
+parts_of f s v os = record { fields = f; flags = s; variables = v; owners = set_of os }
+
+pub added : (f v : Texts (List ℕ)) (s : TextSet) (os ps : List (List ℕ)) (k : List ℕ) (item : ItemParts) → parts_of f s v os ≡ item → ps ≡ keys (insert (set_of os) k tt)
+    → parts_of f s v ps ≡ record item { owners = insert item.owners k tt }
+added f v s os ps k item seen is =
+    ap (λ set. record (parts_of f s v os) { owners = set }) (set_of-is_keys ps (insert (set_of os) k tt) is) ∙ ap (λ (p : ItemParts). record p { owners = insert p.owners k tt }) seen
+
+pub was_there : (f v : Texts (List ℕ)) (s : TextSet) (os : List (List ℕ)) (k : List ℕ) (item : ItemParts) → parts_of f s v os ≡ item → contains_key (set_of os) k ≡ true
+    → item ≡ record item { owners = insert item.owners k tt }
+was_there f v s os k item seen there =
+    sym seen ∙ ap (λ set. record (parts_of f s v os) { owners = set }) (sym (insert_there (set_of os) k there)) ∙ ap (λ (p : ItemParts). record p { owners = insert p.owners k tt }) seen
+
+pub taken : (f v : Texts (List ℕ)) (s : TextSet) (os ps : List (List ℕ)) (k : List ℕ) (item : ItemParts) → parts_of f s v os ≡ item → ps ≡ keys (remove (set_of os) k)
+    → parts_of f s v ps ≡ record item { owners = remove item.owners k }
+taken f v s os ps k item seen is =
+    ap (λ set. record (parts_of f s v os) { owners = set }) (set_of-is_keys ps (remove (set_of os) k) is) ∙ ap (λ (p : ItemParts). record p { owners = remove p.owners k }) seen
+
+pub was_missing : (f v : Texts (List ℕ)) (s : TextSet) (os : List (List ℕ)) (k : List ℕ) (item : ItemParts) → parts_of f s v os ≡ item → contains_key (set_of os) k ≡ false
+    → item ≡ record item { owners = remove item.owners k }
+was_missing f v s os k item seen missing =
+    sym seen ∙ ap (λ set. record (parts_of f s v os) { owners = set }) (sym (remove_missing (set_of os) k missing)) ∙ ap (λ (p : ItemParts). record p { owners = remove p.owners k }) seen
+
 -- ---- the members that pass
 
 filter-firsts : (p : List ℕ → Bool) (es : List (List ℕ × Unit {0})) → filter p (each (λ e. e.0) es) ≡ each (λ e. e.0) (where_key text_cmp p es)
@@ -264,24 +323,3 @@ selves_turn ts items i x key value held new same h is copy again so_far put =
 pub second-seen : {Y X : Type 0} (f : Y → List ℕ) (es : List (Y × X)) → each (λ e. e.1) es ≡ each (λ (e : List ℕ × X). e.1) (each (λ e. (f e.0, e.1)) es)
 second-seen f [] = refl
 second-seen f (e ∷ es) = ap (λ l. e.1 ∷ l) (second-seen f es)
-
--- ---- a turn of the loop over owners
-
-abbrev pub LeftTurn : List (List ℕ) → ℕ → List (List ℕ) → List (List ℕ) → Type 0
-LeftTurn owners i names new = (new ≡ left_of (take (i + 1) owners) names) × (list_all is_name new ≡ true)
-
-pub left_turn : (owners items names left new : List (List ℕ)) (i : ℕ) (x : List ℕ) (b : Bool) → items ≡ owners → i < length items → x ≡ get_or items i x → contains_key (set_of names) x ≡ b
-    → left ≡ left_of (take i owners) names → list_all is_name left ≡ true → new ≡ left ++ cond b [] (x ∷ []) → is_name x ≡ true → LeftTurn owners i names new
-left_turn owners items names left new i x b same h is has so_far all put name =
-    let p : List ℕ → Bool = λ owner. not (contains_key (set_of names) owner) in
-    let more : take (i + 1) owners ≡ take i owners ++ x ∷ [] = ap (take (i + 1)) (sym same) ∙ take_more items i x h ∙ (λ j. take i (same j) ++ sym is j ∷ []) in
-    let turned : cond (p x) (x ∷ []) [] ≡ cond b [] (x ∷ []) = ap (λ c. cond (not c) (x ∷ []) []) has ∙ flip b (x ∷ []) [] in (
-      put ∙ (λ j. so_far j ++ sym turned j) ∙ sym (filter_push p (take i owners) x) ∙ ap (filter p) (sym more),
-      ap (list_all is_name) put ∙ elim b as (λ c. list_all is_name (left ++ cond c [] (x ∷ [])) ≡ true) [
-        | true ↦ ap (list_all is_name) (append-nil left) ∙ all
-        | false ↦ list_all-push is_name left x all name
-      ],
-    ) where
-      flip : {A : Type 0} (c : Bool) (y z : A) → cond (not c) y z ≡ cond c z y
-      flip true y z = refl
-      flip false y z = refl

@@ -1,8 +1,10 @@
 pub mod AfterLemmas
+pub mod EffectLemmas
 pub mod FirstBad
 pub mod Groups
 pub mod ItemLemmas
 pub mod OpenRecord
+pub mod OwnerPlaces
 pub mod PieceLemmas
 pub mod PrintedBytes
 pub mod PrintedLines

@@ -11,6 +11,8 @@ use Rattle.dc_item.specs.declared.op.Op.{Op}
 use Rattle.dc_item.specs.declared.op.Op.TheVariants.{Put, SetField, DropField, SetFlag, SetVar, AddOwner, DropOwners}
 use Rattle.dc_item.specs.declared.op.After.{After}
 use Rattle.dc_item.specs.declared.op.After.TheVariants.{Same, Changed, Gone}
+use Rattle.dc_item.specs.declared.effect.Effect.{Effect}
+use Rattle.dc_item.specs.declared.effect.Effect.TheVariants as effect
 
 -- a set of flags in which the flag is exactly where it is to be set
 abbrev pub with_flag : TextSet → List ℕ → Bool → TextSet
@@ -67,6 +69,12 @@ after_none _ = Same
 abbrev pub after_at : Op → Option ItemParts → After
 after_at op (Some parts) = after op parts
 after_at op None = after_none op
+
+-- what it does to it, without the item that it makes
+abbrev pub effect_of : After → Effect
+effect_of Same = effect.Same
+effect_of (Changed item) = effect.Changed
+effect_of Gone = effect.Gone
 
 -- there is an owner, and the operation takes away each of them
 abbrev pub TakesAllOwners : Op → ItemParts → Type 0

@@ -3,12 +3,13 @@ ghost use Rattle.std.specs.Prelude.{◌≡◌, IfOk, OnOk, OnErr, true};
 ghost use Rattle.std.specs.List.{list_all};
 ghost use Rattle.std.specs.FinMap as map;
 ghost use Rattle.std.specs.Option.{option_copied};
+ghost use Rattle.dc_text.specs.Bytes.{is_nil};
 ghost use Rattle.dc_text.specs.Maps.{set_of};
 ghost use Rattle.dc_text.specs.Names.{is_flag_name};
 ghost use Rattle.dc_item.specs.After.{with_flag, without};
 ghost use Rattle.dc_item.specs.Item.{no_parts, IsItem};
 
-use crate::owners::{in_order, in_order_without};
+use crate::owners::{are_all_named, in_order, place_of};
 use dc_text::{FieldKey, FlagName, List, Mem, Name, Settled, SmallMap, VarKey};
 use std::alloc::Global;
 use std::marker::Model;
@@ -175,24 +176,49 @@ impl Item {
         Ok(())
     }
 
+    /// Whether the item has the owner.
+    pub fn has_owner(&self, owner: &[u8]) -> bool
+        ensures { result ≡ map.contains_key self.now.owners owner.now }
+    {
+        place_of(self.owners.as_slice(), owner).is_ok()
+    }
+
     // Adds the owner, if it isn't there.
     pub(crate) fn add_owner(&mut self, owner: &Name) -> Mem<()>
         ensures ok { OnOk result (self.new ≡ record self.old { owners = map.insert self.old.owners owner.now tt }) }
         ensures err { OnErr result (self.new ≡ self.old) }
     {
-        let mut names = self.owners.copy()?;
-        names.push(owner.copy()?)?;
-        self.put_owners(&names)?;
+        if let Err(place) = place_of(self.owners.as_slice(), owner.bytes()) {
+            self.owners.insert(place, owner.copy()?)?;
+        }
         Ok(())
     }
 
-    // Takes away the owners that the list names.
-    pub(crate) fn drop_owners(&mut self, names: &List<Name>) -> Mem<()>
-        ensures ok { OnOk result (self.new ≡ record self.old { owners = without self.old.owners names.now }) }
-        ensures err { OnErr result (self.new ≡ self.old) }
+    // Takes the owner away, if the item has it.
+    pub(crate) fn drop_owner(&mut self, owner: &[u8])
+        ensures { self.new ≡ record self.old { owners = map.remove self.old.owners owner.now } }
     {
-        self.owners = in_order_without(self.alloc, &self.owners, names)?;
-        Ok(())
+        if let Ok(place) = place_of(self.owners.as_slice(), owner) {
+            self.owners.remove(place);
+        }
+    }
+
+    // Takes away the owners that the list names. It begins at the end, since what stands behind an owner moves.
+    pub(crate) fn drop_owners(&mut self, names: &List<Name>)
+        ensures { self.new ≡ record self.old { owners = without self.old.owners names.now } }
+    {
+        let mut rest = names.as_slice();
+        while let Some((last, front)) = rest.split_last() {
+            self.drop_owner(last.bytes());
+            rest = front;
+        }
+    }
+
+    // Whether the list names all owners.
+    pub(crate) fn are_owners_named(&self, names: &List<Name>) -> Mem<bool>
+        ensures { IfOk result (λ are. are ≡ is_nil (map.keys (without self.now.owners names.now))) }
+    {
+        are_all_named(self.alloc, &self.owners, names)
     }
 
     // Makes these the flags that are true.

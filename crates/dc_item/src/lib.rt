@@ -1,6 +1,7 @@
 //! Items, which are the values of questions and templates, and the text of their records (debconf-devel(7)).
 #![tactic(auto)]
 
+pub mod effect;
 pub mod entry;
 pub mod item;
 pub mod laws;
@@ -13,6 +14,7 @@ mod record_line;
 pub mod records;
 mod same;
 
+pub use effect::Effect;
 pub use entry::Entry;
 pub use item::Item;
 pub use op::{After, Op};

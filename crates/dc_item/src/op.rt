@@ -1,8 +1,9 @@
 // Operations on items, and what they make of them.
-ghost use Rattle.std.specs.Prelude.{◌≡◌, IfOk};
+ghost use Rattle.std.specs.Prelude.{◌≡◌, IfOk, OnOk, OnErr};
 ghost use Rattle.std.specs.Option.{option_copied};
-ghost use Rattle.dc_item.specs.After.{asked, after as after_of, after_none, after_at, drops_owners};
+ghost use Rattle.dc_item.specs.After.{asked, after as after_of, after_none, after_at};
 
+use crate::effect::Effect;
 use crate::item::Item;
 use dc_text::{FieldKey, FlagName, List, Mem, Name, Settled, VarKey};
 
@@ -36,14 +37,11 @@ impl Item {
     pub fn after(&self, op: &Op) -> Mem<After>
         ensures { IfOk result (λ made. made ≡ after_of op.now self.now) }
     {
-        let item = self.asked(op)?;
-        if item.is_same(self) {
-            return Ok(After::Same);
+        match self.effect(op)? {
+            Effect::Same => Ok(After::Same),
+            Effect::Changed => Ok(After::Changed(self.asked(op)?)),
+            Effect::Gone => Ok(After::Gone),
         }
-        if op.drops_owners() && item.owners().len() == 0 {
-            return Ok(After::Gone);
-        }
-        Ok(After::Changed(item))
     }
 
     // The item that the operation asks for.
@@ -54,16 +52,25 @@ impl Item {
             return item.copy();
         }
         let mut item = self.copy()?;
-        match op {
-            Op::Put(_) => {}
-            Op::SetField(key, value) => item.put_field(key.copy()?, value.copy()?)?,
-            Op::DropField(key) => item.drop_field(key.bytes()),
-            Op::SetFlag(flag, is_set) => item.set_flag(flag, *is_set)?,
-            Op::SetVar(key, value) => item.put_variable(key.copy()?, value.copy()?)?,
-            Op::AddOwner(name) => item.add_owner(name)?,
-            Op::DropOwners(names) => item.drop_owners(names)?,
-        }
+        item.apply(op)?;
         Ok(item)
+    }
+
+    /// Makes the item the one that the operation asks for.
+    pub fn apply(&mut self, op: &Op) -> Mem<()>
+        ensures ok { OnOk result (self.new ≡ asked op.now self.old) }
+        ensures err { OnErr result (self.new ≡ self.old) }
+    {
+        match op {
+            Op::Put(item) => *self = item.copy()?,
+            Op::SetField(key, value) => self.put_field(key.copy()?, value.copy()?)?,
+            Op::DropField(key) => self.drop_field(key.bytes()),
+            Op::SetFlag(flag, is_set) => self.set_flag(flag, *is_set)?,
+            Op::SetVar(key, value) => self.put_variable(key.copy()?, value.copy()?)?,
+            Op::AddOwner(name) => self.add_owner(name)?,
+            Op::DropOwners(names) => self.drop_owners(names),
+        }
+        Ok(())
     }
 }
 
@@ -85,11 +92,5 @@ impl Op {
             Op::Put(item) => Ok(After::Changed(item.copy()?)),
             _ => Ok(After::Same),
         }
-    }
-
-    fn drops_owners(&self) -> bool
-        ensures { result ≡ drops_owners self.now }
-    {
-        matches!(self, Op::DropOwners(_))
     }
 }

@@ -1,14 +1,17 @@
 // Owners, which are kept in byte order.
-ghost use Rattle.std.specs.Prelude.{◌≡◌, IfOk, true};
+ghost use Rattle.std.specs.Prelude.{◌≡◌, IfOk, MatchResult, true};
 ghost use Rattle.std.specs.List.{list_all};
 ghost use Rattle.std.specs.FinMap as map;
-ghost use Rattle.dc_text.specs.Maps.{set_of};
+ghost use Rattle.dc_text.specs.Bytes.{is_nil};
+ghost use Rattle.dc_text.specs.Maps.{set_of, text_cmp};
 ghost use Rattle.dc_text.specs.Names.{is_name};
 ghost use Rattle.dc_item.specs.After.{left_of};
 ghost use Rattle.dc_item.specs.Item.{selves};
+ghost use Rattle.dc_item.specs.Owners.{IsPlaceOf, IsGapFor};
 
 use dc_text::{List, Mem, Name, TextMap};
 use std::alloc::Global;
+use std::cmp::Ordering;
 
 /// The names in byte order, each of them once.
 pub fn in_order(alloc: Global, names: &List<Name>) -> Mem<List<Name>>
@@ -33,17 +36,37 @@ fn by_name(alloc: Global, names: &List<Name>) -> Mem<TextMap<Name>>
     Ok(held)
 }
 
-/// The owners that the list doesn't name, in the order in which they stand.
-pub fn in_order_without(alloc: Global, owners: &List<Name>, names: &List<Name>) -> Mem<List<Name>>
-    ensures value { IfOk result (λ list. list ≡ left_of owners.now names.now) }
-    ensures names { IfOk result (λ list. list_all is_name list ≡ true) }
+fn named(alloc: Global, names: &List<Name>) -> Mem<TextMap<()>>
+    ensures { IfOk result (λ set. set ≡ set_of names.now) }
 {
-    let dropped = by_name(alloc, names)?;
-    let mut left = List::new(alloc);
+    let mut set = TextMap::new(alloc);
+    for name in names.as_slice() {
+        set.insert(name.copy()?.into_text(), ())?;
+    }
+    Ok(set)
+}
+
+/// Whether the list names all owners.
+pub fn are_all_named(alloc: Global, owners: &List<Name>, names: &List<Name>) -> Mem<bool>
+    ensures { IfOk result (λ are. are ≡ is_nil (left_of owners.now names.now)) }
+{
+    let set = named(alloc, names)?;
     for owner in owners.as_slice() {
-        if !dropped.contains(owner.bytes()) {
-            left.push(owner.copy()?)?;
+        if !set.contains(owner.bytes()) {
+            return Ok(false);
         }
     }
-    Ok(left)
+    Ok(true)
+}
+
+/// The place of the name among owners in byte order, or the place where it would go.
+pub fn place_of(owners: &[Name], name: &[u8]) -> Result<usize, usize>
+    requires { owners.now ≡ map.keys (set_of owners.now) }
+    ensures { MatchResult result (IsPlaceOf name.now owners.now) (IsGapFor name.now owners.now) }
+{
+    owners.binary_search_by(
+        |owner: &Name| -> Ordering
+            ensures { result ≡ text_cmp owner.now name.entry.now }
+        { owner.bytes().cmp(name) },
+    )
 }

@@ -1,16 +1,17 @@
 -- The names of a table's items, and those that were touched.
 use Rattle.std.proofs.Common.{◌≡◌, ℕ, Bool, true, false, cond, List, [], ◌∷◌, Some, None, map as each, refl, sym, ap, ◌∙◌, subst, Result, Ok, Err}
-use Rattle.std.specs.Prelude.{is_some, ◌&&◌, ◌||◌, OnOk, OnErr}
+use Rattle.std.specs.Prelude.{is_some, ◌&&◌, ◌||◌, OnOk, OnErr, MatchOption}
 use Rattle.std.specs.List.{list_all, list_any}
-use Rattle.std.specs.Str.{bytes_eq}
 use Rattle.std.specs.Ordering.{eq_by_cmp}
 use Rattle.std.specs.Cmp.{eq_by_cmp_equiv}
 use Rattle.std.specs.Cmp.Lexicographic.{nat_list_cmp_total}
-use Rattle.std.proofs.lemmas.Map.Text.{is_eq-slice_cmp}
-use Rattle.std.specs.FinMap.{get, insert, remove, contains_key, empty, entries, keys, contains_key-keys, get-empty, get-insert, get-remove}
-use Rattle.dc_text.specs.Maps.{TextSet, text_cmp}
+use Rattle.std.specs.FinMap.{get, insert, remove, contains_key, empty, entries, keys, contains_key-keys, same_map, get-empty, get-insert, get-remove}
+use Rattle.dc_text.specs.Maps.{text_cmp}
 use Rattle.dc_text.specs.Names.{is_name}
 use Rattle.dc_item.specs.Item.{ItemParts}
+use Rattle.dc_text.proofs.MapLemmas.{exact_texts}
+use Rattle.dc_item.specs.After.{asked}
+use Rattle.dc_item.specs.declared.op.Op.{Op}
 use Rattle.dc_item.proofs.ItemLemmas.{same_key}
 use Rattle.dc_layer.specs.State.{Table}
 
@@ -52,12 +53,36 @@ all_listed (k ∷ ks) named =
 pub names_are_names : (m : Table) → AreNamed m → list_all is_name (keys m) ≡ true
 names_are_names m named = all_listed (keys m) (λ q e. named q (contains_key-keys m q ∙ e))
 
--- a set has what is among its members
-pub contains_key-any : (s : TextSet) (q : List ℕ) → contains_key s q ≡ list_any (bytes_eq q) (keys s)
-contains_key-any s q = contains_key-keys s q ∙ any-same (keys s) where
-  any-same : (ks : List (List ℕ)) → list_any (eq_by_cmp text_cmp q) ks ≡ list_any (bytes_eq q) ks
-  any-same [] = refl
-  any-same (k ∷ ks) = (λ i. is_eq-slice_cmp q k i || any-same ks i)
+-- ---- an item written over
+
+cond_twice : {A : Type 0} (b : Bool) (x y z : A) → cond b x (cond b y z) ≡ cond b x z
+cond_twice true x y z = refl
+cond_twice false x y z = refl
+
+pub insert_twice : (m : Table) (k : List ℕ) (v w : ItemParts) → insert (insert m k v) k w ≡ insert m k w
+insert_twice m k v w = same_map nat_list_cmp_total exact_texts _ _ (λ q.
+    get-insert nat_list_cmp_total (insert m k v) k w q ∙ ap (cond (eq_by_cmp text_cmp q k) (Some w)) (get-insert nat_list_cmp_total m k v q)
+    ∙ cond_twice (eq_by_cmp text_cmp q k) (Some w) (Some v) (get m q) ∙ sym (get-insert nat_list_cmp_total m k w q))
+
+there_again : (m : Table) (k : List ℕ) (v : ItemParts) → get m k ≡ Some v → insert m k v ≡ m
+there_again m k v e = same_map nat_list_cmp_total exact_texts _ _ (λ q. get-insert nat_list_cmp_total m k v q
+    ∙ elim (eq_by_cmp text_cmp q k) as (λ b. eq_by_cmp text_cmp q k ≡ b → cond b (Some v) (get m q) ≡ get m q) [
+      | true ↦ λ t. sym (ap (get m) (same_key q k t) ∙ e)
+      | false ↦ λ t. refl
+    ] refl)
+
+pub has_inserted : (m : Table) (k : List ℕ) (v : ItemParts) → contains_key (insert m k v) k ≡ true
+has_inserted m k v = ap is_some (get-insert nat_list_cmp_total m k v k ∙ ap (λ b. cond b (Some v) (get m k)) ((eq_by_cmp_equiv nat_list_cmp_total).refl k))
+
+-- the item is what the operation asks for, where it was done, and what it was, where it wasn't
+pub applied_ok : {T E : Type 0} (r : Result T E) (m new : Table) (k : List ℕ) (op : Op) (old made : ItemParts) → get m k ≡ Some old → new ≡ insert m k made → OnOk r (made ≡ asked op old)
+    → OnOk r (MatchOption (get m k) (new ≡ m) (λ item. new ≡ insert m k (asked op item)))
+applied_ok (Ok x) m new k op old made was put is = subst (λ o. MatchOption o (new ≡ m) (λ item. new ≡ insert m k (asked op item))) (sym was) (put ∙ ap (insert m k) is)
+applied_ok (Err e) m new k op old made was put is = tt
+
+pub applied_err : {T E : Type 0} (r : Result T E) (m new : Table) (k : List ℕ) (old made : ItemParts) → get m k ≡ Some old → new ≡ insert m k made → OnErr r (made ≡ old) → OnErr r (new ≡ m)
+applied_err (Ok x) m new k old made was put is = tt
+applied_err (Err e) m new k old made was put is = put ∙ ap (insert m k) is ∙ there_again m k old was
 
 -- the names of entries, as a map shows them
 abbrev pub firsts : List (List ℕ × ItemParts) → List (List ℕ)

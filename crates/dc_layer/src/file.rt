@@ -2,6 +2,9 @@
 ghost use Rattle.std.specs.Prelude.{◌≡◌, IfOk, OnOk, OnErr, false, map as each};
 ghost use Rattle.std.specs.Option.{option_map_or};
 ghost use Rattle.std.specs.FinMap as map;
+ghost use Rattle.dc_item.specs.After.{after_at};
+ghost use Rattle.dc_item.specs.Item.{ItemParts};
+ghost use Rattle.dc_item.specs.declared.op.After.TheVariants.{Changed};
 ghost use Rattle.dc_layer.specs.State.{blank, touch, is_put, image_of};
 
 use crate::image::Image;
@@ -10,7 +13,7 @@ use crate::layer::{Layer, LayerError, Taken};
 use crate::pattern::PatternError;
 use crate::set_up::SetUp;
 use dc_conf::spec::{LayerSort, LayerSpec};
-use dc_item::{After, Item, Op, print_table};
+use dc_item::{Effect, Item, Op, print_table};
 use dc_template::Kind;
 use dc_text::{List, Mem, Name, Text};
 use indexmap::IndexSet;
@@ -45,22 +48,21 @@ impl FileLayer {
     }
 }
 
-// Puts the item at the name and touches it, or changes nothing.
-fn put_touched(
+// Changes the item at the name, or makes one, and touches it, or changes nothing.
+fn change_touched(
     table: &mut ItemTable,
     touched: &mut IndexSet<Vec<u8>>,
     name: &Name,
-    item: Item,
+    op: &Op,
 ) -> Mem<()>
-    ensures table { OnOk result (table.new ≡ map.insert table.old name.now item) }
+    ensures table { OnOk result ((item : ItemParts) → after_at op.now (map.get table.old name.now) ≡ Changed item → table.new ≡ map.insert table.old name.now item) }
     ensures touched { OnOk result (each (λ k. k.items) touched.new.keys ≡ touch (each (λ k. k.items) touched.old.keys) name.now) }
     ensures same_table { OnErr result (table.new ≡ table.old) }
     ensures same_touched { OnErr result (each (λ k. k.items) touched.new.keys ≡ each (λ k. k.items) touched.old.keys) }
 {
-    let key = name.copy()?;
     let mark = name.copy()?.into_text().into_vec();
     touched.reserve(1)?;
-    table.insert(key, item)?;
+    table.change(name, op)?;
     match touched.insert(mark) {
         Ok(_) => Ok(()),
         Err(_) => unreachable!(),
@@ -187,13 +189,13 @@ impl Layer for FileLayer {
         if !self.has(name) && !is_put_op(op) {
             return Err(LayerError::NotHere);
         }
-        match op.at(self.table.get(name.bytes()))? {
-            After::Same => Ok(Taken::Same),
-            After::Changed(item) => {
-                put_touched(&mut self.table, &mut self.touched, name, item)?;
+        match op.effect(self.table.get(name.bytes()))? {
+            Effect::Same => Ok(Taken::Same),
+            Effect::Changed => {
+                change_touched(&mut self.table, &mut self.touched, name, op)?;
                 Ok(Taken::Changed)
             }
-            After::Gone => {
+            Effect::Gone => {
                 remove_touched(&mut self.table, &mut self.touched, name)?;
                 Ok(Taken::Gone)
             }

@@ -1,13 +1,14 @@
 // The table of a layer.
-ghost use Rattle.std.specs.Prelude.{◌≡◌, IfOk, OnOk, OnErr, true};
+ghost use Rattle.std.specs.Prelude.{◌≡◌, IfOk, OnOk, OnErr, MatchOption, true};
 ghost use Rattle.std.specs.FinMap as map;
-ghost use Rattle.std.specs.List.{list_any};
 ghost use Rattle.std.specs.Option.{option_copied};
-ghost use Rattle.std.specs.Str.{bytes_eq};
 ghost use Rattle.dc_text.specs.Names.{is_name};
+ghost use Rattle.dc_item.specs.After.{after_at, asked};
+ghost use Rattle.dc_item.specs.Item.{ItemParts};
+ghost use Rattle.dc_item.specs.declared.op.After.TheVariants.{Changed};
 ghost use Rattle.dc_layer.specs.State.{owned as owned_of};
 
-use dc_item::Item;
+use dc_item::{Item, Op};
 use dc_text::{List, Mem, Name, NameRefused, OutOfMemory, TextMap};
 use std::alloc::Global;
 use std::marker::Model;
@@ -71,6 +72,32 @@ impl ItemTable {
         self.items.insert(name.into_text(), item)
     }
 
+    /// Does an operation that changes the item at the name, or makes one. It takes memory for what the operation names alone.
+    pub fn change(&mut self, name: &Name, op: &Op) -> Mem<()>
+        ensures ok { OnOk result ((item : ItemParts) → after_at op.now (map.get self.old name.now) ≡ Changed item → self.new ≡ map.insert self.old name.now item) }
+        ensures err { OnErr result (self.new ≡ self.old) }
+    {
+        match op {
+            Op::Put(item) => self.insert(name.copy()?, item.copy()?)?,
+            _ => self.apply(name.bytes(), op)?,
+        }
+        Ok(())
+    }
+
+    // Makes the item at the name, if there is one, the one that the operation asks for.
+    fn apply(&mut self, name: &[u8], op: &Op) -> Mem<()>
+        ensures ok { OnOk result (MatchOption (map.get self.old name.now) (self.new ≡ self.old) (λ item. self.new ≡ map.insert self.old name.now (asked op.now item))) }
+        ensures err { OnErr result (self.new ≡ self.old) }
+    {
+        if !self.items.contains(name) {
+            return Ok(());
+        }
+        let mut item = self.items.replace(name, Item::new(self.alloc));
+        let done = item.apply(op);
+        let _ = self.items.replace(name, item);
+        done
+    }
+
     /// Takes the item at the name away, if there is one.
     pub fn remove(&mut self, name: &[u8])
         ensures { self.new ≡ map.remove self.old name.now }
@@ -119,11 +146,5 @@ fn name_of(alloc: Global, bytes: &[u8]) -> Mem<Name>
 pub fn is_owned(item: &Item, owner: &Name) -> bool
     ensures { result ≡ map.contains_key item.now.owners owner.now }
 {
-    is_among(owner.bytes(), item.owners().as_slice())
-}
-
-fn is_among(name: &[u8], names: &[Name]) -> bool
-    ensures { result ≡ list_any (bytes_eq name.now) names.now }
-{
-    names.iter().any(|other| name == other.bytes())
+    item.has_owner(owner.bytes())
 }

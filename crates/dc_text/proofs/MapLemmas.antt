@@ -1,6 +1,6 @@
 -- A map of the library's, whose keys are seen as texts, as a finite map from texts.
 use Rattle.std.proofs.Common.{◌≡◌, ℕ, Bool, true, false, cond, List, [], ◌∷◌, ◌++◌, Some, None, Option, refl, sym, ap, ◌∙◌, subst, append_assoc}
-use Rattle.std.specs.Prelude.{◌||◌, ◌&&◌, T, map}
+use Rattle.std.specs.Prelude.{◌||◌, ◌&&◌, T, is_some, map}
 use Rattle.std.specs.List.{list_any, AllByRecursion}
 use Rattle.std.specs.List.Sorted.{IsStrictlySortedBy}
 use Rattle.std.specs.declared.cmp.Ordering.{Ordering}
@@ -8,7 +8,7 @@ use Rattle.std.specs.declared.cmp.Ordering.TheVariants.{Less, Equal, Greater}
 use Rattle.std.specs.Ordering.{eq_by_cmp, is_eq, is_lt, match_ordering, ordering_reverse}
 use Rattle.std.specs.Cmp.Lexicographic.{nat_list_cmp_total}
 use Rattle.std.specs.BTreeMap.{is_at, insert_entry}
-use Rattle.std.specs.Map.{lookup, remove_entry}
+use Rattle.std.specs.Map.{lookup, remove_entry, set_value}
 use Rattle.std.specs.FinMap.{FinMap, get, insert, remove, entries, from_entries, from_sorted, find, put, is_sorted, entries_sorted, entries-insert, entries-from_sorted, get-from_sorted, get-entries, get-from_entries, get-insert, get-remove, get-empty, same_map, IsAntisymmetric, slice_cmp-IsAntisymmetric, nat_cmp-IsAntisymmetric}
 use Rattle.std.specs.FinMap.Entries.{by_order, below_all, find-put}
 use Rattle.dc_text.specs.Maps.{text_cmp, set_of}
@@ -96,6 +96,39 @@ map-remove f es fs k is gone = same_map nat_list_cmp_total exact_texts _ _ (λ q
     ] refl
     ∙ ap (cond (eq_by_cmp text_cmp q k) None) (sym (get-from_entries nat_list_cmp_total (seen f es) q))
     ∙ sym (get-remove nat_list_cmp_total (from_entries (seen f es)) k q))
+
+-- ---- a value written over
+
+twice : {A : Type 0} (b : Bool) (x y z : A) → cond b x z ≡ cond b x (cond b y z)
+twice true x y z = refl
+twice false x y z = refl
+
+find-set_value : {Y X : Type 0} (f : Y → List ℕ) (k q : List ℕ) (v : X) (es : List (Y × X)) → is_some (find text_cmp k (seen f es)) ≡ true
+    → find text_cmp q (seen f (set_value (is_at (λ y. text_cmp k (f y))) es v)) ≡ cond (eq_by_cmp text_cmp q k) (Some v) (find text_cmp q (seen f es))
+find-set_value f k q v [] there = absurd (cc)
+find-set_value {X = X} f k q v (e ∷ es) there = elim (eq_by_cmp text_cmp k (f e.0)) as (λ b. eq_by_cmp text_cmp k (f e.0) ≡ b → is_some (cond b (Some e.1) (find text_cmp k (seen f es))) ≡ true
+    → find text_cmp q (seen f (cond b ((e.0, v) ∷ es) (e ∷ set_value (is_at (λ y. text_cmp k (f y))) es v)))
+    ≡ cond (eq_by_cmp text_cmp q k) (Some v) (cond (eq_by_cmp text_cmp q (f e.0)) (Some e.1) (find text_cmp q (seen f es)))) [
+      | true ↦ λ t h.
+          let same : k ≡ f e.0 = exact_texts k (f e.0) (is_equal _ t) in
+          twice (eq_by_cmp text_cmp q (f e.0)) (Some v) (Some e.1) (find text_cmp q (seen f es))
+          ∙ ap (λ x. cond (eq_by_cmp text_cmp q x) (Some v) (cond (eq_by_cmp text_cmp q (f e.0)) (Some e.1) (find text_cmp q (seen f es)))) (sym same)
+      | false ↦ λ t h.
+          let rest : Option X = find text_cmp q (seen f es) in
+          ap (cond (eq_by_cmp text_cmp q (f e.0)) (Some e.1)) (find-set_value f k q v es h)
+          ∙ elim (eq_by_cmp text_cmp q k) as (λ b. eq_by_cmp text_cmp q k ≡ b → cond (eq_by_cmp text_cmp q (f e.0)) (Some e.1) (cond b (Some v) rest) ≡ cond b (Some v) (cond (eq_by_cmp text_cmp q (f e.0)) (Some e.1) rest)) [
+            | true ↦ λ u. ap (λ c. cond c (Some e.1) (Some v)) (ap (λ p. eq_by_cmp text_cmp p (f e.0)) (exact_texts q k (is_equal _ u)) ∙ t)
+            | false ↦ λ u. refl
+          ] refl
+    ] refl there
+
+-- to write over the value at a key that is there is to insert it in the finite map
+pub map-set_value : {Y X : Type 0} (f : Y → List ℕ) (es fs : List (Y × X)) (k : List ℕ) (v : X) → fs ≡ set_value (is_at (λ y. text_cmp k (f y))) es v → is_some (get (from_entries {R = text_cmp} (seen f es)) k) ≡ true
+    → from_entries {R = text_cmp} (seen f fs) ≡ insert (from_entries (seen f es)) k v
+map-set_value f es fs k v is there = same_map nat_list_cmp_total exact_texts _ _ (λ q.
+    get-from_entries nat_list_cmp_total (seen f fs) q
+    ∙ ap (λ l. find text_cmp q (seen f l)) is ∙ find-set_value f k q v es (ap is_some (sym (get-from_entries nat_list_cmp_total (seen f es) k)) ∙ there)
+    ∙ sym (get-insert nat_list_cmp_total (from_entries (seen f es)) k v q ∙ ap (cond (eq_by_cmp text_cmp q k) (Some v)) (get-from_entries nat_list_cmp_total (seen f es) q)))
 
 -- ---- sets
 

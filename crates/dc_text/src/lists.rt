@@ -1,5 +1,6 @@
 // A list that grows at its end.
-ghost use Rattle.std.specs.Prelude.{◌≡◌, ◌∷◌, ◌++◌, [], OnOk, OnErr, IfOk, MatchOption, length, slice_get};
+ghost use Rattle.std.specs.Prelude.{◌≡◌, ◌<◌, ◌≤◌, ◌∷◌, ◌++◌, [], OnOk, OnErr, IfOk, MatchOption, length, slice_get};
+ghost use Rattle.std.specs.List as listed;
 ghost use Rattle.std.specs.Option.{option_copied};
 
 use crate::memory::Mem;
@@ -76,6 +77,24 @@ impl<T: Drop> List<T> {
         ensures { MatchOption result ((self.old ≡ []) × (self.new ≡ [])) (λ last. self.old ≡ self.new ++ last ∷ []) }
     {
         self.items.pop()
+    }
+
+    /// Puts the value at the place, before those that stand from there on.
+    pub fn insert(&mut self, place: usize, value: T) -> Mem<()>
+        requires { place ≤ length self.old }
+        ensures ok { OnOk result (self.new ≡ listed.insert self.old place value) }
+        ensures err { OnErr result (self.new ≡ self.old) }
+    {
+        self.items.insert(place, value)?;
+        Ok(())
+    }
+
+    /// Takes the value at the place away.
+    pub fn remove(&mut self, place: usize)
+        requires { place < length self.old }
+        ensures { self.new ≡ listed.remove self.old place }
+    {
+        let _ = self.items.remove(place);
     }
 }
 

@@ -1,5 +1,5 @@
 // Maps from texts, and sets of texts.
-ghost use Rattle.std.specs.Prelude.{◌≡◌, OnOk, OnErr, IfOk, map as each};
+ghost use Rattle.std.specs.Prelude.{◌≡◌, OnOk, OnErr, IfOk, Some, true, map as each};
 ghost use Rattle.std.specs.Option.{option_copied};
 ghost use Rattle.std.specs.FinMap as map;
 ghost use Rattle.dc_text.specs.Bytes.{is_nil};
@@ -64,6 +64,18 @@ impl<V: Drop> TextMap<V> {
     {
         self.entries.insert(key.into_vec(), value)?;
         Ok(())
+    }
+
+    /// Puts the value at a key that is there, and hands out the one that stood there. It takes no memory.
+    pub fn replace(&mut self, key: &[u8], value: V) -> V
+        requires { map.contains_key self.old key.now ≡ true }
+        ensures old { map.get self.old key.now ≡ Some result }
+        ensures new { self.new ≡ map.insert self.old key.now value }
+    {
+        match self.entries.get_mut(key) {
+            Some(place) => std::mem::replace(place, value),
+            None => unreachable!(),
+        }
     }
 
     /// Takes the key and its value away, if they are there.

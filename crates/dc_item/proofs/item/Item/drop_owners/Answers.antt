@@ -1,19 +1,19 @@
-use Rattle.std.proofs.Common.{◌≡◌, ap, ◌∙◌}
-use Rattle.std.specs.FinMap as map
-use Rattle.dc_text.specs.Maps.{set_of}
+use Rattle.std.proofs.Common.{sym, ap, ◌∙◌, ◌++◌, ◌∷◌, []}
 use Rattle.dc_item.specs.After.{without}
-use Rattle.dc_item.specs.Item.{ItemParts}
-use Rattle.dc_item.proofs.ItemLemmas.{with_owners, set_of-is_keys, left_is}
+use Rattle.dc_item.proofs.EffectLemmas.{without_last, without_none, nothing_in}
+use Rattle.dc_item.proofs.item.Item.drop_owners.Invariants.{dropped}
 use Rattle.dc_item.proofs.item.Item.drop_owners.Goals as goal
 
-pub invariant_of-self : goal.invariant_of-self
-invariant_of-self c = with_owners c.self.inside.fields c.self.inside.variables c.self.inside.flags (without (set_of c.self.inside.owners) c.args.names.now) c.self.inside.owners c.in_ok-self-inside.field-0
-    c.self.invariant (left_is c.self.inside.owners c.args.names.now c.in_ok-self-inside.field-0 c.self.invariant.1 c.in_ok-self-inside.ensures.value) c.in_ok-self-inside.ensures.names
+pub loop-last-preserved : goal.loop-last-preserved
+loop-last-preserved c =
+    let item = c.loop-last.self in
+    let last = c.bytes.result.now in
+    ap (λ p. dropped p c.in-Some.front.now) c.drop_owner.ensures
+    ∙ ap (λ s. record item { owners = s }) (without_last item.owners c.in-Some.front.now last)
+    ∙ ap (dropped item) (sym (c.in-Some.ensures.cases.0 ∙ ap (λ l. c.in-Some.front.now ++ l ∷ []) (sym c.bytes.ensures.value)))
+    ∙ c.loop-last.invariant
 
-pub returns-clause-ok : goal.returns-clause-ok
-returns-clause-ok c =
-    let parts : ItemParts = record { fields = c.self.inside.fields; flags = c.self.inside.flags; variables = c.self.inside.variables; owners = set_of c.self.inside.owners } in
-    let left : c.in_ok-self-inside.field-0 ≡ map.keys (without (set_of c.self.inside.owners) c.args.names.now)
-    = left_is c.self.inside.owners c.args.names.now c.in_ok-self-inside.field-0 c.self.invariant.1 c.in_ok-self-inside.ensures.value in
-    ap (λ os. record parts { owners = os }) (set_of-is_keys c.in_ok-self-inside.field-0 (without (set_of c.self.inside.owners) c.args.names.now) left)
-    ∙ ap (λ (p : ItemParts). record p { owners = without p.owners c.args.names.now }) c.self.view_is
+pub returns : goal.returns
+returns c =
+    let item = c.loop-last.self in
+    sym (ap (λ s. record item { owners = s }) (ap (without item.owners) (nothing_in c.loop-last.rest.now c.in_default.ensures.cases) ∙ without_none item.owners)) ∙ c.loop-last.invariant
