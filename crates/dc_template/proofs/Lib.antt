@@ -4,6 +4,7 @@ pub mod FaultLaws
 pub mod FieldLemmas
 pub mod FormLemmas
 pub mod KeyLemmas
+pub mod NameLemmas
 pub mod PrintLemmas
 pub mod PrintedFields
 pub mod PrintedForms

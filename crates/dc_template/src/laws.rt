@@ -1,5 +1,5 @@
 //! Laws of the definitions, which show that they mean what they say.
-ghost use Rattle.std.specs.Prelude.{◌≡◌, ◌∷◌, ◌++◌, ◌&&◌, ◌==◌, ◌⊎◌, [], List, ℕ, Some, true, false};
+ghost use Rattle.std.specs.Prelude.{◌≡◌, ◌∷◌, ◌++◌, ◌&&◌, ◌==◌, ◌⊎◌, [], List, ℕ, Some, true, false, map as each};
 ghost use Rattle.std.specs.List.{AllByRecursion};
 ghost use Rattle.dc_text.specs.Ascii.{dollar_sign, backslash, opening_brace, closing_brace};
 ghost use Rattle.dc_text.specs.Maps.{AreDistinct, Texts};
@@ -17,6 +17,11 @@ pub fn texts_have_one_answer()
     ensures one_fault { (text : List ℕ) (m n : ℕ) (j k : TemplateKind) → IsBad text m j → IsBad text n k → (m ≡ n) × (j ≡ k) }
     ensures not_both { (text : List ℕ) (templates : List Stanza) (n : ℕ) (kind : TemplateKind) → Reads text templates → IsBad text n kind → ⊥ }
     ensures some { (text : List ℕ) → ((templates : List Stanza) × Reads text templates) ⊎ ((n : ℕ) × (kind : TemplateKind) × IsBad text n kind) }
+{}
+
+/// No two templates of a text have one name.
+pub fn names_are_distinct()
+    ensures { (text : List ℕ) (templates : List Stanza) → Reads text templates → AreDistinct (each (λ t. t.name) templates) }
 {}
 
 /// What is printed of templates with names of their own is read again as the same templates.
