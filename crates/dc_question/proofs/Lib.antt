@@ -1,2 +1,5 @@
+pub mod ApartLemmas
+pub mod BindLemmas
 pub mod ChangeLemmas
+pub mod KindLemmas
 pub mod ReadingLemmas

@@ -1,6 +1,8 @@
 //! Questions: what each says and what is written to it, over the layers of a store (debconf-devel(7)).
 #![tactic(auto)]
 
+mod beside;
+mod binding;
 mod changes;
 pub mod choices;
 pub mod errors;
@@ -8,6 +10,7 @@ pub mod fields;
 pub mod laws;
 mod ownership;
 pub mod questions;
+mod rows;
 pub mod setting;
 pub mod values;
 

@@ -9,6 +9,7 @@ ghost use Rattle.dc_question.specs.Changes.{Does};
 ghost use Rattle.dc_question.specs.Ownership.{registered, loaded, unregistered, purged, load_row, leave_row};
 ghost use Rattle.dc_question.specs.Questions.{IsSetOver};
 
+use crate::binding::has_other_template;
 use crate::errors::QuestionError;
 use crate::questions::Questions;
 use dc_layer::Layer;
@@ -34,7 +35,13 @@ impl<'q> Questions<'q> {
         ensures setting { self.new.setting ≡ self.old.setting }
         ensures held { self.new.store.ghost_name ≡ self.old.store.ghost_name }
     {
-        Err(QuestionError::OutOfMemory)
+        let Some(template) = self.template_named(template)? else {
+            return Err(QuestionError::NoTemplate { name: name.copy()? });
+        };
+        if has_other_template(&template, self.question(name)) {
+            return Err(QuestionError::Twice { name: name.copy()? });
+        }
+        self.bind(&template, name, owner)
     }
 
     #[tactic(auto, using(dc_store::proofs::RowLemmas::same_all_refl))]

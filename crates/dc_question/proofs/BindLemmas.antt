@@ -1,0 +1,61 @@
+-- Questions that are bound to templates.
+use Rattle.std.proofs.Common.{◌≡◌, ℕ, Bool, true, false, List, [], ◌∷◌, ◌++◌, Option, Some, None, Result, Ok, Err, refl, sym, ap, subst, ◌∙◌, inr}
+use Rattle.std.specs.Prelude.{option_map, if◌then◌else◌}
+use Rattle.std.specs.FinMap.{empty}
+use Rattle.dc_text.specs.Maps.{Texts}
+use Rattle.dc_item.specs.Item.{ItemParts}
+use Rattle.dc_item.specs.declared.op.Op.{Op}
+use Rattle.dc_item.specs.declared.op.Op.TheVariants.{AddOwner}
+use Rattle.dc_template.specs.declared.kinds.Kind.{Kind}
+use Rattle.dc_conf.specs.Plans.{are_disjoint}
+use Rattle.dc_layer.specs.State.{LayerState}
+use Rattle.dc_store.specs.Plans.{StoreState}
+use Rattle.dc_store.specs.Rows.{Write, AllDistinct}
+use Rattle.dc_question.specs.Changes.{row_for, Does}
+use Rattle.dc_question.specs.KindsLeft.{with_kinds, write_by}
+use Rattle.dc_question.specs.Ownership.{template_write, write_beside, binding, bind_row, has_other_template, register_row, registered}
+use Rattle.dc_question.specs.Questions.{Setting, question, named_template, read_template}
+use Rattle.dc_question.specs.declared.errors.QuestionError.{QuestionError}
+use Rattle.dc_question.specs.declared.errors.QuestionError.TheVariants.{Twice}
+use Rattle.dc_question.proofs.ApartLemmas.{apart_too, two_distinct}
+use Rattle.dc_question.proofs.KindLemmas.{beside}
+
+pub bound : (ls : List LayerState) (at : Setting) (t n o : List ℕ) (op b : Op) (first second : Write) (kinds : Texts (Option Kind)) (item : Option ItemParts) (row whole : List Write)
+    → first ≡ template_write ls at t op (n ∷ []) → row ≡ first ∷ [] → kinds ≡ with_kinds ls at empty row → item ≡ question ls at n → b ≡ binding t o item
+    → second ≡ write_by ls at kinds n b → whole ≡ row ++ second ∷ [] → whole ≡ bind_row ls at t op n o
+bound ls at t n o op b first second kinds item row whole f r k q bi s w =
+    let one : List Write = template_write ls at t op (n ∷ []) ∷ [] in
+    let rows : row ≡ one = r ∙ ap (λ x. x ∷ []) f in
+    let op' : b ≡ binding t o (question ls at n) = bi ∙ ap (binding t o) q in
+    let last : second ≡ write_beside ls at one n (binding t o (question ls at n))
+    = s ∙ ap (λ m. write_by ls at m n b) (k ∙ ap (with_kinds ls at empty) rows) ∙ ap (write_by ls at (with_kinds ls at empty one) n) op'
+    ∙ beside ls at one n (binding t o (question ls at n)) in
+    w ∙ (λ i. rows i ++ last i ∷ [])
+
+pub bound_distinct : (ls : List LayerState) (at : Setting) (t n o : List ℕ) (op : Op) (row : List Write) → are_disjoint at.config at.templates ≡ true → row ≡ bind_row ls at t op n o → AllDistinct row
+bound_distinct ls at t n o op row h is = subst AllDistinct (sym is) (two_distinct _ _ (inr (apart_too at.config at.templates h)))
+
+-- the same row for the same questions
+pub does_row : {A : Type 0} (r : Result A QuestionError) (old new : StoreState) (names others : List (List ℕ)) (row rows : List Write)
+    → names ≡ others → row ≡ rows → Does r (row_for old names row) old new → Does r (row_for old others rows) old new
+does_row r old new names others row rows a b = subst (λ x. Does r x old new) (λ i. row_for old (a i) (b i))
+
+pub does_same : {A : Type 0} (r : Result A QuestionError) (old new : StoreState) (a b : Result StoreState QuestionError) → a ≡ b → Does r a old new → Does r b old new
+does_same r old new a b is = subst (λ x. Does r x old new) is
+
+-- a template that is there, under the name that it is asked for
+there : {A : Type 0} (n t t' : List ℕ) (found : Option ItemParts) (answer : Result A QuestionError) → option_map (λ _. t) found ≡ Some t' → (t' ≡ t) × (answer ≡ read_template n found (λ _. answer))
+there n t t' None answer h = absurd (cc)
+there n t t' (Some item) answer h = (cc, refl)
+
+pub registers : (old : StoreState) (at : Setting) (t n o t' : List ℕ) (found : Option (List ℕ)) (item : Option ItemParts) (has : Bool)
+    → found ≡ option_map (λ _. t) (named_template old.layers at t) → found ≡ Some t' → item ≡ question old.layers at n → has ≡ has_other_template t' item → has ≡ false
+    → row_for old (n ∷ []) (register_row old.layers at t' n o) ≡ registered old at t n o
+registers old at t n o t' found item has named some q other none =
+    let answer : Result StoreState QuestionError
+    = if has_other_template t (question old.layers at n) then Err (Twice n) else row_for old (n ∷ []) (register_row old.layers at t n o) in
+    let is = there n t t' (named_template old.layers at t) answer (sym named ∙ some) in
+    let bare : has_other_template t (question old.layers at n) ≡ false = (λ i. has_other_template (sym is.0 i) (sym q i)) ∙ sym other ∙ none in
+    ap (λ x. row_for old (n ∷ []) (register_row old.layers at x n o)) is.0
+    ∙ ap (λ b. if b then Err (Twice n) else row_for old (n ∷ []) (register_row old.layers at t n o)) (sym bare)
+    ∙ is.1

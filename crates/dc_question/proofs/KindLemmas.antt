@@ -1,0 +1,138 @@
+-- The kinds that writes to templates leave.
+use Rattle.std.proofs.Common.{◌≡◌, ℕ, Bool, true, false, cond, not, List, [], ◌∷◌, Option, Some, None, is_some, refl, sym, ap, subst, ◌∙◌}
+use Rattle.std.specs.Prelude.{◌&&◌, ◌||◌, option_map, option_and_then, unwrap_or, codes, if◌then◌else◌}
+use Rattle.std.specs.Option.{option_map_or, option_or}
+use Rattle.std.specs.List.{find}
+use Rattle.std.specs.Ordering.{eq_by_cmp}
+use Rattle.std.specs.Str.{bytes_eq}
+use Rattle.std.specs.FinMap.{get, insert, contains_key, empty, get-empty, get-insert}
+use Rattle.std.specs.Cmp.Lexicographic.{nat_list_cmp_total}
+use Rattle.std.proofs.lemmas.Slice.Eq.{bytes_eq-Decides}
+use Rattle.std.proofs.lemmas.Map.Text.{is_eq-slice_cmp}
+use Rattle.dc_text.specs.Maps.{Texts, text_cmp}
+use Rattle.dc_item.specs.Item.{ItemParts}
+use Rattle.dc_item.specs.After.{after_at}
+use Rattle.dc_item.specs.declared.op.After.{After}
+use Rattle.dc_item.specs.declared.op.After.TheVariants.{Same, Changed, Gone}
+use Rattle.dc_item.specs.declared.op.Op.{Op}
+use Rattle.dc_template.specs.declared.kinds.Kind.{Kind}
+use Rattle.dc_conf.specs.declared.plans.Plan.{Plan}
+use Rattle.dc_layer.specs.State.{LayerState}
+use Rattle.dc_store.specs.Plans.{look, look_below, look_after, seen_after}
+use Rattle.dc_store.specs.Rows.{Write, is_refused}
+use Rattle.dc_question.specs.KindsLeft.{kind_left, with_kind, with_kinds, known_kind, item_kind, write_by}
+use Rattle.dc_question.specs.Ownership.{is_taken_on, template_then, write_beside}
+use Rattle.dc_question.specs.Questions.{Setting}
+use Rattle.dc_question.specs.Readings.{kind_by, template_of}
+
+-- ---- what is seen then
+
+pub same_seen : {A : Type 0} (ls : List LayerState) (p : Plan) (name : List ℕ) (op : Op) (f : Option ItemParts → A) (item : Option ItemParts) (made : After)
+    → item ≡ look ls p name → made ≡ after_at op item → made ≡ Same → f item ≡ f (look_after ls p name op)
+same_seen ls p name op f item made found is same =
+    ap (λ m. f (seen_after item (look_below ls p name) m)) (sym same ∙ is) ∙ ap (λ i. f (seen_after i (look_below ls p name) (after_at op i))) found
+
+pub changed_seen : {A : Type 0} (ls : List LayerState) (p : Plan) (name : List ℕ) (op : Op) (f : Option ItemParts → A) (item : Option ItemParts) (made : After) (new : ItemParts)
+    → item ≡ look ls p name → made ≡ after_at op item → made ≡ Changed new → f (Some new) ≡ f (look_after ls p name op)
+changed_seen ls p name op f item made new found is changed =
+    ap (λ m. f (seen_after item (look_below ls p name) m)) (sym changed ∙ is) ∙ ap (λ i. f (seen_after i (look_below ls p name) (after_at op i))) found
+
+pub gone_seen : {A : Type 0} (ls : List LayerState) (p : Plan) (name : List ℕ) (op : Op) (f : Option ItemParts → A) (item below : Option ItemParts) (made : After)
+    → item ≡ look ls p name → below ≡ look_below ls p name → made ≡ after_at op item → made ≡ Gone → f below ≡ f (look_after ls p name op)
+gone_seen ls p name op f item below made found lower is gone =
+    ap f lower ∙ ap (λ m. f (seen_after item (look_below ls p name) m)) (sym gone ∙ is) ∙ ap (λ i. f (seen_after i (look_below ls p name) (after_at op i))) found
+
+-- ---- the map of kinds
+
+or_none : {X : Type 0} (o : Option X) → o ≡ option_or o None
+or_none None = refl
+or_none (Some x) = refl
+
+first_stays : {X : Type 0} (o last : Option X) → is_some o ≡ true → o ≡ option_or o last
+first_stays None last h = cc
+first_stays (Some x) last h = refl
+
+fresh_or : {X : Type 0} (o : Option X) (x : X) → is_some o ≡ false → Some x ≡ option_or o (Some x)
+fresh_or None x h = refl
+fresh_or (Some y) x h = cc
+
+-- what a taken write to the name leaves
+abbrev left_to : List LayerState → Setting → List ℕ → Option Write → Option (Option Kind)
+left_to ls at name found = option_map (λ (w : Write). kind_left ls at name w.op) found
+
+abbrev by_write : List LayerState → Setting → Write → List ℕ → Bool → Option (Option Kind)
+by_write ls at w name b = cond b (Some (kind_left ls at name w.op)) None
+
+module _ (ls : List LayerState) (at : Setting) (kinds : Texts (Option Kind)) (w : Write) (name : List ℕ) where
+  -- the name has a kind already
+  there_first : contains_key kinds w.name ≡ true → (same : Bool) → bytes_eq name w.name ≡ same → (b : Bool) → get kinds name ≡ option_or (get kinds name) (by_write ls at w name (same && b))
+  there_first has false other b = or_none (get kinds name)
+  there_first has true is b =
+      first_stays (get kinds name) (by_write ls at w name b) (ap (λ n. is_some (get kinds n)) ((bytes_eq-Decides name w.name).0 is) ∙ has)
+
+  no_write : (same : Bool) → get kinds name ≡ option_or (get kinds name) (by_write ls at w name (same && false))
+  no_write true = or_none (get kinds name)
+  no_write false = or_none (get kinds name)
+
+  put_in : contains_key kinds w.name ≡ false → (same : Bool) → bytes_eq name w.name ≡ same
+      → cond same (Some (kind_left ls at w.name w.op)) (get kinds name) ≡ option_or (get kinds name) (by_write ls at w name (same && true))
+  put_in fresh false other = or_none (get kinds name)
+  put_in fresh true is =
+      let same : name ≡ w.name = (bytes_eq-Decides name w.name).0 is in
+      ap (λ n. Some (kind_left ls at n w.op)) (sym same) ∙ fresh_or (get kinds name) (kind_left ls at name w.op) (ap (λ n. is_some (get kinds n)) same ∙ fresh)
+
+  inserted : get (insert kinds w.name (kind_left ls at w.name w.op)) name ≡ cond (bytes_eq name w.name) (Some (kind_left ls at w.name w.op)) (get kinds name)
+  inserted = get-insert nat_list_cmp_total kinds w.name (kind_left ls at w.name w.op) name ∙ ap (λ b. cond b (Some (kind_left ls at w.name w.op)) (get kinds name)) (is_eq-slice_cmp name w.name)
+
+  by_cases : (has refused : Bool) → contains_key kinds w.name ≡ has → is_refused ls w ≡ refused
+      → get (if has || refused then kinds else insert kinds w.name (kind_left ls at w.name w.op)) name ≡ option_or (get kinds name) (by_write ls at w name (bytes_eq name w.name && not refused))
+  by_cases true refused has e = there_first has (bytes_eq name w.name) refl (not refused)
+  by_cases false true has e = no_write (bytes_eq name w.name)
+  by_cases false false has e = inserted ∙ put_in has (bytes_eq name w.name) refl
+
+  with_kind_is : get (with_kind ls at kinds w) name ≡ option_or (get kinds name) (by_write ls at w name (is_taken_on ls name w))
+  with_kind_is = by_cases (contains_key kinds w.name) (is_refused ls w) refl refl
+
+or_then : (ls : List LayerState) (at : Setting) (name : List ℕ) (w : Write) (had : Option (Option Kind)) (taken : Bool) (rest : Option Write)
+    → option_or (option_or had (by_write ls at w name taken)) (left_to ls at name rest) ≡ option_or had (left_to ls at name (cond taken (Some w) rest))
+or_then ls at name w (Some k) taken rest = refl
+or_then ls at name w None true rest = refl
+or_then ls at name w None false rest = refl
+
+kinds_are : (ls : List LayerState) (at : Setting) (row : List Write) (kinds : Texts (Option Kind)) (name : List ℕ)
+    → get (with_kinds ls at kinds row) name ≡ option_or (get kinds name) (left_to ls at name (find (is_taken_on ls name) row))
+kinds_are ls at [] kinds name = or_none (get kinds name)
+kinds_are ls at (w ∷ row) kinds name =
+    kinds_are ls at row (with_kind ls at kinds w) name
+    ∙ ap (λ o. option_or o (left_to ls at name (find (is_taken_on ls name) row))) (with_kind_is ls at kinds w name)
+    ∙ or_then ls at name w (get kinds name) (is_taken_on ls name w) (find (is_taken_on ls name) row)
+
+-- ---- a write beside others
+
+module _ (ls : List LayerState) (at : Setting) (row : List Write) where
+  abbrev kinds : Texts (Option Kind)
+  kinds = with_kinds ls at empty row
+
+  left : (name : List ℕ) → get kinds name ≡ left_to ls at name (find (is_taken_on ls name) row)
+  left name = kinds_are ls at row empty name ∙ ap (λ o. option_or o (left_to ls at name (find (is_taken_on ls name) row))) (get-empty text_cmp name)
+
+  chosen : (name : List ℕ) (found : Option Write) (before : Option ItemParts)
+      → unwrap_or (left_to ls at name found) (kind_by before) ≡ kind_by (option_map_or (λ w. look_after ls at.templates name w.op) found before)
+  chosen name None before = refl
+  chosen name (Some w) before = refl
+
+  kind_known : (name : List ℕ) → known_kind ls at kinds name ≡ kind_by (template_then ls at row name)
+  kind_known name =
+      ap (λ o. unwrap_or o (kind_by (look ls at.templates name))) (left name) ∙ chosen name (find (is_taken_on ls name) row) (look ls at.templates name)
+
+  kind_of_name : (name : Option (List ℕ)) → option_and_then (known_kind ls at kinds) name ≡ kind_by (option_and_then (template_then ls at row) name)
+  kind_of_name None = refl
+  kind_of_name (Some name) = kind_known name
+
+  kind_of_item : (item : Option ItemParts) → item_kind ls at kinds item ≡ option_and_then (λ i. kind_by (template_of (template_then ls at row) i)) item
+  kind_of_item None = refl
+  kind_of_item (Some i) = kind_of_name (get i.fields (codes "template"))
+
+  -- a write by the kinds that others leave is the write beside them
+  pub beside : (name : List ℕ) (op : Op) → write_by ls at kinds name op ≡ write_beside ls at row name op
+  beside name op = ap (λ k. record { plan = at.config; name = name; kind = k; op = op; behalf = name ∷ [] }) (kind_of_item (look_after ls at.config name op))

@@ -1,0 +1,176 @@
+// Writes to templates, and to questions beside them.
+ghost use Rattle.std.specs.Prelude.{◌≡◌, ◌∷◌, [], IfOk, OnOk, length, not, map as each};
+ghost use Rattle.std.specs.FinMap as map;
+ghost use Rattle.std.specs.Option.{option_copied};
+ghost use Rattle.dc_item.specs.After.{after_at};
+ghost use Rattle.dc_conf.specs.Plans.{IsOver};
+ghost use Rattle.dc_store.specs.Rows.{AreOver, is_refused};
+ghost use Rattle.dc_question.specs.KindsLeft.{kind_left as kind_left_of, with_kind, with_kinds, item_kind as item_kind_of, write_by};
+ghost use Rattle.dc_question.specs.Ownership.{kept_after, template_write};
+ghost use Rattle.dc_question.specs.Questions.{IsSetOver};
+ghost use Rattle.dc_question.specs.Readings.{kind_by};
+ghost use Rattle.dc_store.specs.Plans.{look, look_below, look_after};
+
+use crate::questions::Questions;
+use crate::values::kind;
+use dc_item::{After, Item, Op};
+use dc_layer::Layer;
+use dc_store::Write;
+use dc_template::Kind;
+use dc_text::{List, Mem, Name, TextMap};
+use std::alloc::Global;
+
+impl<'q> Questions<'q> {
+    // A write to a template, for some questions.
+    pub(crate) fn template_write(&self, name: Name, op: Op, questions: List<Name>) -> Mem<Write<'q>>
+        requires over { IsSetOver self.now.setting (length self.now.store.now.layers.items) }
+        ensures { IfOk result (λ w. w ≡ template_write (each (λ b. state (b.vtable, b.value)) self.now.store.now.layers.items) self.now.setting name op questions) }
+    {
+        let kind = kept_kind(self.named_template(name.bytes()), &op)?;
+        Ok(Write {
+            plan: self.setting.templates,
+            name,
+            kind,
+            op,
+            behalf: questions,
+        })
+    }
+
+    // The kinds that writes to templates leave, of those that are taken.
+    pub(crate) fn kinds_left(&self, row: &[Write<'_>]) -> Mem<TextMap<Option<Kind>>>
+        requires over { IsSetOver self.now.setting (length self.now.store.now.layers.items) }
+        requires row { AreOver row.now (length self.now.store.now.layers.items) }
+        ensures { IfOk result (λ kinds. kinds ≡ with_kinds (each (λ b. state (b.vtable, b.value)) self.now.store.now.layers.items) self.now.setting map.empty row.now) }
+    {
+        let mut kinds = TextMap::new(self.alloc);
+        for write in row {
+            self.add_kind(&mut kinds, write)?;
+        }
+        Ok(kinds)
+    }
+
+    // Adds the kind that a write leaves, where it is taken and the first to its name.
+    fn add_kind(&self, kinds: &mut TextMap<Option<Kind>>, write: &Write<'_>) -> Mem<()>
+        requires over { IsSetOver self.now.setting (length self.now.store.now.layers.items) }
+        requires write { IsOver write.now.plan (length self.now.store.now.layers.items) }
+        ensures { OnOk result (kinds.new ≡ with_kind (each (λ b. state (b.vtable, b.value)) self.now.store.now.layers.items) self.now.setting kinds.old write.now) }
+    {
+        if kinds.contains(write.name.bytes()) || self.refuses(write)? {
+            return Ok(());
+        }
+        let kind = self.kind_left(&write.name, &write.op)?;
+        kinds.insert(write.name.copy()?.into_text(), kind)
+    }
+
+    fn refuses(&self, write: &Write<'_>) -> Mem<bool>
+        requires { IsOver write.now.plan (length self.now.store.now.layers.items) }
+        ensures { IfOk result (λ is. is ≡ (is_refused (each (λ b. state (b.vtable, b.value)) self.now.store.now.layers.items) write.now)) }
+    {
+        let would_take = self
+            .store
+            .would_take(write.plan, &write.name, write.kind, &write.op)?;
+        Ok(!would_take)
+    }
+
+    // The kind of a template once an operation on it is done.
+    fn kind_left(&self, name: &Name, op: &Op) -> Mem<Option<Kind>>
+        requires over { IsSetOver self.now.setting (length self.now.store.now.layers.items) }
+        ensures { IfOk result (λ kind. kind ≡ kind_left_of (each (λ b. state (b.vtable, b.value)) self.now.store.now.layers.items) self.now.setting name.now op.now) }
+    {
+        let item = self.template_seen(name);
+        match op.at(item)? {
+            After::Same => Ok(kind(item)),
+            After::Changed(made) => Ok(kind(Some(&made))),
+            After::Gone => Ok(kind(self.template_below(name))),
+        }
+    }
+
+    // What is seen of a template.
+    fn template_seen(&self, name: &Name) -> Option<&Item>
+        requires over { IsSetOver self.now.setting (length self.now.store.now.layers.items) }
+        ensures { option_copied result ≡ look (each (λ b. state (b.vtable, b.value)) self.now.store.now.layers.items) self.now.setting.templates name.now }
+    {
+        self.store.look(self.setting.templates, name)
+    }
+
+    // What is seen below the holder of a template.
+    fn template_below(&self, name: &Name) -> Option<&Item>
+        requires over { IsSetOver self.now.setting (length self.now.store.now.layers.items) }
+        ensures { option_copied result ≡ look_below (each (λ b. state (b.vtable, b.value)) self.now.store.now.layers.items) self.now.setting.templates name.now }
+    {
+        self.store.look_below(self.setting.templates, name)
+    }
+
+    // What is seen below the holder of a question.
+    fn question_below(&self, name: &Name) -> Option<&Item>
+        requires over { IsSetOver self.now.setting (length self.now.store.now.layers.items) }
+        ensures { option_copied result ≡ look_below (each (λ b. state (b.vtable, b.value)) self.now.store.now.layers.items) self.now.setting.config name.now }
+    {
+        self.store.look_below(self.setting.config, name)
+    }
+
+    // A write to a question beside writes that leave these kinds to templates.
+    pub(crate) fn write_beside(
+        &self,
+        kinds: &TextMap<Option<Kind>>,
+        name: &Name,
+        op: Op,
+    ) -> Mem<Write<'q>>
+        requires over { IsSetOver self.now.setting (length self.now.store.now.layers.items) }
+        ensures { IfOk result (λ w. w ≡ write_by (each (λ b. state (b.vtable, b.value)) self.now.store.now.layers.items) self.now.setting kinds.now name.now op) }
+    {
+        let kind = self.kind_then(kinds, name, &op)?;
+        Ok(Write {
+            plan: self.setting.config,
+            name: name.copy()?,
+            kind,
+            op,
+            behalf: only(self.alloc, name)?,
+        })
+    }
+
+    // The kind of a question once an operation on it is done.
+    fn kind_then(&self, kinds: &TextMap<Option<Kind>>, name: &Name, op: &Op) -> Mem<Option<Kind>>
+        requires over { IsSetOver self.now.setting (length self.now.store.now.layers.items) }
+        ensures { IfOk result (λ kind. kind ≡ item_kind_of (each (λ b. state (b.vtable, b.value)) self.now.store.now.layers.items) self.now.setting kinds.now (look_after (each (λ b. state (b.vtable, b.value)) self.now.store.now.layers.items) self.now.setting.config name.now op.now)) }
+    {
+        let item = self.question(name);
+        match op.at(item)? {
+            After::Same => Ok(self.item_kind(kinds, item)),
+            After::Changed(made) => Ok(self.item_kind(kinds, Some(&made))),
+            After::Gone => Ok(self.item_kind(kinds, self.question_below(name))),
+        }
+    }
+
+    // The kind of a question's item.
+    fn item_kind(&self, kinds: &TextMap<Option<Kind>>, item: Option<&Item>) -> Option<Kind>
+        requires over { IsSetOver self.now.setting (length self.now.store.now.layers.items) }
+        ensures { result ≡ item_kind_of (each (λ b. state (b.vtable, b.value)) self.now.store.now.layers.items) self.now.setting kinds.now (option_copied item.entry) }
+    {
+        let template = item?.field(b"template")?;
+        match kinds.get(template.bytes()) {
+            Some(kind) => *kind,
+            None => kind(self.named_template(template.bytes())),
+        }
+    }
+}
+
+// The kind of a template once an operation is done, and as it was where it goes.
+fn kept_kind(item: Option<&Item>, op: &Op) -> Mem<Option<Kind>>
+    ensures { IfOk result (λ kind. kind ≡ kind_by (kept_after (option_copied item.entry) (after_at op.now (option_copied item.entry)))) }
+{
+    match op.at(item)? {
+        After::Same => Ok(kind(item)),
+        After::Changed(made) => Ok(kind(Some(&made))),
+        After::Gone => Ok(kind(item)),
+    }
+}
+
+/// A list of one name.
+pub fn only(alloc: Global, name: &Name) -> Mem<List<Name>>
+    ensures { IfOk result (λ names. names ≡ name.now ∷ []) }
+{
+    let mut names = List::new(alloc);
+    names.push(name.copy()?)?;
+    Ok(names)
+}

@@ -1,0 +1,124 @@
+// Questions that are bound to templates and owners.
+ghost use Rattle.std.specs.Prelude.{◌≡◌, ◌∷◌, [], IfOk, length, map as each, option_map, true, false};
+ghost use Rattle.std.specs.Option.{option_copied};
+ghost use Rattle.dc_item.specs.After.{asked, drops_owners};
+ghost use Rattle.dc_conf.specs.Plans.{are_disjoint};
+ghost use Rattle.dc_store.specs.Plans.{stored};
+ghost use Rattle.dc_store.specs.StoreLaws.{AreSameButAll};
+ghost use Rattle.dc_question.specs.Changes.{Does, row_for};
+ghost use Rattle.dc_question.specs.Ownership.{register_row, binding as binding_of, new_question as new_question_of, has_other_template as has_other_template_of, bind_row as bind_row_of};
+ghost use Rattle.dc_question.specs.Questions.{IsSetOver, named_template as named_template_of};
+
+use crate::beside::only;
+use crate::errors::QuestionError;
+use crate::questions::Questions;
+use dc_item::{After, Item, Op};
+use dc_layer::Layer;
+use dc_store::Write;
+use dc_text::{FieldKey, List, Mem, Name, NameRefused, OutOfMemory, settle};
+use std::alloc::Global;
+
+impl<'q> Questions<'q> {
+    // The name of a template that is there.
+    pub(crate) fn template_named(&self, bytes: &[u8]) -> Mem<Option<Name>>
+        requires over { IsSetOver self.now.setting (length self.now.store.now.layers.items) }
+        ensures { IfOk result (λ found. found ≡ option_map (λ _. bytes.now) (named_template_of (each (λ b. state (b.vtable, b.value)) self.now.store.now.layers.items) self.now.setting bytes.now)) }
+    {
+        match Name::read(self.alloc, bytes) {
+            Err(NameRefused::OutOfMemory) => Err(OutOfMemory),
+            Err(NameRefused::Bad) => Ok(None),
+            Ok(name) => match self.named_template(bytes) {
+                None => Ok(None),
+                Some(_) => Ok(Some(name)),
+            },
+        }
+    }
+
+    #[tactic(auto, using(dc_store::proofs::RowLemmas::same_all_refl))]
+    // Binds the question to a template that is there and to the owner.
+    pub(crate) fn bind(
+        &mut self,
+        template: &Name,
+        name: &Name,
+        owner: &Name,
+    ) -> Result<(), QuestionError>
+        requires over { IsSetOver self.old.setting (length self.old.store.now.layers.items) }
+        requires apart { are_disjoint self.old.setting.config self.old.setting.templates ≡ true }
+        ensures does { Does result (row_for (stored (each (λ b. state (b.vtable, b.value)) self.old.store.now.layers.items) self.old.store.now.told) (name.now ∷ []) (register_row (each (λ b. state (b.vtable, b.value)) self.old.store.now.layers.items) self.old.setting template.now name.now owner.now)) (stored (each (λ b. state (b.vtable, b.value)) self.old.store.now.layers.items) self.old.store.now.told) (stored (each (λ b. state (b.vtable, b.value)) self.new.store.now.layers.items) self.new.store.now.told) }
+        ensures others { AreSameButAll (template.now ∷ name.now ∷ []) (each (λ b. state (b.vtable, b.value)) self.old.store.now.layers.items) (each (λ b. state (b.vtable, b.value)) self.new.store.now.layers.items) }
+        ensures count { length self.new.store.now.layers.items ≡ length self.old.store.now.layers.items }
+        ensures setting { self.new.setting ≡ self.old.setting }
+        ensures held { self.new.store.ghost_name ≡ self.old.store.ghost_name }
+    {
+        let op = Op::AddOwner(name.copy()?);
+        let row = self.bind_row(template, op, name, owner)?;
+        let names = only(self.alloc, name)?;
+        self.do_row(names.as_slice(), row.as_slice())
+    }
+
+    // The two writes that bind a question to a template, on which an operation is done, and to an owner.
+    pub(crate) fn bind_row(
+        &self,
+        template: &Name,
+        op: Op,
+        name: &Name,
+        owner: &Name,
+    ) -> Mem<List<Write<'q>>>
+        requires over { IsSetOver self.now.setting (length self.now.store.now.layers.items) }
+        ensures { IfOk result (λ row. row ≡ bind_row_of (each (λ b. state (b.vtable, b.value)) self.now.store.now.layers.items) self.now.setting template.now op name.now owner.now) }
+    {
+        let first = self.template_write(template.copy()?, op, only(self.alloc, name)?)?;
+        let mut row = List::new(self.alloc);
+        row.push(first)?;
+        let kinds = self.kinds_left(row.as_slice())?;
+        let binding = binding(self.alloc, template, owner, self.question(name))?;
+        let second = self.write_beside(&kinds, name, binding)?;
+        row.push(second)?;
+        Ok(row)
+    }
+}
+
+// What binds a question to a template and an owner.
+fn binding(alloc: Global, template: &Name, owner: &Name, item: Option<&Item>) -> Mem<Op>
+    ensures { IfOk result (λ op. op ≡ binding_of template.now owner.now (option_copied item.entry)) }
+{
+    match item {
+        None => Ok(Op::Put(new_question(alloc, template, owner)?)),
+        Some(_) => Ok(Op::AddOwner(owner.copy()?)),
+    }
+}
+
+// The item of a new question of a template.
+fn new_question(alloc: Global, template: &Name, owner: &Name) -> Mem<Item>
+    ensures { IfOk result (λ item. item ≡ new_question_of template.now owner.now) }
+{
+    let key = FieldKey::known(alloc, b"template")?;
+    let bound = Op::SetField(key, settle(alloc, template.bytes())?);
+    let owned = Op::AddOwner(owner.copy()?);
+    done(done(Item::new(alloc), &bound)?, &owned)
+}
+
+/// The item once an operation is done by which it doesn't go.
+pub fn done(item: Item, op: &Op) -> Mem<Item>
+    requires { drops_owners op.now ≡ false }
+    ensures { IfOk result (λ made. made ≡ asked op.now item) }
+{
+    match item.after(op)? {
+        After::Same => Ok(item),
+        After::Changed(made) => Ok(made),
+        After::Gone => unreachable!(),
+    }
+}
+
+/// Whether the question is bound to another template.
+pub fn has_other_template(template: &Name, item: Option<&Item>) -> bool
+    ensures { result ≡ has_other_template_of template.now (option_copied item.entry) }
+{
+    match item {
+        None => false,
+        Some(item) => match item.field(b"template") {
+            None => true,
+            Some(bound) => template.bytes() != bound.bytes(),
+        },
+    }
+}

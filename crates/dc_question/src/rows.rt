@@ -1,0 +1,70 @@
+// Rows of writes that are done for questions.
+ghost use Rattle.std.specs.Prelude.{◌≡◌, ◌⊎◌, [], Some, None, Err, OnOk, length, unwrap_or, map as each};
+ghost use Rattle.dc_store.specs.Plans.{stored};
+ghost use Rattle.dc_store.specs.Rows.{AreOver, AllDistinct, names_of, row_done, first_held_up};
+ghost use Rattle.dc_store.specs.StoreLaws.{AreSameButAll};
+ghost use Rattle.dc_store.specs.declared.store.StoreError.{StoreError};
+ghost use Rattle.dc_question.specs.Changes.{Does, row_for};
+ghost use Rattle.dc_question.specs.declared.errors.QuestionError.{QuestionError};
+
+use crate::errors::QuestionError;
+use crate::questions::Questions;
+use dc_layer::Layer;
+use dc_store::{StoreError, Write};
+use dc_text::Name;
+
+impl<'q> Questions<'q> {
+    #[tactic(auto, using(dc_store::proofs::RowLemmas::same_all_refl))]
+    // Does all the writes, or none. A refusal names the first of the questions for which a write is refused.
+    pub(crate) fn do_row(&mut self, names: &[Name], row: &[Write<'_>]) -> Result<(), QuestionError>
+        requires over { AreOver row.now (length self.old.store.now.layers.items) }
+        requires distinct { AllDistinct row.now }
+        ensures does { Does result (row_for (stored (each (λ b. state (b.vtable, b.value)) self.old.store.now.layers.items) self.old.store.now.told) names.now row.now) (stored (each (λ b. state (b.vtable, b.value)) self.old.store.now.layers.items) self.old.store.now.told) (stored (each (λ b. state (b.vtable, b.value)) self.new.store.now.layers.items) self.new.store.now.told) }
+        ensures others { AreSameButAll (names_of row.now) (each (λ b. state (b.vtable, b.value)) self.old.store.now.layers.items) (each (λ b. state (b.vtable, b.value)) self.new.store.now.layers.items) }
+        ensures count { length self.new.store.now.layers.items ≡ length self.old.store.now.layers.items }
+        ensures setting { self.new.setting ≡ self.old.setting }
+        ensures held { self.new.store.ghost_name ≡ self.old.store.ghost_name }
+    {
+        match self.write_row(row) {
+            Ok(()) => Ok(()),
+            Err(StoreError::OutOfMemory) => Err(QuestionError::OutOfMemory),
+            Err(StoreError::Refused) => Err(self.held_up(names, row)),
+        }
+    }
+
+    // Does all the writes in the store, or none.
+    fn write_row(&mut self, row: &[Write<'_>]) -> Result<(), StoreError>
+        requires over { AreOver row.now (length self.old.store.now.layers.items) }
+        requires distinct { AllDistinct row.now }
+        ensures ok { OnOk result (row_done (stored (each (λ b. state (b.vtable, b.value)) self.old.store.now.layers.items) self.old.store.now.told) row.now ≡ Some (stored (each (λ b. state (b.vtable, b.value)) self.new.store.now.layers.items) self.new.store.now.told)) }
+        ensures refused { result ≡ Err StoreError.Refused → row_done (stored (each (λ b. state (b.vtable, b.value)) self.old.store.now.layers.items) self.old.store.now.told) row.now ≡ None }
+        ensures unchanged { result ≡ Err StoreError.Refused → (stored (each (λ b. state (b.vtable, b.value)) self.new.store.now.layers.items) self.new.store.now.told) ≡ (stored (each (λ b. state (b.vtable, b.value)) self.old.store.now.layers.items) self.old.store.now.told) }
+        ensures others { AreSameButAll (names_of row.now) (each (λ b. state (b.vtable, b.value)) self.old.store.now.layers.items) (each (λ b. state (b.vtable, b.value)) self.new.store.now.layers.items) }
+        ensures count { length self.new.store.now.layers.items ≡ length self.old.store.now.layers.items }
+        ensures setting { self.new.setting ≡ self.old.setting }
+        ensures held { self.new.store.ghost_name ≡ self.old.store.ghost_name }
+    {
+        self.store.change_all(row)
+    }
+
+    // The question that can't be changed, where a write of the row is refused.
+    fn held_up(&self, names: &[Name], row: &[Write<'_>]) -> QuestionError
+        requires { AreOver row.now (length self.now.store.now.layers.items) }
+        ensures { (result ≡ QuestionError.OutOfMemory) ⊎ (result ≡ QuestionError.CantChange (unwrap_or (first_held_up (each (λ b. state (b.vtable, b.value)) self.now.store.now.layers.items) names.now row.now) [])) }
+    {
+        match self.store.first_held_up(names, row) {
+            Ok(Some(name)) => cant_change(name),
+            Ok(None) => QuestionError::OutOfMemory,
+            Err(error) => error.into(),
+        }
+    }
+}
+
+fn cant_change(name: &Name) -> QuestionError
+    ensures { (result ≡ QuestionError.OutOfMemory) ⊎ (result ≡ QuestionError.CantChange name.now) }
+{
+    match name.copy() {
+        Ok(name) => QuestionError::CantChange { name },
+        Err(error) => error.into(),
+    }
+}
