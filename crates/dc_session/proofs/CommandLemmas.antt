@@ -1,6 +1,6 @@
 -- What each command comes to.
 use Rattle.std.proofs.Common.{◌≡◌, ℕ, List, [], ◌∷◌, refl, sym, ap, subst, ◌∙◌, inl, inr, arith}
-use Rattle.std.specs.Prelude.{Bool, true, false, Option, Result, Ok, Err, IfOk, map as each, unwrap_or, codes, if◌then◌else◌}
+use Rattle.std.specs.Prelude.{Bool, true, false, Option, Some, None, Result, Ok, Err, IfOk, map as each, unwrap_or, codes, if◌then◌else◌}
 use Rattle.std.specs.Str.{bytes_eq}
 use Rattle.dc_text.specs.declared.memory.OutOfMemory.{OutOfMemory}
 use Rattle.dc_text.specs.Bytes.{lower}
@@ -13,7 +13,8 @@ use Rattle.dc_proto.specs.declared.reply.Reply.{Reply}
 use Rattle.dc_store.specs.Plans.{StoreState, owned}
 use Rattle.dc_store.specs.Rows.{names_of}
 use Rattle.dc_store.specs.StoreLaws.{AreSameBut, AreSameButAll}
-use Rattle.dc_store.proofs.RowLemmas.{same_all}
+use Rattle.dc_store.proofs.RowLemmas.{same_all, same_all_refl}
+use Rattle.dc_template.specs.Stanzas.{Stanza}
 use Rattle.dc_question.specs.Changes.{Does as DoesChange, value_set, value_reset, variable_set, flag_set}
 use Rattle.dc_question.specs.Ownership.{unregistered, registered, purged, loaded, leave_row, load_row}
 use Rattle.dc_question.specs.Questions.{Setting, question, template, read, read_template, read_field, value, flag, expanded_field, Answers}
@@ -22,10 +23,10 @@ use Rattle.dc_question.specs.declared.errors.QuestionError.{QuestionError}
 use Rattle.dc_question.specs.declared.errors.QuestionError.TheVariants as error
 use Rattle.dc_serve.specs.declared.heeds.Heeded.{Heeded}
 use Rattle.dc_session.specs.SessionState.{FilesState, SessionState}
-use Rattle.dc_session.specs.Answers.{Outcome, answer, names_on, refusal, does, says, on, no_question, field_read, is_truth, truth, bad_flag_value, read_fault, no_template_file, bad_template_file, loading, load_names}
+use Rattle.dc_session.specs.Answers.{Outcome, answer, names_on, refusal, does, says, on, no_question, no_field, field_read, is_truth, truth, bad_flag_value, read_fault, no_template_file, bad_template_file, loading, load_names}
 use Rattle.dc_session.specs.Inside.{Tells, Comes, ReadsField, HasDistinctNames}
 use Rattle.dc_session.specs.Machine.{Gives, HasDone, Does, replied}
-use Rattle.dc_session.specs.TemplateFiles.{Finds}
+use Rattle.dc_session.specs.TemplateFiles.{Finds, FindsNoMemory}
 use Rattle.dc_session.specs.declared.template_files.Found.{Found}
 use Rattle.dc_session.specs.declared.template_files.Found.TheVariants.{Unreadable, Missing, Faulty, Templates}
 use Rattle.dc_session.proofs.CallLemmas.{wrote, unwritten, comes_does}
@@ -193,3 +194,69 @@ module _ (old : SessionState) (files : FilesState) (path : List ℕ) (owner : Op
   load_does by is found finds new result comes =
       comes_does (command.LoadTemplateFile path owner) found old new files (loading (record old { files = files }) by found) (load_names (record old { files = files }) by found) result finds
       (same_loading by found ∙ ap (λ (o : List ℕ). loading old o found) is) (same_names by found ∙ ap (λ (o : List ℕ). load_names old o found) is) comes
+
+-- ---- a field is read
+
+module _ (old : SessionState) (field name : List ℕ) where
+  told_read : {A : Type 0} (r : A → Reply) (reading : Result A QuestionError) (call : Result A QuestionError) → Answers call reading → (result : Result Heeded OutOfMemory) → Tells field r call result
+      → IfOk result (λ did. did ≡ replied (says old.store field r reading).reply)
+  told_read r reading call answers (Ok did) told = (read_comes [] old field r reading call answers (Ok did) told).0
+  told_read r reading call answers (Err memory) told = tt
+
+  reads : (result : Result Heeded OutOfMemory) → IfOk result (λ did. did ≡ replied (says old.store field (reply 0) (field_read old field name)).reply) → ReadsField old field name result
+  reads (Ok did) told = told
+  reads (Err memory) told = tt
+
+  pub key_reads : (key : List ℕ) → key ≡ each lower field → is_field_key (each lower field) ≡ true → (call : Result (List ℕ) QuestionError) → Answers call (expanded_field old.store.layers old.at name key)
+      → (result : Result Heeded OutOfMemory) → Tells field (reply 0) call result → ReadsField old field name result
+  key_reads key key_is is call answers result told =
+      let here : expanded_field old.store.layers old.at name key ≡ field_read old field name = ap (expanded_field old.store.layers old.at name) key_is ∙ (rw is refl) in
+      reads result (subst (λ (reading : Result (List ℕ) QuestionError). IfOk result (λ did. did ≡ replied (says old.store field (reply 0) reading).reply)) here (told_read (reply 0) _ call answers result told))
+
+  -- what a field that is none says, from what one that is a key says
+  none_read : (key : List ℕ) (question : Option ItemParts)
+      → (says old.store field (λ (text : List ℕ). no_field field) (read name question (λ item. read_template name (template old.store.layers old.at item) (λ t. read_field (field_of old.at.lang item t key))))).reply
+      ≡ (says {A = List ℕ} old.store field (reply 0) (read name question (λ item. read_template name (template old.store.layers old.at item) (λ t. Err error.NoField)))).reply
+  none_read key None = refl
+  none_read key (Some item) = of_template (template old.store.layers old.at item) where
+    of_field : (found : Option (List ℕ)) → (says old.store field (λ (text : List ℕ). no_field field) (read_field found)).reply ≡ no_field field
+    of_field None = refl
+    of_field (Some text) = refl
+
+    of_template : (found : Option ItemParts) → (says old.store field (λ (text : List ℕ). no_field field) (read_template name found (λ t. read_field (field_of old.at.lang item t key)))).reply
+        ≡ (says {A = List ℕ} old.store field (reply 0) (read_template name found (λ t. Err error.NoField))).reply
+    of_template None = refl
+    of_template (Some t) = of_field (field_of old.at.lang item t key)
+
+  none_is : is_field_key (each lower field) ≡ false → field_read old field name ≡ read name (question old.store.layers old.at name) (λ item. read_template name (template old.store.layers old.at item) (λ t. Err error.NoField))
+  none_is is = rw is refl
+
+  pub no_key_reads : (key : List ℕ) → is_field_key (each lower field) ≡ false → (call : Result (List ℕ) QuestionError) → Answers call (expanded_field old.store.layers old.at name key)
+      → (result : Result Heeded OutOfMemory) → Tells field (λ text. no_field field) call result → ReadsField old field name result
+  no_key_reads key is call answers result told =
+      reads result
+      (subst (λ (r : Reply). IfOk result (λ did. did ≡ replied r)) (none_read key (question old.store.layers old.at name) ∙ ap (λ (reading : Result (List ℕ) QuestionError). (says old.store field (reply 0) reading).reply) (sym (none_is is)))
+      (told_read (λ text. no_field field) (expanded_field old.store.layers old.at name key) call answers result told))
+
+-- ---- what was found is loaded
+
+module _ (old : SessionState) (by : List ℕ) where
+  pub templates_load : (store : StoreState) (at : Setting) → at ≡ old.at → (templates : List Stanza) → AreSameButAll (names_of (load_row old.store.layers old.at by templates)) old.store.layers store.layers
+      → (call : Result (Unit {0}) QuestionError) → DoesChange call (loaded old.store old.at by templates) old.store store → (result : Result Heeded OutOfMemory) → Tells [] (λ _. reply 0 []) call result
+      → Comes (loading old by (Templates templates)) (load_names old by (Templates templates)) old (record old { store = store; at = at }) result
+  templates_load store at at_is templates =
+      wrote (names_of (load_row old.store.layers old.at by templates)) old (record old { store = store; at = at }) (reply 0 []) (loaded old.store old.at by templates) (λ i. record old { store = store; at = at_is i })
+
+  pub unreadable_loads : (result : Result Heeded OutOfMemory) → IfOk result (λ did. did ≡ replied read_fault) → Comes (loading old by Unreadable) (load_names old by Unreadable) old old result
+  unreadable_loads = unwritten [] old (record { reply = read_fault; store = old.store }) refl
+
+  pub missing_loads : (result : Result Heeded OutOfMemory) → IfOk result (λ did. did ≡ replied no_template_file) → Comes (loading old by Missing) (load_names old by Missing) old old result
+  missing_loads = unwritten [] old (record { reply = no_template_file; store = old.store }) refl
+
+  pub faulty_loads : (line : ℕ) (result : Result Heeded OutOfMemory) → IfOk result (λ did. did ≡ replied (bad_template_file line)) → Comes (loading old by (Faulty line)) (load_names old by (Faulty line)) old old result
+  faulty_loads line = unwritten [] old (record { reply = bad_template_file line; store = old.store }) refl
+
+-- memory ran out where the file was looked for
+pub none_loads : (old : SessionState) (files : FilesState) (path : List ℕ) (owner : Option (List ℕ)) (error : OutOfMemory) → FindsNoMemory path old.files files
+    → Does (command.LoadTemplateFile path owner) old (record old { files = files }) (Err error)
+none_loads old files path owner error none = inr record { found = Missing; gives = inr none; others = same_all_refl [] old.store.layers; at = refl; owner = refl }

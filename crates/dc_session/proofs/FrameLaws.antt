@@ -5,12 +5,13 @@ use Rattle.std.specs.List.{Contains, list_any}
 use Rattle.std.specs.Option.{option_map_or}
 use Rattle.std.specs.Str.{bytes_eq}
 use Rattle.dc_text.specs.Names.{is_name}
+use Rattle.dc_text.specs.Settled.{settled}
 use Rattle.dc_text.specs.declared.memory.OutOfMemory.{OutOfMemory}
 use Rattle.dc_words.specs.declared.stream.Line.{Line}
 use Rattle.dc_words.specs.declared.stream.Line.TheVariants.{Whole, TooLong}
 use Rattle.dc_item.specs.Item.{ItemParts}
 use Rattle.dc_item.specs.declared.op.Op.{Op}
-use Rattle.dc_item.specs.declared.op.Op.TheVariants.{SetFlag}
+use Rattle.dc_item.specs.declared.op.Op.TheVariants.{Put, SetField, SetFlag, SetVar}
 use Rattle.dc_proto.specs.Replies.{reply}
 use Rattle.dc_proto.specs.declared.command.Command.{Command}
 use Rattle.dc_proto.specs.declared.command.Command.TheVariants.{Get, Set, Reset, Subst, Fget, Fset, Metaget, Register, Unregister, Purge, LoadTemplateFile}
@@ -23,7 +24,7 @@ use Rattle.dc_store.specs.StoreLaws.{IsSameButAll, AreSameBut, AreSameButAll}
 use Rattle.dc_store.proofs.Frames.{plan_keeps}
 use Rattle.dc_store.proofs.RowLemmas.{same_all, same_all_refl, same_all_then}
 use Rattle.dc_template.specs.Stanzas.{Stanza}
-use Rattle.dc_question.specs.Changes.{changed, flag_set, done_or, told_by, row_for, question_write}
+use Rattle.dc_question.specs.Changes.{changed, value_set, value_reset, variable_set, without_answer, flag_set, done_or, told_by, row_for, question_write}
 use Rattle.dc_question.specs.Ownership.{registered, unregistered, purged, loaded, leave_row, load_row, register_row, has_other_template, bound_elsewhere}
 use Rattle.dc_question.specs.Questions.{Setting, question, flag, named_template, read, read_template}
 use Rattle.dc_question.specs.declared.errors.QuestionError.{QuestionError}
@@ -155,22 +156,29 @@ module _ (state : SessionState) where
   loading_keeps owner (Templates templates) =
       does_keeps (names_of (load_row state.store.layers state.at owner templates)) state.store _ _ (loaded_keeps owner templates (bound_elsewhere state.store.layers state.at templates))
 
+  -- a call on the question of a word that writes
+  word_keeps : (names : List (List ℕ)) (word text : List ℕ) (call : List ℕ → Result StoreState QuestionError) → Keeps names state.store (call word)
+      → AreSameButAll names state.store.layers (does state.store (reply 0 text) (on word call)).store.layers
+  word_keeps names word text call keeps = does_keeps names state.store (reply 0 text) (on word call) (on_keeps names state.store word call keeps)
+
   answer_keeps : (command : Command) (found : Found) → AreSameButAll (names_on state command found) state.store.layers (answer state command found).store.layers
   answer_keeps (Get word) found = says_keeps [] state.store [] _ _
-  answer_keeps (Set word text) found = does_keeps (word ∷ []) state.store _ _ (on_keeps (word ∷ []) state.store word _ (one word _))
-  answer_keeps (Reset word) found = does_keeps (word ∷ []) state.store _ _ (on_keeps (word ∷ []) state.store word _ (reset_keeps word (question state.store.layers state.at word) _))
-  answer_keeps (Subst word key text) found = does_keeps (word ∷ []) state.store _ _ (on_keeps (word ∷ []) state.store word _ (one word _))
+  answer_keeps (Set word text) found = word_keeps (word ∷ []) word (codes "value set") (λ name. value_set state.store state.at name text) (one word (SetField (codes "value") (settled text)))
+  answer_keeps (Reset word) found =
+      word_keeps (word ∷ []) word [] (λ name. value_reset state.store state.at name) (reset_keeps word (question state.store.layers state.at word) (λ item. Put (without_answer item)))
+  answer_keeps (Subst word key text) found = word_keeps (word ∷ []) word [] (λ name. variable_set state.store state.at name key text) (one word (SetVar key (settled text)))
   answer_keeps (Fget word key) found = says_keeps [] state.store [] _ _
   answer_keeps (Fset word key text) found = fset_keeps word key text found (is_truth text) refl
   answer_keeps (Metaget word field) found = says_keeps [] state.store field _ _
   answer_keeps (Register template name) found =
-      does_keeps (template ∷ name ∷ []) state.store _ _ (register_keeps template name (named_template state.store.layers state.at template) (has_other_template template (question state.store.layers state.at name)) refl)
+      does_keeps (template ∷ name ∷ []) state.store (reply 0 []) (registered state.store state.at template name state.owner)
+      (register_keeps template name (named_template state.store.layers state.at template) (has_other_template template (question state.store.layers state.at name)) refl)
   answer_keeps (Unregister word) found =
-      does_keeps (names_of (leave_row state.store.layers state.at state.owner (word ∷ []))) state.store _ _
-      (on_keeps (names_of (leave_row state.store.layers state.at state.owner (word ∷ []))) state.store word _ (unregister_keeps word (question state.store.layers state.at word)))
+      word_keeps (names_of (leave_row state.store.layers state.at state.owner (word ∷ []))) word [] (λ name. unregistered state.store state.at name state.owner) (unregister_keeps word (question state.store.layers state.at word))
   answer_keeps Purge found =
       let names : List (List ℕ) = owned state.store.layers state.at.config state.owner in
-      does_keeps (names_of (leave_row state.store.layers state.at state.owner names)) state.store _ _ (row_for_keeps state.store names (leave_row state.store.layers state.at state.owner names))
+      does_keeps (names_of (leave_row state.store.layers state.at state.owner names)) state.store (reply 0 []) (purged state.store state.at state.owner)
+      (row_for_keeps state.store names (leave_row state.store.layers state.at state.owner names))
   answer_keeps (LoadTemplateFile path owner) found = loading_keeps (unwrap_or owner state.owner) found
 
 -- a command changes at most the items that its writes are on

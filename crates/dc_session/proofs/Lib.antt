@@ -5,4 +5,5 @@ pub mod DiskLaws
 pub mod FrameLaws
 pub mod LineLaws
 pub mod NameLemmas
+pub mod ServeLemmas
 pub mod Teeth

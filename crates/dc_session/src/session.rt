@@ -269,12 +269,14 @@ impl<'s, F: Files> Session<'s, F> {
         ensures does { Does (command.LoadTemplateFile path.now owner.now) (⟦<Session<'s, F> as Heeds>⟧.sight self.old) (⟦<Session<'s, F> as Heeds>⟧.sight self.new) result }
         ensures held { ⟦<Session<'s, F> as Heeds>⟧.held self.new ≡ ⟦<Session<'s, F> as Heeds>⟧.held self.old }
     {
-        let found = find_templates(self.alloc, self.files, path)?;
         let owner = match owner {
             None => self.desk.owner,
             Some(owner) => owner,
         };
-        self.take_found(owner, &found)
+        match find_templates(self.alloc, self.files, path) {
+            Ok(found) => self.take_found(owner, &found),
+            Err(_) => Err(OutOfMemory),
+        }
     }
 
     // The templates that were found are loaded, or it is told why there are none.
