@@ -170,7 +170,7 @@ module _ (old : SessionState) where
     metaget_does field (Ok did) told =
         stored_does (command.Metaget word field) old old (refl, refl) (says old.store field (reply 0) (field_read old field name))
         (ap (says old.store field (reply 0)) (on_name word (field_read old field) named.1 ∙ ap (field_read old field) (sym named.0))) (Ok did)
-        (unwritten [] old (says old.store field (reply 0) (field_read old field name)) (says_stays old.store field (reply 0) (field_read old field name)) (Ok did) told)
+        (unwritten [] old (says old.store field (reply 0) (field_read old field name)) (says_stays old.store field (reply 0) (field_read old field name)) (Ok did) told.told)
     metaget_does field (Err memory) told = inl refl
 
 -- ---- a template file is loaded
@@ -204,8 +204,7 @@ module _ (old : SessionState) (field name : List ℕ) where
   told_read r reading call answers (Err memory) told = tt
 
   reads : (result : Result Heeded OutOfMemory) → IfOk result (λ did. did ≡ replied (says old.store field (reply 0) (field_read old field name)).reply) → ReadsField old field name result
-  reads (Ok did) told = told
-  reads (Err memory) told = tt
+  reads result told = record { told = told }
 
   pub key_reads : (key : List ℕ) → key ≡ each lower field → is_field_key (each lower field) ≡ true → (call : Result (List ℕ) QuestionError) → Answers call (expanded_field old.store.layers old.at name key)
       → (result : Result Heeded OutOfMemory) → Tells field (reply 0) call result → ReadsField old field name result

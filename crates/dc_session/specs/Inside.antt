@@ -1,5 +1,5 @@
 -- What the inner functions of a session promise. No public clause cites these.
-use Rattle.std.specs.Prelude.{◌≡◌, ℕ, Bool, true, false, List, map as each, Option, Some, None, Result, Ok, Err}
+use Rattle.std.specs.Prelude.{◌≡◌, ℕ, Bool, true, false, List, map as each, Option, Some, None, Result, Ok, Err, IfOk}
 use Rattle.dc_text.specs.declared.memory.OutOfMemory.{OutOfMemory}
 use Rattle.dc_text.specs.Maps.{AreDistinct}
 use Rattle.dc_text.specs.Names.{is_name}
@@ -60,9 +60,8 @@ Comes outcome names old new (Ok heeded) = (heeded ≡ replied outcome.reply) × 
 Comes outcome names old new (Err memory) = AreSameButAll names old.store.layers new.store.layers × (new ≡ record old { store = new.store })
 
 -- a field of a question is told, unless memory ran out
-abbrev pub ReadsField : SessionState → List ℕ → List ℕ → Result Heeded OutOfMemory → Type 0
-ReadsField state field name (Ok heeded) = heeded ≡ replied (says state.store field (reply 0) (field_read state field name)).reply
-ReadsField state field name (Err memory) = Unit {0}
+pub record ReadsField (state : SessionState) (field name : List ℕ) (result : Result Heeded OutOfMemory) : Type 0 where
+  pub told : IfOk result (λ heeded. heeded ≡ replied (says state.store field (reply 0) (field_read state field name)).reply)
 
 -- what a line does, or where memory ran out at it
 abbrev pub DoesHeard : Heard → SessionState → SessionState → Result Heeded OutOfMemory → Type 0

@@ -38,6 +38,11 @@ pub fn serve_layers<L: Link, F: Files>(
     let questions = Questions::new(alloc, &mut store, config, templates, lang);
     let mut session = Session::new(alloc, questions, files, owner);
     let served = serve_link(alloc, io, &mut session);
-    *layers = session.into_layers();
+    let Session {
+        alloc: _,
+        desk,
+        files: _,
+    } = session;
+    *layers = desk.into_layers(alloc);
     served
 }

@@ -41,9 +41,28 @@ pub struct Desk<'s> {
 /// A session: the questions that its commands read and change, and the files in which it looks for templates.
 #[derive(Drop)]
 pub struct Session<'s, F: Files> {
-    alloc: Global,
+    pub alloc: Global,
     pub desk: Desk<'s>,
     pub files: &'s mut F,
+}
+
+impl<'s> Desk<'s> {
+    /// The layers, as the session left them. Their store keeps none.
+    pub fn into_layers(self, alloc: Global) -> Vec<Box<dyn Layer>>
+        ensures { result.items ≡ self.entry.questions.store.now.layers.items }
+    {
+        let Desk {
+            questions,
+            owner: _,
+            of: _,
+        } = self;
+        let Questions {
+            alloc: _,
+            store,
+            setting: _,
+        } = questions;
+        std::mem::replace(&mut store.layers, Vec::new(alloc))
+    }
 }
 
 impl<'s, F: Files> Session<'s, F> {
@@ -69,28 +88,6 @@ impl<'s, F: Files> Session<'s, F> {
             of: PhantomData,
         };
         Session { alloc, desk, files }
-    }
-
-    /// The layers, as the session left them. Its store keeps none.
-    pub fn into_layers(self) -> Vec<Box<dyn Layer>>
-        ensures { result.items ≡ self.entry.desk.questions.store.now.layers.items }
-    {
-        let Session {
-            alloc,
-            desk,
-            files: _,
-        } = self;
-        let Desk {
-            questions,
-            owner: _,
-            of: _,
-        } = desk;
-        let Questions {
-            alloc: _,
-            store,
-            setting: _,
-        } = questions;
-        std::mem::replace(&mut store.layers, Vec::new(alloc))
     }
 
     // What a line that was read does.
