@@ -1,5 +1,9 @@
+pub mod CallLemmas
+pub mod CommandLemmas
 pub mod Determined
+pub mod DiskLaws
+pub mod FrameLaws
 pub mod LineLaws
-pub mod SessionLemmas
-pub mod Teeth
+pub mod NameLemmas
 pub mod ServeLemmas
+pub mod Teeth
