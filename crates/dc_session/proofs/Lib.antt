@@ -4,6 +4,5 @@ pub mod Determined
 pub mod DiskLaws
 pub mod FrameLaws
 pub mod LineLaws
-pub mod NameLemmas
 pub mod ServeLemmas
 pub mod Teeth

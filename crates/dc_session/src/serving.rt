@@ -5,7 +5,7 @@ ghost use Rattle.dc_serve.specs.Ends.{LinkFaults, LinkRefusals};
 ghost use Rattle.dc_store.specs.Plans.{stored};
 ghost use Rattle.dc_session.specs.Serving.{IsServed};
 
-use crate::session::Session;
+use crate::session::{Desk, Session};
 use dc_conf::Plan;
 use dc_layer::Layer;
 use dc_outside::{Files, Link};
@@ -36,12 +36,13 @@ pub fn serve_layers<L: Link, F: Files>(
 {
     let mut store = Store::new(alloc, std::mem::replace(layers, Vec::new(alloc)));
     let questions = Questions::new(alloc, &mut store, config, templates, lang);
-    let mut session = Session::new(alloc, questions, files, owner);
+    let desk = Desk::new(questions, owner);
+    let mut session = Session { alloc, desk, files };
     let served = serve_link(alloc, io, &mut session);
     let Session {
         alloc: _,
         desk,
-        files: _,
+        files: _kept,
     } = session;
     *layers = desk.into_layers(alloc);
     served

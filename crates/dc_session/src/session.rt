@@ -40,13 +40,29 @@ pub struct Desk<'s> {
 
 /// A session: the questions that its commands read and change, and the files in which it looks for templates.
 #[derive(Drop)]
-pub struct Session<'s, F: Files> {
+pub struct Session<'s, 'f, F: Files> {
     pub alloc: Global,
     pub desk: Desk<'s>,
-    pub files: &'s mut F,
+    pub files: &'f mut F,
 }
 
 impl<'s> Desk<'s> {
+    /// These questions, for this owner.
+    pub fn new(questions: Questions<'s>, owner: &'s Name) -> Desk<'s>
+        requires over { IsSetOver questions.setting (length questions.store.now.layers.items) }
+        requires apart { are_disjoint questions.setting.config questions.setting.templates ≡ true }
+        ensures store { result.questions.store.now ≡ questions.entry.store.now }
+        ensures held { result.questions.store.ghost_name ≡ questions.entry.store.ghost_name }
+        ensures setting { result.questions.setting ≡ questions.entry.setting }
+        ensures owner { result.owner.now ≡ owner.now }
+    {
+        Desk {
+            questions,
+            owner,
+            of: PhantomData,
+        }
+    }
+
     /// The layers, as the session left them. Their store keeps none.
     pub fn into_layers(self, alloc: Global) -> Vec<Box<dyn Layer>>
         ensures { result.items ≡ self.entry.questions.store.now.layers.items }
@@ -65,35 +81,11 @@ impl<'s> Desk<'s> {
     }
 }
 
-impl<'s, F: Files> Session<'s, F> {
-    /// A session over these questions and files, for this owner.
-    pub fn new(
-        alloc: Global,
-        questions: Questions<'s>,
-        files: &'s mut F,
-        owner: &'s Name,
-    ) -> Session<'s, F>
-        requires over { IsSetOver questions.setting (length questions.store.now.layers.items) }
-        requires apart { are_disjoint questions.setting.config questions.setting.templates ≡ true }
-        ensures store { result.desk.questions.store.now ≡ questions.entry.store.now }
-        ensures held { result.desk.questions.store.ghost_name ≡ questions.entry.store.ghost_name }
-        ensures setting { result.desk.questions.setting ≡ questions.entry.setting }
-        ensures files { result.files.now ≡ files.old }
-        ensures files_held { result.files.ghost_name ≡ files.entry.ghost_name }
-        ensures owner { result.desk.owner.now ≡ owner.now }
-    {
-        let desk = Desk {
-            questions,
-            owner,
-            of: PhantomData,
-        };
-        Session { alloc, desk, files }
-    }
-
+impl<'s, 'f, F: Files> Session<'s, 'f, F> {
     // What a line that was read does.
     fn serve(&mut self, heard: &Heard) -> Mem<Heeded>
-        ensures does { DoesHeard heard.now (⟦<Session<'s, F> as Heeds>⟧.sight self.old) (⟦<Session<'s, F> as Heeds>⟧.sight self.new) result }
-        ensures held { ⟦<Session<'s, F> as Heeds>⟧.held self.new ≡ ⟦<Session<'s, F> as Heeds>⟧.held self.old }
+        ensures does { DoesHeard heard.now (⟦<Session<'s, 'f, F> as Heeds>⟧.sight self.old) (⟦<Session<'s, 'f, F> as Heeds>⟧.sight self.new) result }
+        ensures held { ⟦<Session<'s, 'f, F> as Heeds>⟧.held self.new ≡ ⟦<Session<'s, 'f, F> as Heeds>⟧.held self.old }
     {
         match heard {
             Heard::Nothing => Ok(Heeded::Silent),
@@ -104,8 +96,8 @@ impl<'s, F: Files> Session<'s, F> {
 
     // What a command is answered, and what it does.
     fn run(&mut self, command: &Command) -> Mem<Heeded>
-        ensures does { Does command.now (⟦<Session<'s, F> as Heeds>⟧.sight self.old) (⟦<Session<'s, F> as Heeds>⟧.sight self.new) result }
-        ensures held { ⟦<Session<'s, F> as Heeds>⟧.held self.new ≡ ⟦<Session<'s, F> as Heeds>⟧.held self.old }
+        ensures does { Does command.now (⟦<Session<'s, 'f, F> as Heeds>⟧.sight self.old) (⟦<Session<'s, 'f, F> as Heeds>⟧.sight self.new) result }
+        ensures held { ⟦<Session<'s, 'f, F> as Heeds>⟧.held self.new ≡ ⟦<Session<'s, 'f, F> as Heeds>⟧.held self.old }
     {
         match command {
             Command::Get(word) => self.get(word),
@@ -131,7 +123,7 @@ impl<'s, F: Files> Session<'s, F> {
     }
 
     fn get(&self, word: &Text) -> Mem<Heeded>
-        ensures { Does (command.Get word.now) (⟦<Session<'s, F> as Heeds>⟧.sight self.now) (⟦<Session<'s, F> as Heeds>⟧.sight self.now) result }
+        ensures { Does (command.Get word.now) (⟦<Session<'s, 'f, F> as Heeds>⟧.sight self.now) (⟦<Session<'s, 'f, F> as Heeds>⟧.sight self.now) result }
     {
         let Some(name) = named(self.alloc, word)? else {
             return missing(self.alloc, word.bytes());
@@ -140,7 +132,7 @@ impl<'s, F: Files> Session<'s, F> {
     }
 
     fn fget(&self, word: &Text, flag: &FlagName) -> Mem<Heeded>
-        ensures { Does (command.Fget word.now flag.now) (⟦<Session<'s, F> as Heeds>⟧.sight self.now) (⟦<Session<'s, F> as Heeds>⟧.sight self.now) result }
+        ensures { Does (command.Fget word.now flag.now) (⟦<Session<'s, 'f, F> as Heeds>⟧.sight self.now) (⟦<Session<'s, 'f, F> as Heeds>⟧.sight self.now) result }
     {
         let Some(name) = named(self.alloc, word)? else {
             return missing(self.alloc, word.bytes());
@@ -149,7 +141,7 @@ impl<'s, F: Files> Session<'s, F> {
     }
 
     fn metaget(&self, word: &Text, field: &Text) -> Mem<Heeded>
-        ensures { Does (command.Metaget word.now field.now) (⟦<Session<'s, F> as Heeds>⟧.sight self.now) (⟦<Session<'s, F> as Heeds>⟧.sight self.now) result }
+        ensures { Does (command.Metaget word.now field.now) (⟦<Session<'s, 'f, F> as Heeds>⟧.sight self.now) (⟦<Session<'s, 'f, F> as Heeds>⟧.sight self.now) result }
     {
         let Some(name) = named(self.alloc, word)? else {
             return missing(self.alloc, word.bytes());
@@ -159,7 +151,7 @@ impl<'s, F: Files> Session<'s, F> {
 
     // A field of the question's template. The refusal of one that is none comes after those of the question and of its template.
     fn field(&self, name: &Name, field: &Text) -> Mem<Heeded>
-        ensures { ReadsField (⟦<Session<'s, F> as Heeds>⟧.sight self.now) field.now name.now result }
+        ensures { ReadsField (⟦<Session<'s, 'f, F> as Heeds>⟧.sight self.now) field.now name.now result }
     {
         match FieldKey::read(self.alloc, field.bytes()) {
             Ok(key) => tell(
@@ -180,8 +172,8 @@ impl<'s, F: Files> Session<'s, F> {
     }
 
     fn set(&mut self, word: &Text, value: &Text) -> Mem<Heeded>
-        ensures does { Does (command.Set word.now value.now) (⟦<Session<'s, F> as Heeds>⟧.sight self.old) (⟦<Session<'s, F> as Heeds>⟧.sight self.new) result }
-        ensures held { ⟦<Session<'s, F> as Heeds>⟧.held self.new ≡ ⟦<Session<'s, F> as Heeds>⟧.held self.old }
+        ensures does { Does (command.Set word.now value.now) (⟦<Session<'s, 'f, F> as Heeds>⟧.sight self.old) (⟦<Session<'s, 'f, F> as Heeds>⟧.sight self.new) result }
+        ensures held { ⟦<Session<'s, 'f, F> as Heeds>⟧.held self.new ≡ ⟦<Session<'s, 'f, F> as Heeds>⟧.held self.old }
     {
         let Some(name) = named(self.alloc, word)? else {
             return missing(self.alloc, word.bytes());
@@ -192,8 +184,8 @@ impl<'s, F: Files> Session<'s, F> {
     }
 
     fn reset(&mut self, word: &Text) -> Mem<Heeded>
-        ensures does { Does (command.Reset word.now) (⟦<Session<'s, F> as Heeds>⟧.sight self.old) (⟦<Session<'s, F> as Heeds>⟧.sight self.new) result }
-        ensures held { ⟦<Session<'s, F> as Heeds>⟧.held self.new ≡ ⟦<Session<'s, F> as Heeds>⟧.held self.old }
+        ensures does { Does (command.Reset word.now) (⟦<Session<'s, 'f, F> as Heeds>⟧.sight self.old) (⟦<Session<'s, 'f, F> as Heeds>⟧.sight self.new) result }
+        ensures held { ⟦<Session<'s, 'f, F> as Heeds>⟧.held self.new ≡ ⟦<Session<'s, 'f, F> as Heeds>⟧.held self.old }
     {
         let Some(name) = named(self.alloc, word)? else {
             return missing(self.alloc, word.bytes());
@@ -204,8 +196,8 @@ impl<'s, F: Files> Session<'s, F> {
     }
 
     fn subst(&mut self, word: &Text, key: &VarKey, value: &Text) -> Mem<Heeded>
-        ensures does { Does (command.Subst word.now key.now value.now) (⟦<Session<'s, F> as Heeds>⟧.sight self.old) (⟦<Session<'s, F> as Heeds>⟧.sight self.new) result }
-        ensures held { ⟦<Session<'s, F> as Heeds>⟧.held self.new ≡ ⟦<Session<'s, F> as Heeds>⟧.held self.old }
+        ensures does { Does (command.Subst word.now key.now value.now) (⟦<Session<'s, 'f, F> as Heeds>⟧.sight self.old) (⟦<Session<'s, 'f, F> as Heeds>⟧.sight self.new) result }
+        ensures held { ⟦<Session<'s, 'f, F> as Heeds>⟧.held self.new ≡ ⟦<Session<'s, 'f, F> as Heeds>⟧.held self.old }
     {
         let Some(name) = named(self.alloc, word)? else {
             return missing(self.alloc, word.bytes());
@@ -216,8 +208,8 @@ impl<'s, F: Files> Session<'s, F> {
     }
 
     fn fset(&mut self, word: &Text, flag: &FlagName, value: &Text) -> Mem<Heeded>
-        ensures does { Does (command.Fset word.now flag.now value.now) (⟦<Session<'s, F> as Heeds>⟧.sight self.old) (⟦<Session<'s, F> as Heeds>⟧.sight self.new) result }
-        ensures held { ⟦<Session<'s, F> as Heeds>⟧.held self.new ≡ ⟦<Session<'s, F> as Heeds>⟧.held self.old }
+        ensures does { Does (command.Fset word.now flag.now value.now) (⟦<Session<'s, 'f, F> as Heeds>⟧.sight self.old) (⟦<Session<'s, 'f, F> as Heeds>⟧.sight self.new) result }
+        ensures held { ⟦<Session<'s, 'f, F> as Heeds>⟧.held self.new ≡ ⟦<Session<'s, 'f, F> as Heeds>⟧.held self.old }
     {
         let Some(name) = named(self.alloc, word)? else {
             return missing(self.alloc, word.bytes());
@@ -232,8 +224,8 @@ impl<'s, F: Files> Session<'s, F> {
     }
 
     fn register(&mut self, template: &Text, name: &Name) -> Mem<Heeded>
-        ensures does { Does (command.Register template.now name.now) (⟦<Session<'s, F> as Heeds>⟧.sight self.old) (⟦<Session<'s, F> as Heeds>⟧.sight self.new) result }
-        ensures held { ⟦<Session<'s, F> as Heeds>⟧.held self.new ≡ ⟦<Session<'s, F> as Heeds>⟧.held self.old }
+        ensures does { Does (command.Register template.now name.now) (⟦<Session<'s, 'f, F> as Heeds>⟧.sight self.old) (⟦<Session<'s, 'f, F> as Heeds>⟧.sight self.new) result }
+        ensures held { ⟦<Session<'s, 'f, F> as Heeds>⟧.held self.new ≡ ⟦<Session<'s, 'f, F> as Heeds>⟧.held self.old }
     {
         let desk = &mut self.desk;
         let done = desk.questions.register(template.bytes(), name, desk.owner);
@@ -241,8 +233,8 @@ impl<'s, F: Files> Session<'s, F> {
     }
 
     fn unregister(&mut self, word: &Text) -> Mem<Heeded>
-        ensures does { Does (command.Unregister word.now) (⟦<Session<'s, F> as Heeds>⟧.sight self.old) (⟦<Session<'s, F> as Heeds>⟧.sight self.new) result }
-        ensures held { ⟦<Session<'s, F> as Heeds>⟧.held self.new ≡ ⟦<Session<'s, F> as Heeds>⟧.held self.old }
+        ensures does { Does (command.Unregister word.now) (⟦<Session<'s, 'f, F> as Heeds>⟧.sight self.old) (⟦<Session<'s, 'f, F> as Heeds>⟧.sight self.new) result }
+        ensures held { ⟦<Session<'s, 'f, F> as Heeds>⟧.held self.new ≡ ⟦<Session<'s, 'f, F> as Heeds>⟧.held self.old }
     {
         let Some(name) = named(self.alloc, word)? else {
             return missing(self.alloc, word.bytes());
@@ -253,8 +245,8 @@ impl<'s, F: Files> Session<'s, F> {
     }
 
     fn purge(&mut self) -> Mem<Heeded>
-        ensures does { Does (command.Purge) (⟦<Session<'s, F> as Heeds>⟧.sight self.old) (⟦<Session<'s, F> as Heeds>⟧.sight self.new) result }
-        ensures held { ⟦<Session<'s, F> as Heeds>⟧.held self.new ≡ ⟦<Session<'s, F> as Heeds>⟧.held self.old }
+        ensures does { Does (command.Purge) (⟦<Session<'s, 'f, F> as Heeds>⟧.sight self.old) (⟦<Session<'s, 'f, F> as Heeds>⟧.sight self.new) result }
+        ensures held { ⟦<Session<'s, 'f, F> as Heeds>⟧.held self.new ≡ ⟦<Session<'s, 'f, F> as Heeds>⟧.held self.old }
     {
         let desk = &mut self.desk;
         let done = desk.questions.purge(desk.owner);
@@ -263,8 +255,8 @@ impl<'s, F: Files> Session<'s, F> {
 
     // What a template file holds is loaded, for the owner or for the session's.
     fn load(&mut self, path: &Text, owner: &Option<Name>) -> Mem<Heeded>
-        ensures does { Does (command.LoadTemplateFile path.now owner.now) (⟦<Session<'s, F> as Heeds>⟧.sight self.old) (⟦<Session<'s, F> as Heeds>⟧.sight self.new) result }
-        ensures held { ⟦<Session<'s, F> as Heeds>⟧.held self.new ≡ ⟦<Session<'s, F> as Heeds>⟧.held self.old }
+        ensures does { Does (command.LoadTemplateFile path.now owner.now) (⟦<Session<'s, 'f, F> as Heeds>⟧.sight self.old) (⟦<Session<'s, 'f, F> as Heeds>⟧.sight self.new) result }
+        ensures held { ⟦<Session<'s, 'f, F> as Heeds>⟧.held self.new ≡ ⟦<Session<'s, 'f, F> as Heeds>⟧.held self.old }
     {
         let owner = match owner {
             None => self.desk.owner,
@@ -279,8 +271,8 @@ impl<'s, F: Files> Session<'s, F> {
     // The templates that were found are loaded, or it is told why there are none.
     fn take_found(&mut self, owner: &Name, found: &Found) -> Mem<Heeded>
         requires { HasDistinctNames found.now }
-        ensures comes { Comes (loading (⟦<Session<'s, F> as Heeds>⟧.sight self.old) owner.now found.now) (load_names (⟦<Session<'s, F> as Heeds>⟧.sight self.old) owner.now found.now) (⟦<Session<'s, F> as Heeds>⟧.sight self.old) (⟦<Session<'s, F> as Heeds>⟧.sight self.new) result }
-        ensures held { ⟦<Session<'s, F> as Heeds>⟧.held self.new ≡ ⟦<Session<'s, F> as Heeds>⟧.held self.old }
+        ensures comes { Comes (loading (⟦<Session<'s, 'f, F> as Heeds>⟧.sight self.old) owner.now found.now) (load_names (⟦<Session<'s, 'f, F> as Heeds>⟧.sight self.old) owner.now found.now) (⟦<Session<'s, 'f, F> as Heeds>⟧.sight self.old) (⟦<Session<'s, 'f, F> as Heeds>⟧.sight self.new) result }
+        ensures held { ⟦<Session<'s, 'f, F> as Heeds>⟧.held self.new ≡ ⟦<Session<'s, 'f, F> as Heeds>⟧.held self.old }
     {
         match found {
             Found::Unreadable => says(self.alloc, 100, b"read fault"),
@@ -295,7 +287,7 @@ impl<'s, F: Files> Session<'s, F> {
     }
 }
 
-impl<'s, F: Files> Heeds for Session<'s, F> {
+impl<'s, 'f, F: Files> Heeds for Session<'s, 'f, F> {
     type Break = OutOfMemory;
 
     ghost Sight = { SessionState };
