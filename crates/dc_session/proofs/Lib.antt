@@ -2,6 +2,7 @@ pub mod CallLemmas
 pub mod CommandLemmas
 pub mod Determined
 pub mod DiskLaws
+pub mod FaultLaws
 pub mod FrameLaws
 pub mod LineLaws
 pub mod ServeLemmas

@@ -2,6 +2,7 @@
 ghost use Rattle.std.specs.Prelude.{◌≡◌, ◌≢◌, List, ℕ, [], ◌∷◌, Some, map as each};
 ghost use Rattle.dc_words.specs.declared.stream.Line.{Line};
 ghost use Rattle.dc_words.specs.Stream.{whole_lines};
+ghost use Rattle.dc_outside.specs.Counts.{FaultRose};
 ghost use Rattle.dc_outside.specs.Disk.{Disk};
 ghost use Rattle.dc_outside.specs.declared.files.FilesCall.{FilesCall};
 ghost use Rattle.dc_outside.specs.declared.link.Piece.{Piece};
@@ -44,4 +45,10 @@ pub fn lines_are_answered_first()
 /// A session leaves the disk as it was: it only reads files.
 pub fn reads_leave_the_disk()
     ensures { (start : SessionState) (turns : List (Turn SessionState)) → IsCourse Heeds start turns → (state_after start turns).files.told.disk ≡ start.files.told.disk }
+{}
+
+/// `read fault` is told exactly where the files' count of faults rose in that command's read, and at every other reply their counts stay.
+pub fn read_faults_are_counted()
+    ensures told { (command : Command) (old new : SessionState) (code : ℕ) (text : List ℕ) → HasDone command old (Replied code text) new → code ≡ 100 → FaultRose old.files.counts new.files.counts }
+    ensures stays { (command : Command) (old new : SessionState) (code : ℕ) (text : List ℕ) → HasDone command old (Replied code text) new → code ≢ 100 → new.files.counts ≡ old.files.counts }
 {}
