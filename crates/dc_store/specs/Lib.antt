@@ -1,4 +1,5 @@
 pub mod Holders
+pub mod Listings
 pub mod Plans
 pub mod Rows
 pub mod StoreLaws

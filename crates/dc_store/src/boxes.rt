@@ -2,8 +2,9 @@
 ghost use Rattle.std.specs.Prelude.{◌≡◌, ◌<◌, Some, None, IfOk, OnOk, OnErr, length, slice_get, map as each};
 ghost use Rattle.std.specs.FinMap as map;
 ghost use Rattle.std.specs.Option.{option_copied};
-ghost use Rattle.dc_layer.specs.State.{LayerState, is_writable, admits, with_made, made_at, refusal};
+ghost use Rattle.dc_layer.specs.State.{LayerState, is_writable, admits, with_made, made_at, refusal, owned};
 ghost use Rattle.dc_store.specs.Holders.{item_at as item_of, has_at as has_of};
+ghost use Rattle.dc_store.specs.Listings.{owned_at as owned_of};
 ghost use Rattle.dc_store.specs.Plans.{names_at as names_of};
 ghost use Rattle.dc_store.specs.Writes.{is_writable_at as writable_of, takes_at as takes_of, change_at};
 
@@ -40,6 +41,12 @@ fn names_in(layer: &Box<dyn Layer>) -> Mem<List<Name>>
     ensures { IfOk result (λ names. names ≡ map.keys (state layer.now).table) }
 {
     layer.names()
+}
+
+fn owned_in(layer: &Box<dyn Layer>, owner: &Name) -> Mem<List<Name>>
+    ensures { IfOk result (λ names. names ≡ owned (state layer.now).table owner.now) }
+{
+    layer.owned(owner)
 }
 
 // Changes a layer that takes the change.
@@ -99,6 +106,14 @@ pub fn names_at(layers: &[Box<dyn Layer>], place: usize) -> Mem<List<Name>>
     ensures { IfOk result (λ names. names ≡ names_of (each state layers.now) place) }
 {
     names_in(&layers[place])
+}
+
+/// The names of the items that have the owner in the layer at a place.
+pub fn owned_at(layers: &[Box<dyn Layer>], place: usize, owner: &Name) -> Mem<List<Name>>
+    requires { place < length layers.now }
+    ensures { IfOk result (λ names. names ≡ owned_of (each state layers.now) owner.now place) }
+{
+    owned_in(&layers[place], owner)
 }
 
 /// Changes the layer at a place, which takes the change.

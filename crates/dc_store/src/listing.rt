@@ -4,9 +4,10 @@ ghost use Rattle.std.specs.List.{flat_map, filter};
 ghost use Rattle.std.specs.Option.{option_copied};
 ghost use Rattle.dc_store.specs.Holders.{look_of};
 ghost use Rattle.dc_conf.specs.Plans.{AreWithin};
+ghost use Rattle.dc_store.specs.Listings.{owned_at as owned_of};
 ghost use Rattle.dc_store.specs.Plans.{names_at as names_of, is_owned as is_owned_of};
 
-use crate::boxes::names_at;
+use crate::boxes::{names_at, owned_at};
 use crate::search::look_in;
 use dc_item::Item;
 use dc_layer::{Layer, is_owned};
@@ -21,6 +22,24 @@ pub fn names_in(alloc: Global, layers: &[Box<dyn Layer>], places: &[usize]) -> M
     let mut names = List::new(alloc);
     for place in places {
         let more = names_at(layers, *place)?;
+        append(&mut names, &more)?;
+    }
+    Ok(names)
+}
+
+/// The names of the items that have the owner in the layers at the places, one layer after the other.
+pub fn owned_names_in(
+    alloc: Global,
+    layers: &[Box<dyn Layer>],
+    places: &[usize],
+    owner: &Name,
+) -> Mem<List<Name>>
+    requires { AreWithin places.now (length layers.now) }
+    ensures { IfOk result (λ names. names ≡ flat_map (owned_of (each state layers.now) owner.now) places.now) }
+{
+    let mut names = List::new(alloc);
+    for place in places {
+        let more = owned_at(layers, *place, owner)?;
         append(&mut names, &more)?;
     }
     Ok(names)

@@ -8,14 +8,14 @@ ghost use Rattle.dc_store.specs.Writes.{write_of};
 
 use crate::backup::back_up_in;
 use crate::bases::places;
-use crate::listing::{names_in, owned_in};
+use crate::listing::{names_in, owned_in, owned_names_in};
 use crate::search::{
     has_below_in, holder_in, home_in, look_below_in, look_in, open_holder_in, seek_in,
 };
 use crate::telling::tell;
 use crate::writing::write_in;
 use dc_conf::plans::{Base, Plan};
-use dc_item::{After, Item, Op, in_order};
+use dc_item::{Effect, Item, Op, in_order};
 use dc_layer::Layer;
 use dc_template::Kind;
 use dc_text::{List, Mem, Name, OutOfMemory, Text};
@@ -125,15 +125,15 @@ impl Store {
     {
         let places = places(&plan.base);
         let layers = self.layers.as_slice();
-        let made = op.at(look_in(layers, places, name))?;
-        if let After::Same = made {
+        let effect = op.effect(look_in(layers, places, name))?;
+        if let Effect::Same = effect {
             return Ok(true);
         }
         if open_holder_in(layers, places, name).is_some() {
             return Ok(true);
         }
-        match made {
-            After::Changed(_) => Ok(home_in(layers, places, name, kind)?.is_some()),
+        match effect {
+            Effect::Changed => Ok(home_in(layers, places, name, kind)?.is_some()),
             _ => Ok(false),
         }
     }
@@ -169,19 +169,17 @@ impl Store {
         in_order(self.alloc, &names)
     }
 
-    /// Those of the names of which the item of the topmost layer has the owner.
+    /// Those of the names of which the item of the topmost layer has the owner. Only names that some layer has for the owner
+    /// are copied.
     pub fn owned(&self, plan: &Plan, owner: &Name) -> Mem<List<Name>>
         requires { IsOver plan.now (length self.now.layers.items) }
         ensures { IfOk result (λ list. list ≡ owned (each state self.now.layers.items) plan.now owner.now) }
     {
-        let names = self.names(plan)?;
-        owned_in(
-            self.alloc,
-            self.layers.as_slice(),
-            places(&plan.base),
-            &names,
-            owner,
-        )
+        let layers = self.layers.as_slice();
+        let places = places(&plan.base);
+        let listed = owned_names_in(self.alloc, layers, places, owner)?;
+        let names = in_order(self.alloc, &listed)?;
+        owned_in(self.alloc, layers, places, &names, owner)
     }
 
     // Writes to the base alone.

@@ -1,13 +1,15 @@
 // Writes to the layers of a base.
 ghost use Rattle.std.specs.Prelude.{◌≡◌, Some, None, Err, OnOk, OnErr, length, map as each};
 ghost use Rattle.dc_conf.specs.Plans.{AreWithin};
+ghost use Rattle.dc_item.specs.After.{after_at};
+ghost use Rattle.dc_store.specs.Holders.{look_of};
 ghost use Rattle.dc_store.specs.StoreLaws.{AreSameBut};
-ghost use Rattle.dc_store.specs.Writes.{home, put_up, write_of};
+ghost use Rattle.dc_store.specs.Writes.{by_case, home, put_up, write_of};
 
 use crate::boxes::change_in;
 use crate::search::{home_in, look_in, open_holder_in};
 use crate::store::StoreError;
-use dc_item::{After, Item, Op};
+use dc_item::{After, Effect, Item, Op};
 use dc_layer::Layer;
 use dc_template::Kind;
 use dc_text::Name;
@@ -35,6 +37,26 @@ fn put_up_in(
     }
 }
 
+// Writes where no layer that is writable holds the item: what the operation makes of it goes to where a new one goes.
+fn write_above_in(
+    layers: &mut [Box<dyn Layer>],
+    places: &[usize],
+    name: &Name,
+    kind: Option<Kind>,
+    op: &Op,
+) -> Result<(), StoreError>
+    requires { AreWithin places.now (length layers.old) }
+    ensures ok { OnOk result (by_case (each state layers.old) None (home (each state layers.old) places.now name.now kind) name.now (after_at op.now (look_of (each state layers.old) places.now name.now)) ≡ Some (each state layers.new)) }
+    ensures refused { result ≡ Err StoreError.Refused → by_case (each state layers.old) None (home (each state layers.old) places.now name.now kind) name.now (after_at op.now (look_of (each state layers.old) places.now name.now)) ≡ None }
+    ensures unchanged { OnErr result (each state layers.new ≡ each state layers.old) }
+{
+    match op.at(look_in(layers, places, name))? {
+        After::Same => Ok(()),
+        After::Changed(item) => put_up_in(layers, places, name, kind, item),
+        After::Gone => Err(StoreError::Refused),
+    }
+}
+
 // Writes to the layers at the places, from the top.
 fn write_once(
     layers: &mut [Box<dyn Layer>],
@@ -48,18 +70,15 @@ fn write_once(
     ensures refused { result ≡ Err StoreError.Refused → write_of (each state layers.old) places.now name.now kind op.now ≡ None }
     ensures unchanged { OnErr result (each state layers.new ≡ each state layers.old) }
 {
-    let made = op.at(look_in(layers, places, name))?;
-    if let After::Same = made {
+    let effect = op.effect(look_in(layers, places, name))?;
+    if let Effect::Same = effect {
         return Ok(());
     }
     if let Some(place) = open_holder_in(layers, places, name) {
         change_in(layers, place, name, op)?;
         return Ok(());
     }
-    match made {
-        After::Changed(item) => put_up_in(layers, places, name, kind, item),
-        _ => Err(StoreError::Refused),
-    }
+    write_above_in(layers, places, name, kind, op)
 }
 
 /// Writes to the layers at the places, from the top, and keeps the items of all other names.
