@@ -1,6 +1,6 @@
 -- Owners that leave questions.
 use Rattle.std.proofs.Common.{◌≡◌, ◌≢◌, ℕ, ◌+◌, ◌<◌, length, get_or, take, Bool, true, false, cond, not, List, [], ◌∷◌, ◌++◌, Option, Some, None, Result, is_some, map as each, refl, sym, ap, subst, ◌∙◌, inl, inr}
-use Rattle.std.specs.Prelude.{◌&&◌, ◌⊎◌, option_map}
+use Rattle.std.specs.Prelude.{◌&&◌, option_map}
 use Rattle.std.specs.Option.{option_map_or}
 use Rattle.std.specs.List.{All, AllByRecursion, filter, filter_map, cons_option}
 use Rattle.std.specs.Str.{bytes_eq}
@@ -12,7 +12,6 @@ use Rattle.dc_text.specs.Maps.{Texts, set_of, AreDistinct as AllDiffer}
 use Rattle.dc_item.specs.Item.{ItemParts}
 use Rattle.dc_item.specs.After.{after_at}
 use Rattle.dc_item.specs.declared.op.After.{After}
-use Rattle.dc_item.specs.declared.op.Op.{Op}
 use Rattle.dc_item.specs.declared.op.Op.TheVariants.{DropOwners}
 use Rattle.dc_item.proofs.PrintedLines.{keys_apart}
 use Rattle.dc_template.specs.declared.kinds.Kind.{Kind}
