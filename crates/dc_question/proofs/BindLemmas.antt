@@ -1,11 +1,10 @@
 -- Questions that are bound to templates.
-use Rattle.std.proofs.Common.{◌≡◌, ℕ, Bool, true, false, List, [], ◌∷◌, ◌++◌, Option, Some, None, Result, Ok, Err, refl, sym, ap, subst, ◌∙◌, inr}
+use Rattle.std.proofs.Common.{◌≡◌, ℕ, Bool, true, false, List, [], ◌∷◌, ◌++◌, Option, Some, None, Result, Err, refl, sym, ap, subst, ◌∙◌, inr}
 use Rattle.std.specs.Prelude.{option_map, if◌then◌else◌}
 use Rattle.std.specs.FinMap.{empty}
 use Rattle.dc_text.specs.Maps.{Texts}
 use Rattle.dc_item.specs.Item.{ItemParts}
 use Rattle.dc_item.specs.declared.op.Op.{Op}
-use Rattle.dc_item.specs.declared.op.Op.TheVariants.{AddOwner}
 use Rattle.dc_template.specs.declared.kinds.Kind.{Kind}
 use Rattle.dc_conf.specs.Plans.{are_disjoint}
 use Rattle.dc_layer.specs.State.{LayerState}

@@ -2,4 +2,5 @@ pub mod ApartLemmas
 pub mod BindLemmas
 pub mod ChangeLemmas
 pub mod KindLemmas
+pub mod LeaveLemmas
 pub mod ReadingLemmas

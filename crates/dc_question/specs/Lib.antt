@@ -1,5 +1,6 @@
 pub mod Changes
 pub mod KindsLeft
+pub mod Losses
 pub mod Ownership
 pub mod Questions
 pub mod Readings

@@ -7,7 +7,7 @@ use Rattle.std.specs.Str.{bytes_eq}
 use Rattle.std.specs.FinMap as map
 use Rattle.dc_text.specs.Maps.{set_of}
 use Rattle.dc_text.specs.Settled.{settled}
-use Rattle.dc_item.specs.After.{after, after_at}
+use Rattle.dc_item.specs.After.{after_at}
 use Rattle.dc_item.specs.Item.{ItemParts}
 use Rattle.dc_item.specs.declared.op.Op.{Op}
 use Rattle.dc_item.specs.declared.op.Op.TheVariants.{Put, AddOwner, DropOwners}

@@ -9,6 +9,7 @@ ghost use Rattle.dc_question.specs.Changes.{Does};
 ghost use Rattle.dc_question.specs.Ownership.{registered, loaded, unregistered, purged, load_row, leave_row};
 ghost use Rattle.dc_question.specs.Questions.{IsSetOver};
 
+use crate::beside::only;
 use crate::binding::has_other_template;
 use crate::errors::QuestionError;
 use crate::questions::Questions;
@@ -55,7 +56,11 @@ impl<'q> Questions<'q> {
         ensures setting { self.new.setting ≡ self.old.setting }
         ensures held { self.new.store.ghost_name ≡ self.old.store.ghost_name }
     {
-        Err(QuestionError::OutOfMemory)
+        if !self.exists(name) {
+            return Err(QuestionError::NoQuestion { name: name.copy()? });
+        }
+        let names = only(self.alloc, name)?;
+        self.leave(owner, names.as_slice())
     }
 
     #[tactic(auto, using(dc_store::proofs::RowLemmas::same_all_refl))]
@@ -70,7 +75,8 @@ impl<'q> Questions<'q> {
         ensures setting { self.new.setting ≡ self.old.setting }
         ensures held { self.new.store.ghost_name ≡ self.old.store.ghost_name }
     {
-        Err(QuestionError::OutOfMemory)
+        let names = self.owned(owner)?;
+        self.leave(owner, names.as_slice())
     }
 
     #[tactic(auto, using(dc_store::proofs::RowLemmas::same_all_refl))]
