@@ -1,7 +1,181 @@
--- The session is a function of its state and a line.
-use Rattle.std.proofs.Common.{sym, ◌∙◌}
-use Rattle.dc_serve.specs.Determined.{IsFunction}
-use Rattle.dc_session.specs.Machine.{Heeds}
+-- Where the files tell of the disk and of their calls, a session is a function of its state, a line and the files that are left.
+use Rattle.std.proofs.Common.{◌≡◌, ℕ, Bool, true, false, List, [], ◌∷◌, ◌++◌, Option, None, Some, refl, ap, sym, subst, ◌∙◌}
+use Rattle.std.specs.Prelude.{Ok, Err, IfSome, map as each}
+use Rattle.std.specs.List.{list_any}
+use Rattle.std.proofs.lemmas.List.{append_cancel_left}
+use Rattle.dc_words.specs.declared.stream.Line.{Line}
+use Rattle.dc_words.specs.declared.stream.Line.TheVariants.{Whole, TooLong}
+use Rattle.dc_outside.specs.Disk.{Disk, bytes_at}
+use Rattle.dc_outside.specs.Steps.{after_look}
+use Rattle.dc_outside.specs.Told.{Told}
+use Rattle.dc_outside.specs.declared.files.FilesCall.{FilesCall}
+use Rattle.dc_outside.specs.declared.files.FilesOp.{FilesOp}
+use Rattle.dc_outside.specs.declared.files.FilesOp.TheVariants.{Read}
+use Rattle.dc_proto.specs.Commands.{heard}
+use Rattle.dc_proto.specs.declared.command.Command.{Command}
+use Rattle.dc_proto.specs.declared.command.Command.TheVariants.{Get, Set, Reset, Subst, Fget, Fset, Metaget, Register, Unregister, Purge, LoadTemplateFile}
+use Rattle.dc_proto.specs.declared.command.Heard.{Heard}
+use Rattle.dc_proto.specs.declared.command.Heard.TheVariants.{Nothing, Known, Refused}
+use Rattle.dc_serve.specs.declared.heeds.Heeded.{Heeded}
+use Rattle.dc_serve.specs.Course.{Turn, lines_of, IsCourse}
+use Rattle.dc_template.specs.Reading.{Reads, IsBad}
+use Rattle.dc_template.specs.Stanzas.{Stanza}
+use Rattle.dc_template.proofs.FaultLaws.{one_fault, not_both}
+use Rattle.dc_session.specs.Answers.{answer, after_command}
+use Rattle.dc_session.specs.Machine.{Heeds, HeedsHeard, HasDone, Gives, replied}
+use Rattle.dc_session.specs.SessionState.{FilesState, SessionState}
+use Rattle.dc_session.specs.TemplateFiles.{Finds, HasRead}
+use Rattle.dc_session.specs.declared.template_files.Found.{Found}
+use Rattle.dc_session.specs.declared.template_files.Found.TheVariants.{Unreadable, Missing, Faulty, Templates}
 
-pub heeds_is_function : IsFunction Heeds
-heeds_is_function old line did other new left first second = (first.0 ∙ sym second.0, first.1 ∙ sym second.1)
+same_some : {A : Type 0} (a b : A) → Some a ≡ Some b → a ≡ b
+same_some a b is = cc
+
+not_none : {A : Type 0} (a : A) → ◌≡◌ {A = Option A} None (Some a) → ⊥
+not_none a is = cc
+
+-- the disk and the calls are told
+abbrev IsTold : Disk → Told → Type 0
+IsTold disk told = (calls : List FilesCall) × (told ≡ record { disk = Some disk; calls = Some calls })
+
+apart : (path : List ℕ) → ◌≡◌ {A = List FilesCall} (record { op = Read; path = path; ok = false } ∷ []) (record { op = Read; path = path; ok = true } ∷ []) → ⊥
+apart path is = let same : false ≡ true = ap (λ (calls : List FilesCall). list_any (λ c. c.ok) calls) is in cc
+
+module _ (disk : Disk) (path : List ℕ) (old new : FilesState) (told : IsTold disk old.told) where
+  -- a call failed or was answered
+  one_answer : new.told ≡ after_look old.told Read path false → new.told ≡ after_look old.told Read path true → ⊥
+  one_answer failed done =
+      let same : after_look (record { disk = Some disk; calls = Some told.0 }) Read path false ≡ after_look (record { disk = Some disk; calls = Some told.0 }) Read path true
+      = subst (λ (t : Told). after_look t Read path false ≡ after_look t Read path true) told.1 (sym failed ∙ done) in
+      apart path (append_cancel_left told.0 _ _ (same_some _ _ (ap (λ (t : Told). t.calls) same)))
+
+  -- what was read stands there
+  read_is : (found : Option (List ℕ)) → HasRead path old new found → found ≡ bytes_at disk path
+  read_is found read = subst (λ (t : Told). IfSome t.disk (λ d. found ≡ bytes_at d path)) told.1 read.found_is
+
+  one_text : (text other : List ℕ) → HasRead path old new (Some text) → HasRead path old new (Some other) → text ≡ other
+  one_text text other first second = same_some text other (read_is (Some text) first ∙ sym (read_is (Some other) second))
+
+  one_of : (text : List ℕ) → HasRead path old new None → HasRead path old new (Some text) → ⊥
+  one_of text first second = not_none text (read_is None first ∙ sym (read_is (Some text) second))
+
+  one_found : (found other : Found) → Finds path old found new → Finds path old other new → found ≡ other
+  one_found Unreadable Unreadable first second = refl
+  one_found Unreadable Missing first second = absurd (one_answer first.0 second.told_is)
+  one_found Unreadable (Faulty line) first second = absurd (one_answer first.0 second.2.told_is)
+  one_found Unreadable (Templates templates) first second = absurd (one_answer first.0 second.1.told_is)
+  one_found Missing Unreadable first second = absurd (one_answer second.0 first.told_is)
+  one_found Missing Missing first second = refl
+  one_found Missing (Faulty line) first second = absurd (one_of second.0 first second.2)
+  one_found Missing (Templates templates) first second = absurd (one_of second.0 first second.1)
+  one_found (Faulty line) Unreadable first second = absurd (one_answer second.0 first.2.told_is)
+  one_found (Faulty line) Missing first second = absurd (one_of first.0 second first.2)
+  one_found (Faulty line) (Faulty other) first second =
+      let same : first.0 ≡ second.0 = one_text first.0 second.0 first.2 second.2 in
+      ap (λ n. Faulty n) (one_fault second.0 line other first.1 second.1 (subst (λ (t : List ℕ). IsBad t line first.1) same first.3) second.3).0
+  one_found (Faulty line) (Templates templates) first second =
+      absurd (not_both second.0 templates line first.1 second.2 (subst (λ (t : List ℕ). IsBad t line first.1) (one_text first.0 second.0 first.2 second.1) first.3))
+  one_found (Templates templates) Unreadable first second = absurd (one_answer second.0 first.1.told_is)
+  one_found (Templates templates) Missing first second = absurd (one_of first.0 second first.1)
+  one_found (Templates templates) (Faulty line) first second =
+      absurd (not_both first.0 templates line second.1 first.2 (subst (λ (t : List ℕ). IsBad t line second.1) (one_text second.0 first.0 second.2 first.1) second.3))
+  one_found (Templates templates) (Templates others) first second =
+      let reads : Reads second.0 templates = subst (λ (t : List ℕ). Reads t templates) (one_text first.0 second.0 first.1 second.1) first.2 in
+      ap (λ (ts : List Stanza). Templates ts) (reads.are ∙ sym second.2.are)
+
+  looked : (ok : Bool) → new.told ≡ after_look old.told Read path ok → IsTold disk new.told
+  looked ok is =
+      (told.0 ++ record { op = Read; path = path; ok = ok } ∷ [], is ∙ ap (λ (t : Told). after_look t Read path ok) told.1)
+
+  finds_told : (found : Found) → Finds path old found new → IsTold disk new.told
+  finds_told Unreadable finds = looked false finds.0
+  finds_told Missing finds = looked true finds.told_is
+  finds_told (Faulty line) finds = looked true finds.2.told_is
+  finds_told (Templates templates) finds = looked true finds.1.told_is
+
+module _ (disk : Disk) (old new : FilesState) (told : IsTold disk old.told) where
+  one_given : (command : Command) (found other : Found) → Gives command old found new → Gives command old other new → found ≡ other
+  one_given (Get word) found other first second = first.0 ∙ sym second.0
+  one_given (Set word text) found other first second = first.0 ∙ sym second.0
+  one_given (Reset word) found other first second = first.0 ∙ sym second.0
+  one_given (Subst word key text) found other first second = first.0 ∙ sym second.0
+  one_given (Fget word key) found other first second = first.0 ∙ sym second.0
+  one_given (Fset word key text) found other first second = first.0 ∙ sym second.0
+  one_given (Metaget word field) found other first second = first.0 ∙ sym second.0
+  one_given (Register template name) found other first second = first.0 ∙ sym second.0
+  one_given (Unregister word) found other first second = first.0 ∙ sym second.0
+  one_given Purge found other first second = first.0 ∙ sym second.0
+  one_given (LoadTemplateFile path owner) found other first second = one_found disk path old new told found other first second
+
+  same_told : new ≡ old → IsTold disk new.told
+  same_told same = subst (λ (f : FilesState). IsTold disk f.told) (sym same) told
+
+  gives_told : (command : Command) (found : Found) → Gives command old found new → IsTold disk new.told
+  gives_told (Get word) found gives = same_told gives.1
+  gives_told (Set word text) found gives = same_told gives.1
+  gives_told (Reset word) found gives = same_told gives.1
+  gives_told (Subst word key text) found gives = same_told gives.1
+  gives_told (Fget word key) found gives = same_told gives.1
+  gives_told (Fset word key text) found gives = same_told gives.1
+  gives_told (Metaget word field) found gives = same_told gives.1
+  gives_told (Register template name) found gives = same_told gives.1
+  gives_told (Unregister word) found gives = same_told gives.1
+  gives_told Purge found gives = same_told gives.1
+  gives_told (LoadTemplateFile path owner) found gives = finds_told disk path old new told found gives
+
+-- ---- one line
+
+module _ (disk : Disk) (old : SessionState) (told : IsTold disk old.files.told) (did other : Heeded) (new left : SessionState) (files : new.files ≡ left.files) where
+  done_once : (command : Command) → HasDone command old did new → HasDone command old other left → (did ≡ other) × (new ≡ left)
+  done_once command first second =
+      let same : first.found ≡ second.found
+      = one_given disk old.files left.files told command first.found second.found (subst (λ (f : FilesState). Gives command old.files first.found f) files first.gives) second.gives in (
+        first.heeded_is ∙ ap (λ (f : Found). replied (answer old command f).reply) same ∙ sym second.heeded_is,
+        first.new_is ∙ (λ i. after_command old command (same i) (files i)) ∙ sym second.new_is,
+      )
+
+  heard_once : (said : Heard) → HeedsHeard said old did new → HeedsHeard said old other left → (did ≡ other) × (new ≡ left)
+  heard_once Nothing first second = (first.0 ∙ sym second.0, first.1 ∙ sym second.1)
+  heard_once (Known command) first second = done_once command first second
+  heard_once (Refused reply) first second = (first.0 ∙ sym second.0, first.1 ∙ sym second.1)
+
+  heeds_once : (line : Line) → Heeds old line did new → Heeds old line other left → (did ≡ other) × (new ≡ left)
+  heeds_once TooLong first second = (first.0 ∙ sym second.0, first.1 ∙ sym second.1)
+  heeds_once (Whole line) first second = heard_once (heard false line) first second
+
+module _ (disk : Disk) (old : SessionState) (told : IsTold disk old.files.told) (did : Heeded) (new : SessionState) where
+  state_told : new ≡ old → IsTold disk new.files.told
+  state_told same = same_told disk old.files new.files told (ap (λ (s : SessionState). s.files) same)
+
+  heard_told : (said : Heard) → HeedsHeard said old did new → IsTold disk new.files.told
+  heard_told Nothing heeds = state_told heeds.1
+  heard_told (Known command) heeds = gives_told disk old.files new.files told command heeds.found heeds.gives
+  heard_told (Refused reply) heeds = state_told heeds.1
+
+  heeds_told : (line : Line) → Heeds old line did new → IsTold disk new.files.told
+  heeds_told TooLong heeds = state_told heeds.1
+  heeds_told (Whole line) heeds = heard_told (heard false line) heeds
+
+-- ---- courses
+
+abbrev files_left : List (Turn SessionState) → List FilesState
+files_left turns = each (λ turn. turn.new.files) turns
+
+courses : (disk : Disk) (start : SessionState) (a b : List (Turn SessionState)) → IsTold disk start.files.told → IsCourse Heeds start a → IsCourse Heeds start b
+    → lines_of a ≡ lines_of b → files_left a ≡ files_left b → a ≡ b
+courses disk start [] [] told first second lines files = refl
+courses disk start [] (turn ∷ b) told first second lines files = cc
+courses disk start (turn ∷ a) [] told first second lines files = cc
+courses disk start (one ∷ a) (other ∷ b) told first second lines files =
+    let line : one.line ≡ other.line = cc in
+    let rest : lines_of a ≡ lines_of b = cc in
+    let left : one.new.files ≡ other.new.files = cc in
+    let later_files : files_left a ≡ files_left b = cc in
+    let here = heeds_once disk start told one.did other.did one.new other.new left other.line (subst (λ (l : Line). Heeds start l one.did one.new) line first.0) second.0 in
+    let later : a ≡ b
+    = courses disk one.new a b (heeds_told disk start told one.did one.new one.line first.0) first.2 (subst (λ (s : SessionState). IsCourse Heeds s b) (sym here.1) second.2) rest later_files in
+    λ i. record { line = line i; did = here.0 i; new = here.1 i } ∷ later i
+
+pub determined : (disk : Disk) (start : SessionState) (calls : List FilesCall) (a b : List (Turn SessionState)) → start.files.told ≡ record { disk = Some disk; calls = Some calls }
+    → IsCourse Heeds start a → IsCourse Heeds start b → lines_of a ≡ lines_of b → files_left a ≡ files_left b → a ≡ b
+determined disk start calls a b told = courses disk start a b (calls, told)

@@ -1,5 +1,8 @@
+pub mod CallLemmas
+pub mod CommandLemmas
 pub mod Determined
+pub mod DiskLaws
+pub mod FrameLaws
 pub mod LineLaws
-pub mod SessionLemmas
-pub mod Teeth
 pub mod ServeLemmas
+pub mod Teeth

@@ -1,85 +1,147 @@
 // Replies of commands.
-ghost use Rattle.std.specs.Prelude.{◌≡◌, ◌++◌, IfOk, OnOk, Err};
+ghost use Rattle.std.specs.Prelude.{◌≡◌, ◌++◌, IfOk, [], codes};
 ghost use Rattle.dc_text.specs.Names.{is_name};
 ghost use Rattle.dc_proto.specs.Replies.{reply as reply_of};
-ghost use Rattle.dc_session.specs.Answers.{no_question, truth, is_truth, question_word as question_word_of};
-ghost use Rattle.dc_session.specs.Inside.{IsNamed, change_reply, refusal_reply};
+ghost use Rattle.dc_session.specs.Answers.{no_question, no_template, no_field, cant_change, other_template, bad_flag_value, bad_template_file, truth, is_truth};
+ghost use Rattle.dc_session.specs.Inside.{IsNamed, TellsRefusal, Tells};
+ghost use Rattle.dc_session.specs.Machine.{replied as replied_of};
 
-use dc_proto::{Command, Reply};
+use dc_proto::{Reply, print_reply};
 use dc_question::QuestionError;
+use dc_serve::Heeded;
 use dc_text::{Mem, Name, NameRefused, OutOfMemory, Text};
 use std::alloc::Global;
 
-/// A refusal of code 10 that tells a word, between these texts.
-pub fn told_of(alloc: Global, before: &[u8], word: &[u8], after: &[u8]) -> Mem<Reply>
-    ensures { IfOk result (λ reply. reply ≡ reply_of 10 (before.now ++ word.now ++ after.now)) }
+/// A reply is sent as it is printed.
+pub fn replied(alloc: Global, reply: &Reply) -> Mem<Heeded>
+    ensures { IfOk result (λ did. did ≡ replied_of reply.now) }
+{
+    let text = print_reply(alloc, reply, false)?;
+    Ok(Heeded::Replied {
+        code: reply.code,
+        text,
+    })
+}
+
+/// This reply is sent.
+pub fn says(alloc: Global, code: u8, text: &[u8]) -> Mem<Heeded>
+    ensures { IfOk result (λ did. did ≡ replied_of (reply_of code text.now)) }
+{
+    let reply = Reply::new(alloc, code, text)?;
+    replied(alloc, &reply)
+}
+
+// A refusal of code 10 that tells a word, between these texts.
+fn refuses(alloc: Global, before: &[u8], word: &[u8], after: &[u8]) -> Mem<Heeded>
+    ensures { IfOk result (λ did. did ≡ replied_of (reply_of 10 (before.now ++ (word.now ++ after.now)))) }
 {
     let mut text = Text::from_bytes(alloc, before)?;
     text.append(word)?;
     text.append(after)?;
-    Ok(Reply { code: 10, text })
+    says(alloc, 10, text.bytes())
 }
 
-/// The reply where no question has the name.
-pub fn missing(alloc: Global, word: &Text) -> Mem<Reply>
-    ensures { IfOk result (λ reply. reply ≡ no_question word.now) }
+/// No question has the name.
+pub fn missing(alloc: Global, word: &[u8]) -> Mem<Heeded>
+    ensures { IfOk result (λ did. did ≡ replied_of (no_question word.now)) }
 {
-    told_of(alloc, b"", word.bytes(), b" doesn't exist")
+    refuses(alloc, b"", word, b" doesn't exist")
 }
 
-/// The reply to a change of a question that is there.
-pub fn changed(
-    alloc: Global,
-    word: &Text,
-    text: &[u8],
-    done: Result<(), QuestionError>,
-) -> Mem<Reply>
-    ensures reply { IfOk result (λ reply. reply ≡ change_reply word.now text.now done) }
-    ensures done { OnOk result (done ≡ Err QuestionError.OutOfMemory → ⊥) }
+fn no_such_template(alloc: Global, word: &[u8]) -> Mem<Heeded>
+    ensures { IfOk result (λ did. did ≡ replied_of (no_template word.now)) }
 {
-    match done {
-        Ok(()) => Reply::new(alloc, 0, text),
-        Err(QuestionError::OutOfMemory) => Err(OutOfMemory),
-        Err(_) => told_of(alloc, b"", word.bytes(), b" can't be changed"),
-    }
+    refuses(alloc, b"no template for ", word, b"")
 }
 
-/// The reply to a read that is refused.
-pub fn refused(alloc: Global, word: &Text, field: &[u8], error: QuestionError) -> Mem<Reply>
-    ensures reply { IfOk result (λ reply. reply ≡ refusal_reply word.now field.now error) }
-    ensures error { OnOk result (error ≡ QuestionError.OutOfMemory → ⊥) }
+fn unchangeable(alloc: Global, word: &[u8]) -> Mem<Heeded>
+    ensures { IfOk result (λ did. did ≡ replied_of (cant_change word.now)) }
+{
+    refuses(alloc, b"", word, b" can't be changed")
+}
+
+fn bound_elsewhere(alloc: Global, word: &[u8]) -> Mem<Heeded>
+    ensures { IfOk result (λ did. did ≡ replied_of (other_template word.now)) }
+{
+    refuses(alloc, b"", word, b" has another template")
+}
+
+/// The template has no such field.
+pub fn no_such_field(alloc: Global, field: &[u8]) -> Mem<Heeded>
+    ensures { IfOk result (λ did. did ≡ replied_of (no_field field.now)) }
+{
+    refuses(alloc, b"", field, b" doesn't exist")
+}
+
+/// The template file has a fault at this line.
+pub fn faulty(alloc: Global, line: u64) -> Mem<Heeded>
+    ensures { IfOk result (λ did. did ≡ replied_of (bad_template_file line)) }
+{
+    let number = line.to_string(alloc)?;
+    refuses(alloc, b"bad template file, line ", number.as_bytes(), b"")
+}
+
+/// A call is refused. A field is told as it was typed.
+pub fn refused(alloc: Global, field: &[u8], error: QuestionError) -> Mem<Heeded>
+    ensures { TellsRefusal field.now error result }
 {
     match error {
+        QuestionError::NoQuestion { name } => missing(alloc, name.bytes()),
+        QuestionError::NoTemplate { name } => no_such_template(alloc, name.bytes()),
+        QuestionError::NoField => no_such_field(alloc, field),
+        QuestionError::CantChange { name } => unchangeable(alloc, name.bytes()),
+        QuestionError::Twice { name } => bound_elsewhere(alloc, name.bytes()),
         QuestionError::OutOfMemory => Err(OutOfMemory),
-        QuestionError::NoTemplate { name: _ } => {
-            told_of(alloc, b"no template for ", word.bytes(), b"")
-        }
-        QuestionError::NoField => told_of(alloc, b"", field, b" doesn't exist"),
-        QuestionError::NoQuestion { name: _ } => missing(alloc, word),
-        QuestionError::CantChange { name: _ } => missing(alloc, word),
-        QuestionError::Twice { name: _ } => missing(alloc, word),
     }
 }
 
-/// The word of the question of a command.
-pub fn question_word(command: &Command) -> &Text
-    ensures { result.now ≡ question_word_of command.now }
+/// What is read is told, or why it isn't.
+pub fn tell(alloc: Global, field: &[u8], said: Result<Text, QuestionError>) -> Mem<Heeded>
+    ensures { Tells field.now (reply_of 0) said result }
 {
-    match command {
-        Command::Get(question) | Command::Reset(question) => question,
-        Command::Set { question, value: _ } => question,
-        Command::Subst {
-            question,
-            key: _,
-            value: _,
-        } => question,
-        Command::Fget { question, flag: _ } => question,
-        Command::Fset {
-            question,
-            flag: _,
-            value: _,
-        } => question,
-        Command::Metaget { question, field: _ } => question,
+    match said {
+        Ok(text) => says(alloc, 0, text.bytes()),
+        Err(error) => refused(alloc, field, error),
+    }
+}
+
+/// A field that is none is told, unless the question or its template isn't there.
+pub fn tell_no_field(alloc: Global, field: &[u8], said: Result<Text, QuestionError>) -> Mem<Heeded>
+    ensures { Tells field.now (λ text. no_field field.now) said result }
+{
+    match said {
+        Ok(_) => no_such_field(alloc, field),
+        Err(error) => refused(alloc, field, error),
+    }
+}
+
+/// A flag is told, or why it isn't.
+pub fn tell_flag(alloc: Global, said: Result<bool, QuestionError>) -> Mem<Heeded>
+    ensures { Tells [] (λ is. reply_of 0 (truth is)) said result }
+{
+    match said {
+        Ok(is) => says(alloc, 0, shown(is)),
+        Err(error) => refused(alloc, b"", error),
+    }
+}
+
+/// A value that no flag gets is told, unless the question isn't there.
+pub fn tell_bad_flag(alloc: Global, said: Result<bool, QuestionError>) -> Mem<Heeded>
+    ensures { Tells [] (λ is. bad_flag_value) said result }
+{
+    match said {
+        Ok(_) => says(alloc, 10, b"bad flag value"),
+        Err(error) => refused(alloc, b"", error),
+    }
+}
+
+/// A call that writes is confirmed by this text, or it is told why it isn't done.
+pub fn confirm(alloc: Global, text: &[u8], done: Result<(), QuestionError>) -> Mem<Heeded>
+    ensures { Tells [] (λ unit. reply_of 0 text.now) done result }
+{
+    match done {
+        Ok(()) => says(alloc, 0, text),
+        Err(error) => refused(alloc, b"", error),
     }
 }
 
@@ -94,12 +156,13 @@ pub fn named(alloc: Global, word: &Text) -> Mem<Option<Name>>
     }
 }
 
-pub fn shown(is: bool) -> &'static [u8]
+fn shown(is: bool) -> &'static [u8]
     ensures { result.now ≡ truth is }
 {
     if is { b"true" } else { b"false" }
 }
 
+/// Whether the value is the word of a truth.
 pub fn is_shown_truth(value: &[u8]) -> bool
     ensures { result ≡ is_truth value.now }
 {

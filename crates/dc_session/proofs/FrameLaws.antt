@@ -1,0 +1,186 @@
+-- Which items a command's writes are on: the others stay.
+use Rattle.std.proofs.Common.{◌≡◌, ◌⊎◌, ℕ, suc, ◌<◌, Bool, true, false, List, [], ◌∷◌, Option, None, Some, refl, sym, ap, subst, ◌∙◌, inl, inr, arith}
+use Rattle.std.specs.Prelude.{codes, Result, Ok, Err, IfOk, unwrap_or, map as each, length, if◌then◌else◌}
+use Rattle.std.specs.List.{Contains, list_any}
+use Rattle.std.specs.Option.{option_map_or}
+use Rattle.std.specs.Str.{bytes_eq}
+use Rattle.dc_text.specs.Names.{is_name}
+use Rattle.dc_text.specs.Settled.{settled}
+use Rattle.dc_text.specs.declared.memory.OutOfMemory.{OutOfMemory}
+use Rattle.dc_words.specs.declared.stream.Line.{Line}
+use Rattle.dc_words.specs.declared.stream.Line.TheVariants.{Whole, TooLong}
+use Rattle.dc_item.specs.Item.{ItemParts}
+use Rattle.dc_item.specs.declared.op.Op.{Op}
+use Rattle.dc_item.specs.declared.op.Op.TheVariants.{Put, SetField, SetFlag, SetVar}
+use Rattle.dc_proto.specs.Replies.{reply}
+use Rattle.dc_proto.specs.declared.command.Command.{Command}
+use Rattle.dc_proto.specs.declared.command.Command.TheVariants.{Get, Set, Reset, Subst, Fget, Fset, Metaget, Register, Unregister, Purge, LoadTemplateFile}
+use Rattle.dc_proto.specs.declared.reply.Reply.{Reply}
+use Rattle.dc_serve.specs.declared.heeds.Heeded.{Heeded}
+use Rattle.dc_layer.specs.State.{LayerState}
+use Rattle.dc_store.specs.Plans.{StoreState, write, owned}
+use Rattle.dc_store.specs.Rows.{Write, row_done, all_done, names_of, is_refused, first_held_up}
+use Rattle.dc_store.specs.StoreLaws.{IsSameButAll, AreSameBut, AreSameButAll}
+use Rattle.dc_store.proofs.Frames.{plan_keeps}
+use Rattle.dc_store.proofs.RowLemmas.{same_all, same_all_refl, same_all_then}
+use Rattle.dc_template.specs.Stanzas.{Stanza}
+use Rattle.dc_question.specs.Changes.{changed, value_set, value_reset, variable_set, without_answer, flag_set, done_or, told_by, row_for, question_write}
+use Rattle.dc_question.specs.Ownership.{registered, unregistered, purged, loaded, leave_row, load_row, register_row, has_other_template, bound_elsewhere}
+use Rattle.dc_question.specs.Questions.{Setting, question, flag, named_template, read, read_template}
+use Rattle.dc_question.specs.declared.errors.QuestionError.{QuestionError}
+use Rattle.dc_question.specs.declared.errors.QuestionError.TheVariants as error
+use Rattle.dc_session.specs.SessionState.{SessionState}
+use Rattle.dc_session.specs.Answers.{Outcome, answer, loading, load_names, names_on, on, does, says, is_truth, bad_flag_value}
+use Rattle.dc_session.specs.Machine.{HasDone}
+use Rattle.dc_session.specs.declared.template_files.Found.{Found}
+use Rattle.dc_session.specs.declared.template_files.Found.TheVariants.{Unreadable, Missing, Faulty, Templates}
+use Rattle.dc_session.proofs.CommandLemmas.{says_stays}
+
+-- ---- rows
+
+-- one more name
+more_contains : (name : List ℕ) (names : List (List ℕ)) (other : List ℕ) → Contains names other → Contains (name ∷ names) other
+more_contains name names other in' = (suc in'.0, omega (arith, in'.1), in'.2)
+
+pub same_all_more : (name : List ℕ) (names : List (List ℕ)) (xs ys : List LayerState) → AreSameButAll names xs ys → AreSameButAll (name ∷ names) xs ys
+same_all_more name names [] [] s = tt
+same_all_more name names [] (y ∷ ys) s = absurd s
+same_all_more name names (x ∷ xs) [] s = absurd s
+same_all_more name names (x ∷ xs) (y ∷ ys) s = (
+  record {
+    sort = s.0.sort;
+    spec = s.0.spec;
+    left_out = s.0.left_out;
+    text = s.0.text;
+    items = λ other out. s.0.items other (λ in'. out (more_contains name names other in'));
+  },
+  same_all_more name names xs ys s.1,
+)
+
+one_keeps : (store : StoreState) (w : Write) (done : Option StoreState) → write store w.plan w.name w.kind w.op ≡ done → AreSameButAll (w.name ∷ []) store.layers (unwrap_or done store).layers
+one_keeps store w None is = same_all_refl (w.name ∷ []) store.layers
+one_keeps store w (Some new) is = same_all (w.name ∷ []) w.name store.layers new.layers (0, omega arith, refl) (plan_keeps store new w.plan w.name w.kind w.op is)
+
+all_keeps : (names : List (List ℕ)) (row : List Write) (store : StoreState) → ((n : List ℕ) → Contains (names_of row) n → Contains names n) → AreSameButAll names store.layers (all_done store row).layers
+all_keeps names [] store among = same_all_refl names store.layers
+all_keeps names (w ∷ row) store among =
+    same_all_then names store.layers (unwrap_or (write store w.plan w.name w.kind w.op) store).layers (all_done store (w ∷ row)).layers
+    (first (write store w.plan w.name w.kind w.op) refl)
+    (all_keeps names row (unwrap_or (write store w.plan w.name w.kind w.op) store) (λ n in'. among n (more_contains w.name (names_of row) n in'))) where
+      first : (done : Option StoreState) → write store w.plan w.name w.kind w.op ≡ done → AreSameButAll names store.layers (unwrap_or done store).layers
+      first None is = same_all_refl names store.layers
+      first (Some new) is = same_all names w.name store.layers new.layers (among w.name (0, omega arith, refl)) (plan_keeps store new w.plan w.name w.kind w.op is)
+
+-- what a row leaves differs at most in the items that it is on
+pub row_keeps : (store new : StoreState) (row : List Write) → row_done store row ≡ Some new → AreSameButAll (names_of row) store.layers new.layers
+row_keeps store new row is = by_test (list_any (is_refused store.layers) row) refl where
+  by_test : (b : Bool) → list_any (is_refused store.layers) row ≡ b → AreSameButAll (names_of row) store.layers new.layers
+  by_test true refused = absurd (let none : ◌≡◌ {A = Option StoreState} None (Some new) = ap (λ b. if b then None else Some (all_done store row)) (sym refused) ∙ is in cc)
+  by_test false free =
+      let some : ◌≡◌ {A = Option StoreState} (Some (all_done store row)) (Some new) = ap (λ b. if b then None else Some (all_done store row)) (sym free) ∙ is in
+      let same : all_done store row ≡ new = cc in
+      subst (λ (s : StoreState). AreSameButAll (names_of row) store.layers s.layers) same (all_keeps (names_of row) row store (λ n in'. in'))
+
+-- ---- calls
+
+-- what a call leaves differs at most in the items of these names
+abbrev Keeps : List (List ℕ) → StoreState → Result StoreState QuestionError → Type 0
+Keeps names store row = IfOk row (λ new. AreSameButAll names store.layers new.layers)
+
+one_told : (store : StoreState) (name : List ℕ) (row : List Write) (done : Option StoreState) → row_done store row ≡ done → Keeps (names_of row) store (done_or name done)
+one_told store name row None is = tt
+one_told store name row (Some new) is = row_keeps store new row is
+
+row_told : (store : StoreState) (held : Option (List ℕ)) (row : List Write) (done : Option StoreState) → row_done store row ≡ done → Keeps (names_of row) store (told_by held done)
+row_told store held row None is = tt
+row_told store held row (Some new) is = row_keeps store new row is
+
+row_for_keeps : (store : StoreState) (names : List (List ℕ)) (row : List Write) → Keeps (names_of row) store (row_for store names row)
+row_for_keeps store names row = row_told store (first_held_up store.layers names row) row (row_done store row) refl
+
+changed_keeps : (store : StoreState) (at : Setting) (name : List ℕ) (op : Op) (item : Option ItemParts)
+    → Keeps (name ∷ []) store (read name item (λ i. done_or name (row_done store (question_write store.layers at name i op ∷ []))))
+changed_keeps store at name op None = tt
+changed_keeps store at name op (Some item) = one_told store name (question_write store.layers at name item op ∷ []) (row_done store (question_write store.layers at name item op ∷ [])) refl
+
+-- ---- commands
+
+on_keeps : (names : List (List ℕ)) (store : StoreState) (word : List ℕ) (call : List ℕ → Result StoreState QuestionError) → Keeps names store (call word) → Keeps names store (on word call)
+on_keeps names store word call keeps = by_name (is_name word) refl where
+  by_name : (b : Bool) → is_name word ≡ b → Keeps names store (on word call)
+  by_name true is = rw is keeps
+  by_name false is = rw is tt
+
+does_keeps : (names : List (List ℕ)) (store : StoreState) (r : Reply) (row : Result StoreState QuestionError) → Keeps names store row → AreSameButAll names store.layers (does store r row).store.layers
+does_keeps names store r (Ok new) keeps = keeps
+does_keeps names store r (Err error) keeps = same_all_refl names store.layers
+
+says_keeps : {A : Type 0} (names : List (List ℕ)) (store : StoreState) (field : List ℕ) (r : A → Reply) (reading : Result A QuestionError)
+    → AreSameButAll names store.layers (says store field r reading).store.layers
+says_keeps names store field r reading = subst (λ (s : StoreState). AreSameButAll names store.layers s.layers) (sym (says_stays store field r reading)) (same_all_refl names store.layers)
+
+module _ (state : SessionState) where
+  one : (word : List ℕ) (op : Op) → Keeps (word ∷ []) state.store (changed state.store state.at word op)
+  one word op = changed_keeps state.store state.at word op (question state.store.layers state.at word)
+
+  fset_keeps : (word key text : List ℕ) (found : Found) (b : Bool) → is_truth text ≡ b → AreSameButAll (word ∷ []) state.store.layers (answer state (Fset word key text) found).store.layers
+  fset_keeps word key text found true is =
+      rw is (does_keeps (word ∷ []) state.store (reply 0 text) (on word (λ name. flag_set state.store state.at name key (bytes_eq text (codes "true"))))
+      (on_keeps (word ∷ []) state.store word (λ name. flag_set state.store state.at name key (bytes_eq text (codes "true"))) (one word (SetFlag key (bytes_eq text (codes "true"))))))
+  fset_keeps word key text found false is = rw is (says_keeps (word ∷ []) state.store [] (λ flag. bad_flag_value) (on word (λ name. flag state.store.layers state.at name key)))
+
+  reset_keeps : (word : List ℕ) (item : Option ItemParts) (op : ItemParts → Op) → Keeps (word ∷ []) state.store (read word item (λ i. changed state.store state.at word (op i)))
+  reset_keeps word None op = tt
+  reset_keeps word (Some item) op = one word (op item)
+
+  register_keeps : (template name : List ℕ) (item : Option ItemParts) (b : Bool) → has_other_template template (question state.store.layers state.at name) ≡ b
+      → Keeps (template ∷ name ∷ []) state.store (read_template name item (λ i. if has_other_template template (question state.store.layers state.at name) then Err (error.Twice name) else row_for state.store (name ∷ []) (register_row state.store.layers state.at template name state.owner)))
+  register_keeps template name None b is = tt
+  register_keeps template name (Some item) true is = rw is tt
+  register_keeps template name (Some item) false is = rw is (row_for_keeps state.store (name ∷ []) (register_row state.store.layers state.at template name state.owner))
+
+  unregister_keeps : (word : List ℕ) (item : Option ItemParts)
+      → Keeps (names_of (leave_row state.store.layers state.at state.owner (word ∷ []))) state.store (read word item (λ i. row_for state.store (word ∷ []) (leave_row state.store.layers state.at state.owner (word ∷ []))))
+  unregister_keeps word None = tt
+  unregister_keeps word (Some item) = row_for_keeps state.store (word ∷ []) (leave_row state.store.layers state.at state.owner (word ∷ []))
+
+  loaded_keeps : (owner : List ℕ) (templates : List Stanza) (elsewhere : Option Stanza)
+      → Keeps (names_of (load_row state.store.layers state.at owner templates)) state.store (option_map_or (λ t. Err (error.Twice t.name)) elsewhere (row_for state.store (each (λ t. t.name) templates) (load_row state.store.layers state.at owner templates)))
+  loaded_keeps owner templates None = row_for_keeps state.store (each (λ t. t.name) templates) (load_row state.store.layers state.at owner templates)
+  loaded_keeps owner templates (Some stanza) = tt
+
+  loading_keeps : (owner : List ℕ) (found : Found) → AreSameButAll (load_names state owner found) state.store.layers (loading state owner found).store.layers
+  loading_keeps owner Unreadable = same_all_refl [] state.store.layers
+  loading_keeps owner Missing = same_all_refl [] state.store.layers
+  loading_keeps owner (Faulty line) = same_all_refl [] state.store.layers
+  loading_keeps owner (Templates templates) =
+      does_keeps (names_of (load_row state.store.layers state.at owner templates)) state.store _ _ (loaded_keeps owner templates (bound_elsewhere state.store.layers state.at templates))
+
+  -- a call on the question of a word that writes
+  word_keeps : (names : List (List ℕ)) (word text : List ℕ) (call : List ℕ → Result StoreState QuestionError) → Keeps names state.store (call word)
+      → AreSameButAll names state.store.layers (does state.store (reply 0 text) (on word call)).store.layers
+  word_keeps names word text call keeps = does_keeps names state.store (reply 0 text) (on word call) (on_keeps names state.store word call keeps)
+
+  answer_keeps : (command : Command) (found : Found) → AreSameButAll (names_on state command found) state.store.layers (answer state command found).store.layers
+  answer_keeps (Get word) found = says_keeps [] state.store [] _ _
+  answer_keeps (Set word text) found = word_keeps (word ∷ []) word (codes "value set") (λ name. value_set state.store state.at name text) (one word (SetField (codes "value") (settled text)))
+  answer_keeps (Reset word) found =
+      word_keeps (word ∷ []) word [] (λ name. value_reset state.store state.at name) (reset_keeps word (question state.store.layers state.at word) (λ item. Put (without_answer item)))
+  answer_keeps (Subst word key text) found = word_keeps (word ∷ []) word [] (λ name. variable_set state.store state.at name key text) (one word (SetVar key (settled text)))
+  answer_keeps (Fget word key) found = says_keeps [] state.store [] _ _
+  answer_keeps (Fset word key text) found = fset_keeps word key text found (is_truth text) refl
+  answer_keeps (Metaget word field) found = says_keeps [] state.store field _ _
+  answer_keeps (Register template name) found =
+      does_keeps (template ∷ name ∷ []) state.store (reply 0 []) (registered state.store state.at template name state.owner)
+      (register_keeps template name (named_template state.store.layers state.at template) (has_other_template template (question state.store.layers state.at name)) refl)
+  answer_keeps (Unregister word) found =
+      word_keeps (names_of (leave_row state.store.layers state.at state.owner (word ∷ []))) word [] (λ name. unregistered state.store state.at name state.owner) (unregister_keeps word (question state.store.layers state.at word))
+  answer_keeps Purge found =
+      let names : List (List ℕ) = owned state.store.layers state.at.config state.owner in
+      does_keeps (names_of (leave_row state.store.layers state.at state.owner names)) state.store (reply 0 []) (purged state.store state.at state.owner)
+      (row_for_keeps state.store names (leave_row state.store.layers state.at state.owner names))
+  answer_keeps (LoadTemplateFile path owner) found = loading_keeps (unwrap_or owner state.owner) found
+
+-- a command changes at most the items that its writes are on
+pub others_stay : (command : Command) (old new : SessionState) (did : Heeded) (done : HasDone command old did new) → AreSameButAll (names_on old command done.found) old.store.layers new.store.layers
+others_stay command old new did done = rw done.new_is (answer_keeps old command done.found)

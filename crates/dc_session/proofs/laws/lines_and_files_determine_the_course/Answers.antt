@@ -1,0 +1,5 @@
+use Rattle.dc_session.proofs.Determined.{determined}
+use Rattle.dc_session.proofs.laws.lines_and_files_determine_the_course.Goals as goal
+
+pub returns : goal.returns
+returns c start disk calls = determined disk start calls

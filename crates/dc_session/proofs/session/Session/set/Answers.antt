@@ -1,0 +1,8 @@
+use Rattle.dc_session.proofs.CommandLemmas.{set_does}
+use Rattle.dc_session.proofs.session.Session.set.Goals as goal
+
+pub returns-clause-does : goal.returns-clause-does
+returns-clause-does g c =
+    let named = rw c.in-Some.is at c.in_ok-name.ensures in
+    let does = rw c.bytes-2.ensures at c.set-done.ensures.does in
+    set_does _ _ _ c.set-done.ensures.setting _ _ named _ c.set-done.ensures.others c.set-done.result does c.confirm.result c.confirm.ensures

@@ -1,0 +1,8 @@
+use Rattle.dc_session.proofs.CommandLemmas.{subst_does}
+use Rattle.dc_session.proofs.session.Session.subst.Goals as goal
+
+pub returns-clause-does : goal.returns-clause-does
+returns-clause-does g c =
+    let named = rw c.in-Some.is at c.in_ok-name.ensures in
+    let does = rw c.bytes-2.ensures at c.subst-done.ensures.does in
+    subst_does _ _ _ c.subst-done.ensures.setting _ _ named _ _ c.subst-done.ensures.others c.subst-done.result does c.confirm.result c.confirm.ensures

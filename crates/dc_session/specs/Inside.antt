@@ -1,0 +1,69 @@
+-- What the inner functions of a session promise. No public clause cites these.
+use Rattle.std.specs.Prelude.{◌≡◌, ℕ, Bool, true, false, List, map as each, Option, Some, None, Result, Ok, Err, IfOk}
+use Rattle.dc_text.specs.declared.memory.OutOfMemory.{OutOfMemory}
+use Rattle.dc_text.specs.Maps.{AreDistinct}
+use Rattle.dc_text.specs.Names.{is_name}
+use Rattle.dc_proto.specs.declared.command.Heard.{Heard}
+use Rattle.dc_proto.specs.Replies.{reply}
+use Rattle.dc_proto.specs.declared.reply.Reply.{Reply}
+use Rattle.dc_store.specs.StoreLaws.{AreSameButAll}
+use Rattle.dc_question.specs.declared.errors.QuestionError.{QuestionError}
+use Rattle.dc_question.specs.declared.errors.QuestionError.TheVariants as error
+use Rattle.dc_serve.specs.declared.heeds.Heeded.{Heeded}
+use Rattle.dc_template.specs.Reading.{IsAnswer}
+use Rattle.dc_template.specs.declared.faults.TemplateKind.{TemplateKind}
+use Rattle.dc_template.specs.declared.faults.TemplateError.TheVariants.{Bad}
+use Rattle.dc_session.specs.Answers.{Outcome, refusal, says, field_read}
+use Rattle.dc_session.specs.Machine.{replied, HeedsHeard, BreaksHeard}
+use Rattle.dc_session.specs.SessionState.{SessionState}
+use Rattle.dc_session.specs.declared.template_files.Found.{Found}
+use Rattle.dc_session.specs.declared.template_files.Found.TheVariants.{Unreadable, Missing, Faulty, Templates}
+
+-- the name that a word is, if it is one
+abbrev pub IsNamed : List ℕ → Option (List ℕ) → Type 0
+IsNamed word None = is_name word ≡ false
+IsNamed word (Some name) = (name ≡ word) × (is_name word ≡ true)
+
+-- ---- template files
+
+-- what the text of a template file says
+abbrev pub SaysTemplates : List ℕ → Found → Type 0
+SaysTemplates text Unreadable = ⊥
+SaysTemplates text Missing = ⊥
+SaysTemplates text (Faulty line) = (kind : TemplateKind) × IsAnswer text (Err (Bad line kind))
+SaysTemplates text (Templates templates) = IsAnswer text (Ok templates)
+
+-- the templates found have distinct names
+abbrev pub HasDistinctNames : Found → Type 0
+HasDistinctNames (Templates templates) = AreDistinct (each (λ t. t.name) templates)
+HasDistinctNames _ = Unit {0}
+
+-- ---- replies
+
+-- a call is refused, and this is said of it, unless memory ran out
+abbrev pub TellsRefusal : List ℕ → QuestionError → Result Heeded OutOfMemory → Type 0
+TellsRefusal field error.OutOfMemory (Ok heeded) = ⊥
+TellsRefusal field error (Ok heeded) = heeded ≡ replied (refusal field error)
+TellsRefusal field error (Err memory) = Unit {0}
+
+-- what a call answered, and this is said of it, unless memory ran out
+abbrev pub Tells : {A : Type 0} → List ℕ → (A → Reply) → Result A QuestionError → Result Heeded OutOfMemory → Type 0
+Tells field reply (Ok answer) (Ok heeded) = heeded ≡ replied (reply answer)
+Tells field reply (Ok answer) (Err memory) = Unit {0}
+Tells field reply (Err error) result = TellsRefusal field error result
+
+-- ---- commands
+
+-- A command comes to this, or memory ran out at its calls and at most the items of these names changed.
+abbrev pub Comes : Outcome → List (List ℕ) → SessionState → SessionState → Result Heeded OutOfMemory → Type 0
+Comes outcome names old new (Ok heeded) = (heeded ≡ replied outcome.reply) × (new ≡ record old { store = outcome.store })
+Comes outcome names old new (Err memory) = AreSameButAll names old.store.layers new.store.layers × (new ≡ record old { store = new.store })
+
+-- a field of a question is told, unless memory ran out
+pub record ReadsField (state : SessionState) (field name : List ℕ) (result : Result Heeded OutOfMemory) : Type 0 where
+  pub told : IfOk result (λ heeded. heeded ≡ replied (says state.store field (reply 0) (field_read state field name)).reply)
+
+-- what a line does, or where memory ran out at it
+abbrev pub DoesHeard : Heard → SessionState → SessionState → Result Heeded OutOfMemory → Type 0
+DoesHeard heard old new (Ok heeded) = HeedsHeard heard old heeded new
+DoesHeard heard old new (Err memory) = BreaksHeard heard old new
