@@ -10,10 +10,64 @@ use dc_conf::Plan;
 use dc_layer::Layer;
 use dc_outside::{Files, Link};
 use dc_question::Questions;
-use dc_session::{FileEnd, Session, TakesTemplates};
+use dc_session::{Desk, FileEnd, find_templates};
 use dc_store::Store;
-use dc_text::{List, Name, Text};
+use dc_text::{List, Mem, Name, OutOfMemory, Text};
 use std::alloc::Global;
+use std::marker::PhantomData;
+
+/// What template files are loaded into.
+trait TakesTemplates {
+    ghost use Rattle.std.specs.Prelude.{◌≡◌};
+    ghost use Rattle.dc_session.specs.SessionState.{SessionState};
+    ghost use Rattle.dc_session.specs.FileLoading.{Loads};
+
+    /// The state that it works on.
+    ghost state_at: { Self → SessionState };
+
+    ghost Kept: { Type 0 };
+
+    /// The names of the references that it holds.
+    ghost kept: { Self → Kept };
+
+    /// Loads the templates of the file at the path for the owner of the state (debconf-loadtemplate(1)): all of them, or none.
+    fn load_file(&mut self, path: &Text) -> Mem<FileEnd>
+        ensures loads { Loads path.now (state_at self.old) (state_at self.new) result }
+        ensures kept { kept self.new ≡ kept self.old };
+}
+
+/// A desk, and the files in which it looks for templates.
+#[derive(Drop)]
+struct Loader<'s, 'f, F: Files> {
+    alloc: Global,
+    desk: Desk<'s>,
+    files: &'f mut F,
+    of: PhantomData<Box<dyn Layer>>,
+}
+
+impl<'s, 'f, F: Files> TakesTemplates for Loader<'s, 'f, F> {
+    ghost use Rattle.std.specs.Prelude.{map as each};
+    ghost use Rattle.std.specs.Borrow.{GName};
+    ghost use Rattle.dc_store.specs.Plans.{stored};
+
+    ghost state_at = { λ s. record {
+      store = stored (each (λ b. (Layer-box b).state b.value) s.desk.questions.store.now.layers.items) s.desk.questions.store.now.told;
+      files = record { told = F.told s.files.now; counts = F.counts s.files.now };
+      at = s.desk.questions.setting;
+      owner = s.desk.owner.now;
+    } };
+
+    ghost Kept = { GName × GName };
+
+    ghost kept = { λ s. (s.desk.questions.store.ghost_name, s.files.ghost_name) };
+
+    fn load_file(&mut self, path: &Text) -> Mem<FileEnd> {
+        match find_templates(self.alloc, self.files, path) {
+            Ok(found) => self.desk.take_templates(&found),
+            Err(_) => Err(OutOfMemory),
+        }
+    }
+}
 
 /// Loads the template files at the paths, in order, into these layers, by the plans of questions and of templates, for a user of the
 /// language and for an owner (debconf-loadtemplate(1)). A file that is refused is told on `err`, and the status is 1 where there was
@@ -40,9 +94,20 @@ pub fn load_template_files<E: Link, F: Files>(
 {
     let mut store = Store::new(alloc, std::mem::replace(layers, Vec::new(alloc)));
     let questions = Questions::new(alloc, &mut store, config, templates, lang);
-    let mut session = Session::new(alloc, questions, files, owner);
-    let loaded = load_files(&mut session, err, paths.as_slice());
-    *layers = session.into_layers();
+    let mut loader = Loader {
+        alloc,
+        desk: Desk::new(questions, owner),
+        files,
+        of: PhantomData,
+    };
+    let loaded = load_files(&mut loader, err, paths.as_slice());
+    let Loader {
+        alloc: _,
+        desk,
+        files: _kept,
+        of: _,
+    } = loader;
+    *layers = desk.layers_left(alloc);
     ToolAnswer {
         ended: loaded.ended,
         last_code: 0,
@@ -62,10 +127,10 @@ fn load_files<S: TakesTemplates, E: Link>(
     err: &mut E,
     paths: &[Text],
 ) -> FilesLoaded
-    ensures loads { LoadsFiles (S.at session.old) paths.now
+    ensures loads { LoadsFiles (S.state_at session.old) paths.now
         (record { talk = E.talk err.old; input = E.left err.old; counts = record { faults = E.faults err.old; refusals = E.refusals err.old } })
         (record { talk = E.talk err.new; input = E.left err.new; counts = record { faults = E.faults err.new; refusals = E.refusals err.new } })
-        result (S.at session.new) }
+        result (S.state_at session.new) }
     ensures kept { S.kept session.new ≡ S.kept session.old }
 {
     match paths {
@@ -95,10 +160,10 @@ fn load_one<S: TakesTemplates, E: Link>(
     err: &mut E,
     path: &Text,
 ) -> Result<bool, ToolEnd>
-    ensures loads { LoadsOne (S.at session.old) path.now
+    ensures loads { LoadsOne (S.state_at session.old) path.now
         (record { talk = E.talk err.old; input = E.left err.old; counts = record { faults = E.faults err.old; refusals = E.refusals err.old } })
         (record { talk = E.talk err.new; input = E.left err.new; counts = record { faults = E.faults err.new; refusals = E.refusals err.new } })
-        result (S.at session.new) }
+        result (S.state_at session.new) }
     ensures kept { S.kept session.new ≡ S.kept session.old }
 {
     let kept = match path.copy() {

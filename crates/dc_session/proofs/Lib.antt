@@ -4,5 +4,6 @@ pub mod Determined
 pub mod DiskLaws
 pub mod FrameLaws
 pub mod LineLaws
+pub mod LoadLemmas
 pub mod ServeLemmas
 pub mod Teeth
