@@ -9,6 +9,8 @@ use Rattle.dc_outside.specs.Told.{Told, Counts}
 use Rattle.dc_outside.specs.declared.link.Piece.{Piece}
 use Rattle.dc_outside.proofs.Moments.{none_more}
 use Rattle.dc_proto.specs.Commands.{heard}
+use Rattle.dc_proto.specs.declared.command.Command.{Command}
+use Rattle.dc_proto.specs.declared.command.Command.TheVariants.{LoadTemplateFile}
 use Rattle.dc_proto.specs.declared.command.Heard.{Heard}
 use Rattle.dc_proto.specs.declared.command.Heard.TheVariants.{Nothing, Known, Refused}
 use Rattle.dc_conf.specs.Configuration.{Configuration}
@@ -17,7 +19,7 @@ use Rattle.dc_conf.proofs.AnswerLemmas.{sound_answer}
 use Rattle.dc_conf.proofs.ResolvedLemmas.{places_apart as places_kept_apart}
 use Rattle.dc_layer.specs.State.{Table, LayerState}
 use Rattle.dc_layer.specs.declared.image.Image.{Image}
-use Rattle.dc_store.specs.StoreLaws.{AreSameBut}
+use Rattle.dc_store.specs.StoreLaws.{AreSameButAll}
 use Rattle.dc_save.specs.Loading.{with_loaded, LoadsLayer, LoadsFiles}
 use Rattle.dc_save.specs.Saving.{Saves, Ends, MayAddAny, AreApart, StandSaved, all_saved}
 use Rattle.dc_save.specs.declared.loading.Loaded.{Loaded}
@@ -32,19 +34,33 @@ use Rattle.dc_save.proofs.PlaceLemmas.{places_apart, layers_of}
 use Rattle.dc_shelf.specs.Shelves.{all_set_up, GoesOn, LoadsAll}
 use Rattle.dc_serve.specs.Course.{Turn, state_after, IsCourse}
 use Rattle.dc_serve.specs.Run.{Answered}
+use Rattle.dc_serve.specs.Said.{said, BreaksOff}
+use Rattle.dc_serve.specs.declared.heeds.Heeded.{Heeded}
 use Rattle.dc_serve.specs.declared.outcome.LinkEnd.{LinkEnd}
 use Rattle.dc_serve.specs.declared.outcome.LinkEnd.TheVariants as link
-use Rattle.dc_session.specs.Machine.{Heeds, Breaks, after_heard, next}
-use Rattle.dc_session.specs.SessionState.{SessionState}
-use Rattle.dc_session.proofs.LineLaws.{others_stay}
-use Rattle.dc_session.specs.Answers.{question_word, after_command}
-use Rattle.dc_run.specs.Ends.{IsEnded, end_unsaved}
+use Rattle.dc_session.specs.Answers.{answer, names_on}
+use Rattle.dc_session.specs.Machine.{replied, Heeds, HeedsHeard, Breaks, HasDone, IsDoneInPart}
+use Rattle.dc_session.specs.SessionState.{FilesState, SessionState}
+use Rattle.dc_session.specs.TemplateFiles.{Finds, FindsNoMemory}
+use Rattle.dc_session.specs.declared.template_files.Found.{Found}
+use Rattle.dc_session.specs.declared.template_files.Found.TheVariants.{Unreadable, Missing, Faulty, Templates}
+use Rattle.dc_session.proofs.DiskLaws.{breaks_reads, course_reads}
+use Rattle.dc_session.proofs.FrameLaws.{others_stay}
+use Rattle.dc_run.specs.Ends.{IsEnded, tool_end_of, end_unsaved}
 use Rattle.dc_run.specs.Finishing.{images_of, IsSaved, IsUnsaved, IsWithoutMemory, Finishes}
-use Rattle.dc_run.specs.Headline.{HasServed, HasRunWords}
+use Rattle.dc_run.specs.Headline.{Uses, HasUsed, HasRunWords}
 use Rattle.dc_run.specs.Starting.{IsConfiguration, EndsBefore, begun, databases_of, roots}
-use Rattle.dc_run.specs.World.{FilesState, Stock, World}
+use Rattle.dc_run.specs.TemplateLoading.{FileTurn, IsFileTurn, IsFileCourse, state_after as file_state, EndsAt}
+use Rattle.dc_run.specs.Tools.{owner_of}
+use Rattle.dc_run.specs.World.{LinkState, Stock, World}
 use Rattle.dc_run.specs.declared.outcome.End.{End}
 use Rattle.dc_run.specs.declared.outcome.End.TheVariants as end
+use Rattle.dc_run.specs.declared.outcome.Outcome.{Outcome}
+use Rattle.dc_run.specs.declared.outcome.ToolAnswer.{ToolAnswer}
+use Rattle.dc_run.specs.declared.outcome.ToolEnd.{ToolEnd}
+use Rattle.dc_run.specs.declared.outcome.ToolEnd.TheVariants as tool
+use Rattle.dc_run.specs.declared.tool.Tool.{Tool}
+use Rattle.dc_run.specs.declared.tool.Tool.TheVariants.{Communicate, LoadTemplate}
 use Rattle.dc_run.proofs.StartLemmas.{files_reached}
 use Rattle.dc_run.specs.Crashes.{KeepsDatabases}
 
@@ -110,41 +126,134 @@ set_up_specs : (specs : List LayerSpec) → specs_in (all_set_up specs) ≡ each
 set_up_specs [] = refl
 set_up_specs (spec ∷ specs) = ap (λ (l : List (Option LayerSpec)). Some spec ∷ l) (set_up_specs specs)
 
-same_specs : (name : List ℕ) (old new : List LayerState) → AreSameBut name old new → specs_in new ≡ specs_in old
-same_specs name [] [] is = refl
-same_specs name [] (layer ∷ new) is = absurd is
-same_specs name (layer ∷ old) [] is = absurd is
-same_specs name (layer ∷ old) (made ∷ new) is = λ i. is.0.spec i ∷ same_specs name old new is.1 i
+same_specs : (names : List (List ℕ)) (old new : List LayerState) → AreSameButAll names old new → specs_in new ≡ specs_in old
+same_specs names [] [] is = refl
+same_specs names [] (layer ∷ new) is = absurd is
+same_specs names (layer ∷ old) [] is = absurd is
+same_specs names (layer ∷ old) (made ∷ new) is = λ i. is.0.spec i ∷ same_specs names old new is.1 i
 
 abbrev specs_of : SessionState → List (Option LayerSpec)
 specs_of state = specs_in state.store.layers
 
-heard_keeps : (state : SessionState) (said : Heard) → specs_of (after_heard state said) ≡ specs_of state
-heard_keeps state Nothing = refl
-heard_keeps state (Known command) = same_specs (question_word command) state.store.layers (after_command state command).store.layers (others_stay state command)
-heard_keeps state (Refused reply) = refl
+heard_keeps : (said : Heard) (old new : SessionState) (did : Heeded) → HeedsHeard said old did new → specs_of new ≡ specs_of old
+heard_keeps Nothing old new did heeds = ap specs_of heeds.1
+heard_keeps (Known command) old new did heeds = same_specs (names_on old command heeds.found) old.store.layers new.store.layers (others_stay command old new did heeds)
+heard_keeps (Refused reply) old new did heeds = ap specs_of heeds.1
 
-next_keeps : (state : SessionState) (line : Line) → specs_of (next state line) ≡ specs_of state
-next_keeps state TooLong = refl
-next_keeps state (Whole line) = heard_keeps state (heard false line)
+heeds_keep : (old new : SessionState) (line : Line) (did : Heeded) → Heeds old line did new → specs_of new ≡ specs_of old
+heeds_keep old new TooLong did heeds = ap specs_of heeds.1
+heeds_keep old new (Whole line) did heeds = heard_keeps (heard false line) old new did heeds
 
 course_keeps : (start : SessionState) (turns : List (Turn SessionState)) → IsCourse Heeds start turns → specs_of (state_after start turns) ≡ specs_of start
 course_keeps start [] is = refl
-course_keeps start (turn ∷ turns) is = course_keeps turn.new turns is.2 ∙ ap specs_of is.0.1 ∙ next_keeps start turn.line
+course_keeps start (turn ∷ turns) is = course_keeps turn.new turns is.2 ∙ heeds_keep start turn.new turn.line turn.did is.0
 
 last_after : (start : SessionState) (gone : List (Turn SessionState)) (last : Turn SessionState) → state_after start (gone ++ last ∷ []) ≡ last.new
 last_after start [] last = refl
 last_after start (turn ∷ gone) last = last_after turn.new gone last
 
 module _ (start new : SessionState) (turns : List (Turn SessionState)) (rest : List Line) (talk : List Piece) (input : Option (List ℕ)) (code : ℕ) where
+  behind : (gone : List (Turn SessionState)) (last : Turn SessionState) → turns ≡ gone ++ last ∷ [] → new ≡ last.new → new ≡ state_after start turns
+  behind gone last are is = is ∙ sym (last_after start gone last) ∙ ap (state_after start) (sym are)
+
+  broken_off : BreaksOff start turns (said talk) 0 new code → new ≡ state_after start turns
+  broken_off (inl all) = all.1.state_is
+  broken_off (inr unsaid) = behind unsaid.gone unsaid.last unsaid.turns_are unsaid.state_is
+
   -- the state is the one that the turns leave, where the layers are saved
-  state_left : (ended : LinkEnd OutOfMemory) → IsEnded ended → Answered Breaks ended start turns rest talk input new code → new ≡ state_after start turns
+  state_left : (ended : LinkEnd OutOfMemory) → IsEnded (tool_end_of ended) → Answered Breaks ended start turns rest talk input new code → new ≡ state_after start turns
   state_left link.Done is answered = answered.are_said.state_is
   state_left link.LinkFault is (inl lost) = lost.answered.are_said.state_is
-  state_left link.LinkFault is (inr cut) = cut.answered.state_is ∙ sym (last_after start cut.answered.gone cut.answered.last) ∙ ap (state_after start) (sym cut.answered.turns_are)
+  state_left link.LinkFault is (inr cut) = behind cut.answered.gone cut.answered.last cut.answered.turns_are cut.answered.state_is
   state_left link.TooLong is answered = answered.answered.are_said.state_is
   state_left link.OutOfMemory is answered = absurd is
   state_left (link.Broken error) is answered = absurd is
+
+  reads_to : IsCourse Heeds start turns → new ≡ state_after start turns → new.files.told.disk ≡ start.files.told.disk
+  reads_to course is = ap (λ (s : SessionState). s.files.told.disk) is ∙ course_reads start turns course
+
+  -- at each end the session has only read files
+  session_reads : IsCourse Heeds start turns → (ended : LinkEnd OutOfMemory) → Answered Breaks ended start turns rest talk input new code → new.files.told.disk ≡ start.files.told.disk
+  session_reads course link.Done answered = reads_to course (state_left link.Done tt answered)
+  session_reads course link.LinkFault answered = reads_to course (state_left link.LinkFault tt answered)
+  session_reads course link.TooLong answered = reads_to course (state_left link.TooLong tt answered)
+  session_reads course link.OutOfMemory answered = reads_to course (broken_off answered)
+  session_reads course (link.Broken error) answered = breaks_reads (state_after start turns) new answered.line error answered.broke ∙ course_reads start turns course
+
+-- ---- template files
+
+finds_reads : (path : List ℕ) (old new : FilesState) (found : Found) → Finds path old found new → new.told.disk ≡ old.told.disk
+finds_reads path old new Unreadable finds = ap (λ (t : Told). t.disk) finds.0
+finds_reads path old new Missing finds = ap (λ (t : Told). t.disk) finds.told_is
+finds_reads path old new (Faulty line) finds = ap (λ (t : Told). t.disk) finds.2.told_is
+finds_reads path old new (Templates templates) finds = ap (λ (t : Told). t.disk) finds.1.told_is
+
+none_reads : (path : List ℕ) (old new : FilesState) → FindsNoMemory path old new → new.told.disk ≡ old.told.disk
+none_reads path old new (inl refused) = ap (λ (t : Told). t.disk) refused.0
+none_reads path old new (inr read) = ap (λ (t : Told). t.disk) read.0
+
+part_reads : (path : List ℕ) (old new : SessionState) → IsDoneInPart (LoadTemplateFile path None) old new → new.files.told.disk ≡ old.files.told.disk
+part_reads path old new part = elim part.gives [
+  | inl finds ↦ finds_reads path old.files new.files part.found finds
+  | inr none ↦ none_reads path old.files new.files none
+]
+
+files_read : (start : SessionState) (turns : List FileTurn) → IsFileCourse start turns → (file_state start turns).files.told.disk ≡ start.files.told.disk
+files_read start [] is = refl
+files_read start (turn ∷ turns) is = files_read turn.new turns is.1 ∙ finds_reads turn.path start.files turn.new.files turn.found is.0.finds
+
+end_reads : (ended : ToolEnd) (state : SessionState) (rest : List (List ℕ)) (new : SessionState) → EndsAt ended state rest new → new.files.told.disk ≡ state.files.told.disk
+end_reads tool.Done state rest new ends = ap (λ (s : SessionState). s.files.told.disk) ends.1
+end_reads (tool.FilesFault path) state rest new ends = finds_reads path state.files new.files Unreadable ends.2
+end_reads tool.OutOfMemory state rest new ends = elim ends.3 [
+  | inl same ↦ ap (λ (s : SessionState). s.files.told.disk) same
+  | inr part ↦ part_reads ends.0 state new part
+]
+end_reads tool.LinkFault state rest new ends = absurd ends
+end_reads tool.TooLong state rest new ends = absurd ends
+
+turn_keeps : (old : SessionState) (turn : FileTurn) → IsFileTurn old turn → specs_of turn.new ≡ specs_of old
+turn_keeps old turn is =
+    let command : Command = LoadTemplateFile turn.path None in
+    let did : Heeded = replied (answer old command turn.found).reply in
+    let done : HasDone command old did turn.new = record { found = turn.found; gives = is.finds; heeded_is = refl; new_is = is.new_is } in
+    same_specs (names_on old command turn.found) old.store.layers turn.new.store.layers (others_stay command old turn.new did done)
+
+files_keep : (start : SessionState) (turns : List FileTurn) → IsFileCourse start turns → specs_of (file_state start turns) ≡ specs_of start
+files_keep start [] is = refl
+files_keep start (turn ∷ turns) is = files_keep turn.new turns is.1 ∙ turn_keeps start turn is.0
+
+end_keeps : (ended : ToolEnd) → IsEnded ended → (state : SessionState) (rest : List (List ℕ)) (new : SessionState) → EndsAt ended state rest new → specs_of new ≡ specs_of state
+end_keeps tool.Done is state rest new ends = ap specs_of ends.1
+end_keeps (tool.FilesFault path) is state rest new ends = absurd is
+end_keeps tool.OutOfMemory is state rest new ends = absurd is
+end_keeps tool.LinkFault is state rest new ends = absurd ends
+end_keeps tool.TooLong is state rest new ends = absurd ends
+
+-- ---- tools
+
+-- A tool only reads files, and its layers stay those of their databases.
+pub record KeepsAll (start : SessionState) (ended : ToolEnd) (layers : List LayerState) (files : FilesState) : Type 0 where
+  pub disk : files.told.disk ≡ start.files.told.disk
+  pub specs : IsEnded ended → specs_in layers ≡ specs_of start
+
+tool_keeps : (used : Tool) (start : SessionState) (old new : LinkState) (given : ToolAnswer) (told : List ℕ) (layers : List LayerState) (files : FilesState) → Uses used start old new given told layers files → KeepsAll start given.ended layers files
+tool_keeps (Communicate owner) start old new given told layers files uses =
+    let served = uses.0.served in
+    let ran = served.ran in
+    record {
+      disk = ap (λ (f : FilesState). f.told.disk) served.files_are ∙ session_reads start served.state ran.turns ran.rest ran.pieces old.input given.last_code ran.course uses.0.ended ran.answered;
+      specs = λ is.
+          ap specs_in served.layers_are
+          ∙ ap specs_of (state_left start served.state ran.turns ran.rest ran.pieces old.input given.last_code uses.0.ended (subst IsEnded uses.0.ended_is is) ran.answered)
+          ∙ course_keeps start ran.turns ran.course;
+    }
+tool_keeps (LoadTemplate owner paths) start old new given told layers files uses =
+    let loads = uses.loaded in
+    record {
+      disk = ap (λ (f : FilesState). f.told.disk) uses.files_are ∙ end_reads given.ended (file_state start loads.turns) loads.rest uses.state loads.ends ∙ files_read start loads.turns loads.course;
+      specs = λ is. ap specs_in uses.layers_are ∙ end_keeps given.ended is (file_state start loads.turns) loads.rest uses.state loads.ends ∙ files_keep start loads.turns loads.course;
+    }
 
 -- ---- the save
 
@@ -154,17 +263,17 @@ pub record HasSaved (images : List Image) (files new : Told) (how : End) : Type 
   pub did : Saves images files new saves
   pub all_done : how ≡ end.Done → saves ≡ Ok tt
 
-not_done : (ended : LinkEnd OutOfMemory) (path : List ℕ) (how : End) (saves : Result (Unit {0}) SaveError) → how ≡ end_unsaved ended (save.Failed path) → how ≡ end.Done → saves ≡ Ok tt
-not_done link.Done path how saves is done = cc
-not_done link.LinkFault path how saves is done = cc
-not_done link.TooLong path how saves is done = cc
-not_done link.OutOfMemory path how saves is done = cc
-not_done (link.Broken error) path how saves is done = cc
+not_done : (ended : ToolEnd) (path : List ℕ) (how : End) (saves : Result (Unit {0}) SaveError) → how ≡ end_unsaved ended (save.Failed path) → how ≡ end.Done → saves ≡ Ok tt
+not_done tool.Done path how saves is done = cc
+not_done tool.LinkFault path how saves is done = cc
+not_done tool.TooLong path how saves is done = cc
+not_done tool.OutOfMemory path how saves is done = cc
+not_done (tool.FilesFault fault) path how saves is done = cc
 
 no_memory : (how : End) (saves : Result (Unit {0}) SaveError) → how ≡ end.OutOfMemory → how ≡ end.Done → saves ≡ Ok tt
 no_memory how saves is done = cc
 
-module _ (layers used : List LayerState) (files new : FilesState) (ended : LinkEnd OutOfMemory) (how : End) where
+module _ (layers used : List LayerState) (files new : FilesState) (ended : ToolEnd) (how : End) where
   saved_by : IsSaved layers used files new ended how ⊎ IsUnsaved layers used files new ended how ⊎ IsWithoutMemory layers used files new how → HasSaved (images_of layers) files.told new.told how
   saved_by (inl all) = record { saves = Ok tt; did = all.files_are; all_done = λ done. refl }
   saved_by (inr (inl failed)) = record { saves = Err (save.Failed failed.path); did = failed.failed; all_done = not_done ended failed.path how (Err (save.Failed failed.path)) failed.end_is }
@@ -203,46 +312,44 @@ module _ (path : List ℕ) (how : End) (before after : Disk) (settled : IsSettle
       stands = λ ok. all_stand (subst (λ (saves : Result (Unit {0}) SaveError). Ends (images_of layers) before.standing after.standing saves) ok (ends (images_of layers) files new save.saves save.did before after at to settled));
     }
 
-module _ (path lang : List ℕ) (old new : World) (how : End) (code : ℕ) (before after : Disk) (at : old.stock.files.told.disk ≡ Some before) (to : new.stock.files.told.disk ≡ Some after) (settled : IsSettled before.standing) where
-  nothing_done : new.stock.files.told.disk ≡ old.stock.files.told.disk → KeepsDatabases path before after how
-  nothing_done same = none_saved path how before after settled (same_some after before (sym to ∙ same ∙ at))
+module _ (path lang : List ℕ) (old new : World) (outcome : Outcome) (before after : Disk) (at : old.stock.files.told.disk ≡ Some before) (to : new.stock.files.told.disk ≡ Some after) (settled : IsSettled before.standing) where
+  nothing_done : new.stock.files.told.disk ≡ old.stock.files.told.disk → KeepsDatabases path before after outcome.end
+  nothing_done same = none_saved path outcome.end before after settled (same_some after before (sym to ∙ same ∙ at))
 
-  module _ (run : HasServed path lang old new how code) where
-    mid_at : run.mid.files.told.disk ≡ Some before
-    mid_at = all_read _ _ _ _ _ _ _ _ run.started.loaded.loads ∙ at
+  module _ (used : Tool) (run : HasUsed used path lang old new outcome) where
+    keeps : KeepsAll (begun run.mid run.roots lang (owner_of used)) run.answer.ended run.layers run.files
+    keeps = tool_keeps used (begun run.mid run.roots lang (owner_of used)) old.io new.io run.answer run.told run.layers run.files run.uses
+
+    files_at : run.files.told.disk ≡ Some before
+    files_at = keeps.disk ∙ all_read _ _ _ _ _ _ _ _ run.started.loaded.loads ∙ at
 
     mid_specs : specs_in run.mid.used ≡ each Some (databases_of run.started.conf)
     mid_specs = loads_keep _ _ _ _ _ _ _ _ run.started.loaded.loads ∙ set_up_specs (databases_of run.started.conf)
 
-    specs_left : IsEnded run.ended → specs_in run.layers ≡ each Some (databases_of run.started.conf)
-    specs_left is =
-        let ran = run.served.ran in
-        ap specs_in run.served.layers_are
-        ∙ ap specs_of (state_left (begun run.mid.used run.roots lang) run.served.state ran.turns ran.rest ran.pieces old.input code run.ended is ran.answered)
-        ∙ course_keeps (begun run.mid.used run.roots lang) ran.turns ran.course
-        ∙ mid_specs
+    specs_left : IsEnded run.answer.ended → specs_in run.layers ≡ each Some (databases_of run.started.conf)
+    specs_left is = keeps.specs is ∙ mid_specs
 
-    kept_by : HasSaved (images_of run.layers) run.mid.files.told new.stock.files.told how → specs_in run.layers ≡ each Some (databases_of run.started.conf) → KeepsDatabases path before after how
+    kept_by : HasSaved (images_of run.layers) run.files.told new.stock.files.told outcome.end → specs_in run.layers ≡ each Some (databases_of run.started.conf) → KeepsDatabases path before after outcome.end
     kept_by save specs =
-        some_saved path how before after settled run.started.conf (subst (λ (disk : Option Disk). IsConfiguration disk path run.started.conf) at run.started.loaded.conf_is)
-        run.layers specs run.mid.files.told new.stock.files.told mid_at to save
+        some_saved path outcome.end before after settled run.started.conf (subst (λ (disk : Option Disk). IsConfiguration disk path run.started.conf) at run.started.loaded.conf_is)
+        run.layers specs run.files.told new.stock.files.told files_at to save
 
-    none_by : new.stock.files ≡ run.mid.files → KeepsDatabases path before after how
-    none_by same = none_saved path how before after settled (same_some after before (sym to ∙ ap (λ (files : FilesState). files.told.disk) same ∙ mid_at))
+    none_by : new.stock.files ≡ run.files → KeepsDatabases path before after outcome.end
+    none_by same = none_saved path outcome.end before after settled (same_some after before (sym to ∙ ap (λ (files : FilesState). files.told.disk) same ∙ files_at))
 
-    finished : (ended : LinkEnd OutOfMemory) → (IsEnded ended → specs_in run.layers ≡ each Some (databases_of run.started.conf)) → Finishes run.layers new.stock.used ended run.mid.files new.stock.files how
-        → KeepsDatabases path before after how
-    finished link.Done specs does = kept_by (saved_by run.layers new.stock.used run.mid.files new.stock.files link.Done how does) (specs tt)
-    finished link.LinkFault specs does = kept_by (saved_by run.layers new.stock.used run.mid.files new.stock.files link.LinkFault how does) (specs tt)
-    finished link.TooLong specs does = kept_by (saved_by run.layers new.stock.used run.mid.files new.stock.files link.TooLong how does) (specs tt)
-    finished link.OutOfMemory specs does = none_by does.files_are
-    finished (link.Broken error) specs does = none_by does.files_are
+    finished : (ended : ToolEnd) → (IsEnded ended → specs_in run.layers ≡ each Some (databases_of run.started.conf)) → Finishes run.layers new.stock.used ended run.files new.stock.files outcome.end
+        → KeepsDatabases path before after outcome.end
+    finished tool.Done specs does = kept_by (saved_by run.layers new.stock.used run.files new.stock.files tool.Done outcome.end does) (specs tt)
+    finished tool.LinkFault specs does = kept_by (saved_by run.layers new.stock.used run.files new.stock.files tool.LinkFault outcome.end does) (specs tt)
+    finished tool.TooLong specs does = kept_by (saved_by run.layers new.stock.used run.files new.stock.files tool.TooLong outcome.end does) (specs tt)
+    finished tool.OutOfMemory specs does = none_by does.files_are
+    finished (tool.FilesFault fault) specs does = none_by does.files_are
 
-  run_by : (words : List (List ℕ)) → HasRunWords words path lang old new how code → KeepsDatabases path before after how
+  run_by : (words : List (List ℕ)) → HasRunWords words path lang old new outcome → KeepsDatabases path before after outcome.end
   run_by words (inl refused) = nothing_done (ap (λ (stock : Stock). stock.files.told.disk) refused.untouched)
-  run_by words (inr (is, inl ends)) = nothing_done (before_reads path old.stock.files new.stock how ends.0)
-  run_by words (inr (is, inr run)) = finished run run.ended (specs_left run) run.finishes
+  run_by words (inr (used, named, inl ends)) = nothing_done (before_reads path old.stock.files new.stock outcome.end ends.0)
+  run_by words (inr (used, named, inr run)) = finished used run run.answer.ended (specs_left used run) run.finishes
 
-pub run_keeps : (words : List (List ℕ)) (path lang : List ℕ) (old new : World) (how : End) (code : ℕ) (before after : Disk) → HasRunWords words path lang old new how code → old.stock.files.told.disk ≡ Some before
-    → new.stock.files.told.disk ≡ Some after → IsSettled before.standing → KeepsDatabases path before after how
-run_keeps words path lang old new how code before after run at to settled = run_by path lang old new how code before after at to settled words run
+pub run_keeps : (words : List (List ℕ)) (path lang : List ℕ) (old new : World) (outcome : Outcome) (before after : Disk) → HasRunWords words path lang old new outcome → old.stock.files.told.disk ≡ Some before
+    → new.stock.files.told.disk ≡ Some after → IsSettled before.standing → KeepsDatabases path before after outcome.end
+run_keeps words path lang old new outcome before after run at to settled = run_by path lang old new outcome before after at to settled words run

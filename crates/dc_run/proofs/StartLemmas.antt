@@ -12,16 +12,16 @@ use Rattle.dc_conf.specs.Stanzas.{Stanza, stanzas, fields_of, first_line}
 use Rattle.dc_conf.specs.ConfFaults.{fault_if, along, missing, lacks_field, rules_in, unknown_driver, bad_values, is_stack, repeated_name, same_place, lone_faults, database_faults, head_faults, second_pass}
 use Rattle.dc_conf.specs.declared.faults.ConfKind.TheVariants.{NoName, NoDriver, MissingField}
 use Rattle.std.specs.Prelude.{codes}
-use Rattle.dc_conf.specs.Configuration.{Configuration, IsAnswer, IsResolved, configuration, spec_of, reached, holders_of, is_among, plan_of}
+use Rattle.dc_conf.specs.Configuration.{Configuration, IsAnswer, IsResolved, configuration, spec_of, reached, holders_of, is_among, plan_of, AreDisjoint}
 use Rattle.dc_conf.specs.declared.plans.ResolveError.{ResolveError}
 use Rattle.dc_conf.specs.declared.plans.Resolved.{Resolved}
 use Rattle.dc_conf.proofs.CleanLemmas.{no_fault}
 use Rattle.dc_conf.proofs.TestLemmas.{nil-append}
 use Rattle.dc_shelf.specs.Shelves.{AreFiles, all_set_up, LoadsAll}
 use Rattle.dc_run.specs.Starting.{IsSomeConfiguration, databases_of, roots, conf_read, IsConfiguration, HasReadConf, HasLoaded}
-use Rattle.dc_run.specs.World.{FilesState}
+use Rattle.dc_session.specs.SessionState.{FilesState}
 use Rattle.dc_conf.specs.declared.plans.Plan.{Plan}
-use Rattle.dc_conf.specs.Plans.{IsOver}
+use Rattle.dc_conf.specs.Plans.{IsOver, are_disjoint}
 use Rattle.dc_layer.specs.State.{LayerState}
 use Rattle.dc_outside.specs.Told.{Told, Counts}
 use Rattle.dc_save.specs.declared.loading.LoadError.{LoadError}
@@ -156,3 +156,7 @@ both_over plans config templates count are over = let both = subst (AllByRecursi
 -- they speak of the layers that are used
 pub over_used : (plans : List Plan) (config templates : Plan) (count used : ℕ) → plans ≡ config ∷ templates ∷ [] → AllByRecursion (λ plan. IsOver plan count) plans → used ≡ count → IsOver config used × IsOver templates used
 over_used plans config templates count used are over same = subst (λ (n : ℕ). IsOver config n × IsOver templates n) (sym same) (both_over plans config templates count are over)
+
+-- they share no database
+pub both_disjoint : (plans : List Plan) (config templates : Plan) → plans ≡ config ∷ templates ∷ [] → AreDisjoint plans → are_disjoint config templates ≡ true
+both_disjoint plans config templates are apart = subst AreDisjoint are apart

@@ -9,7 +9,7 @@ use Rattle.dc_session.specs.SessionState.{FilesState, SessionState}
 use Rattle.dc_run.specs.declared.outcome.End.{End}
 use Rattle.dc_run.specs.declared.outcome.End.TheVariants as end
 use Rattle.dc_run.specs.declared.outcome.Outcome.{Outcome}
-use Rattle.dc_run.specs.declared.outcome.ToolEnd.{ToolEnd}
+use Rattle.dc_run.specs.declared.outcome.ToolAnswer.{ToolAnswer}
 use Rattle.dc_run.specs.declared.starting.Roots.{Roots}
 use Rattle.dc_run.specs.declared.tool.Tool.{Tool}
 use Rattle.dc_run.specs.declared.tool.Tool.TheVariants.{Communicate, LoadTemplate}
@@ -22,12 +22,6 @@ use Rattle.dc_run.specs.Tools.{Names, AreRefusedAt, owner_of}
 use Rattle.dc_run.specs.World.{LinkState, Stock, World}
 
 -- ---- the tools
-
--- what a tool answers: how it ended, the code of its last reply, and its own status
-pub record ToolAnswer : Type 0 where
-  pub ended : ToolEnd
-  pub last_code : ℕ
-  pub status : ℕ
 
 -- the commands that came on the link were served: its status is the code of the last reply
 pub record HasCommunicated (start : SessionState) (old new : LinkState) (answer : ToolAnswer) (layers : List LayerState) (files : FilesState) : Type 0 where

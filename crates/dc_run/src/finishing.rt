@@ -1,44 +1,43 @@
-// What a run does when its link has ended.
+// What a run does when its tool has ended.
 ghost use Rattle.std.specs.Prelude.{◌≡◌, map as each, MatchResult};
 ghost use Rattle.dc_save.specs.Saving.{Saves, SaveCounts};
 ghost use Rattle.dc_layer.specs.State.{saved};
 ghost use Rattle.dc_run.specs.Finishing.{Finishes, images_of};
 
-use crate::outcome::{End, end_at_save};
+use crate::outcome::{End, ToolEnd, end_at_save};
 use dc_layer::Layer;
 use dc_outside::Files;
 use dc_save::{SaveError, save_images};
-use dc_serve::LinkEnd;
 use dc_shelf::{images_of_all, mark_all_saved};
-use dc_text::OutOfMemory;
 use std::alloc::Global;
 
-/// Saves what changed in the layers, unless memory ran out, and answers the end of the run.
+/// Saves what changed in the layers, unless the tool met want of memory or a file that can't be read, and answers the end of the run.
 #[tactic(auto, using(crate::proofs::StartLemmas::whole_slice))]
 pub fn finish_used<F: Files>(
     alloc: Global,
-    end: LinkEnd<OutOfMemory>,
+    ended: ToolEnd,
     files: &mut F,
     used: &mut Vec<Box<dyn Layer>>,
 ) -> End
-    ensures { Finishes (each state used.old.items) (each state used.new.items) end (record { told = F.told files.old; counts = F.counts files.old }) (record { told = F.told files.new; counts = F.counts files.new }) result }
+    ensures { Finishes (each state used.old.items) (each state used.new.items) ended (record { told = F.told files.old; counts = F.counts files.old }) (record { told = F.told files.new; counts = F.counts files.new }) result }
 {
-    finish(alloc, end, files, used.as_mut_slice())
+    finish(alloc, ended, files, used.as_mut_slice())
 }
 
 fn finish<F: Files>(
     alloc: Global,
-    end: LinkEnd<OutOfMemory>,
+    ended: ToolEnd,
     files: &mut F,
     layers: &mut [Box<dyn Layer>],
 ) -> End
-    ensures { Finishes (each state layers.old) (each state layers.new) end (record { told = F.told files.old; counts = F.counts files.old }) (record { told = F.told files.new; counts = F.counts files.new }) result }
+    ensures { Finishes (each state layers.old) (each state layers.new) ended (record { told = F.told files.old; counts = F.counts files.old }) (record { told = F.told files.new; counts = F.counts files.new }) result }
 {
-    match end {
-        LinkEnd::OutOfMemory | LinkEnd::Broken(_) => End::OutOfMemory,
-        LinkEnd::Done | LinkEnd::LinkFault | LinkEnd::TooLong => {
+    match ended {
+        ToolEnd::OutOfMemory => End::OutOfMemory,
+        ToolEnd::FilesFault { path } => End::FilesFault { path },
+        ToolEnd::Done | ToolEnd::LinkFault | ToolEnd::TooLong => {
             let saved = save_all(alloc, files, layers);
-            end_at_save(end, saved)
+            end_at_save(ended, saved)
         }
     }
 }

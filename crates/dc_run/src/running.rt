@@ -1,18 +1,22 @@
 // The call that the program makes.
-ghost use Rattle.std.specs.Prelude.{◌≡◌, ◌≤◌, [], Some, length, map as each};
+ghost use Rattle.std.specs.Prelude.{◌≡◌, ◌≤◌, [], Some, length, map as each, true};
+ghost use Rattle.dc_conf.specs.Plans.{IsOver, are_disjoint};
 ghost use Rattle.dc_outside.specs.Disk.{Disk, IsSettled};
 ghost use Rattle.dc_shelf.specs.Shelves.{AreBlank};
+ghost use Rattle.dc_store.specs.Plans.{stored};
 ghost use Rattle.dc_run.specs.Crashes.{KeepsDatabases};
 ghost use Rattle.dc_run.specs.EndLines.{end_line, HasSaid};
 ghost use Rattle.dc_run.specs.Ends.{status_of, LinkCounts};
-ghost use Rattle.dc_run.specs.Headline.{HasRunWords, HasCommunicated};
+ghost use Rattle.dc_run.specs.Headline.{HasRunWords, HasRunTool};
+ghost use Rattle.dc_run.specs.Inside.{HasUsedTool, ToolCounts};
 
 use crate::finishing::finish_used;
-use crate::outcome::{End, Outcome, outcome_at};
+use crate::loading_templates::load_template_files;
+use crate::outcome::{End, Outcome, ToolAnswer, outcome_at, tool_end};
 use crate::settings::Settings;
-use crate::starting::start;
+use crate::starting::{Roots, start};
 use crate::telling::tell_end;
-use crate::tool::{Tool, read_tool};
+use crate::tool::{Tool, ToolError, read_tool};
 use dc_layer::Layer;
 use dc_outside::{Files, Link};
 use dc_session::serve_layers;
@@ -24,7 +28,8 @@ use std::alloc::Global;
 /// (debconf.conf(5)). Blank layers of the shelf are moved to its `used`, in the order of the databases.
 ///
 /// `communicate [OWNER]` serves the commands that come on the link, as debconf-communicate(1) does, and answers each line
-/// before it reads more. At the end of the link what changed in the layers is saved. An end other than `Done` is told on `err`.
+/// before it reads more. `loadtemplate OWNER FILE ...` loads the templates of files, as debconf-loadtemplate(1) does. Then what
+/// changed in the layers is saved. An end other than `Done` is told on `err`.
 pub fn run_words<L: Link, E: Link, F: Files>(
     alloc: Global,
     words: &List<Text>,
@@ -37,15 +42,20 @@ pub fn run_words<L: Link, E: Link, F: Files>(
     requires blank { AreBlank (each (λ b. state (b.vtable, b.value)) shelf.old.files.items) }
     requires room { 16 ≤ length shelf.old.files.items }
     requires used { shelf.old.used.items ≡ [] }
-    // What was said on the link is what the plain machine says, and what was saved and stands in `used` are its layers, by the end.
+    // What the tool does is what the plain machine does, what was saved and stands in `used` are its layers, by the end, and the end is
+    // told on `err`, but for what a write there that failed leaves out.
     ensures ran { HasRunWords words.now settings.now.conf_path settings.now.lang
-        (record { stock = record { files = record { told = F.told files.old; counts = F.counts files.old }; used = each (λ b. state (b.vtable, b.value)) shelf.old.used.items }; talk = L.talk io.old; input = L.left io.old; link_counts = record { faults = L.faults io.old; refusals = L.refusals io.old } })
-        (record { stock = record { files = record { told = F.told files.new; counts = F.counts files.new }; used = each (λ b. state (b.vtable, b.value)) shelf.new.used.items }; talk = L.talk io.new; input = L.left io.new; link_counts = record { faults = L.faults io.new; refusals = L.refusals io.new } })
-        result.end result.last_code }
-    ensures status { result.status ≡ status_of result.end result.last_code }
-
-    // The end is told on `err`, but for what a write there that failed leaves out.
-    ensures err { HasSaid (end_line result.end) (E.talk err.old) (E.talk err.new) (record { faults = E.faults err.old; refusals = E.refusals err.old }) (record { faults = E.faults err.new; refusals = E.refusals err.new }) }
+        (record {
+          stock = record { files = record { told = F.told files.old; counts = F.counts files.old }; used = each (λ b. state (b.vtable, b.value)) shelf.old.used.items };
+          io = record { talk = L.talk io.old; input = L.left io.old; counts = record { faults = L.faults io.old; refusals = L.refusals io.old } };
+          err = record { talk = E.talk err.old; input = E.left err.old; counts = record { faults = E.faults err.old; refusals = E.refusals err.old } };
+        })
+        (record {
+          stock = record { files = record { told = F.told files.new; counts = F.counts files.new }; used = each (λ b. state (b.vtable, b.value)) shelf.new.used.items };
+          io = record { talk = L.talk io.new; input = L.left io.new; counts = record { faults = L.faults io.new; refusals = L.refusals io.new } };
+          err = record { talk = E.talk err.new; input = E.left err.new; counts = record { faults = E.faults err.new; refusals = E.refusals err.new } };
+        })
+        result }
 
     // A fault of the link has its end, unless what came after it found no memory.
     ensures link_counts { LinkCounts result.end (record { faults = L.faults io.old; refusals = L.refusals io.old }) (record { faults = L.faults io.new; refusals = L.refusals io.new }) }
@@ -53,67 +63,124 @@ pub fn run_words<L: Link, E: Link, F: Files>(
     // Killed at any moment, it leaves each database as before or as it is saved, where nothing was pending on the disk when it began.
     ensures killed { (before after : Disk) → (F.told files.old).disk ≡ Some before → (F.told files.new).disk ≡ Some after → IsSettled before.standing → KeepsDatabases settings.now.conf_path before after result.end }
 {
-    let outcome = run_tool(alloc, words, settings, io, files, shelf);
-    tell_end(err, &outcome.end);
-    outcome
-}
-
-// The tool that the words name is run, if they name one.
-fn run_tool<L: Link, F: Files>(
-    alloc: Global,
-    words: &List<Text>,
-    settings: &Settings,
-    io: &mut L,
-    files: &mut F,
-    shelf: &mut Shelf,
-) -> Outcome
-    requires blank { AreBlank (each (λ b. state (b.vtable, b.value)) shelf.old.files.items) }
-    requires room { 16 ≤ length shelf.old.files.items }
-    requires used { shelf.old.used.items ≡ [] }
-    ensures ran { HasRunWords words.now settings.now.conf_path settings.now.lang
-        (record { stock = record { files = record { told = F.told files.old; counts = F.counts files.old }; used = each (λ b. state (b.vtable, b.value)) shelf.old.used.items }; talk = L.talk io.old; input = L.left io.old; link_counts = record { faults = L.faults io.old; refusals = L.refusals io.old } })
-        (record { stock = record { files = record { told = F.told files.new; counts = F.counts files.new }; used = each (λ b. state (b.vtable, b.value)) shelf.new.used.items }; talk = L.talk io.new; input = L.left io.new; link_counts = record { faults = L.faults io.new; refusals = L.refusals io.new } })
-        result.end result.last_code }
-    ensures status { result.status ≡ status_of result.end result.last_code }
-    ensures link_counts { LinkCounts result.end (record { faults = L.faults io.old; refusals = L.refusals io.old }) (record { faults = L.faults io.new; refusals = L.refusals io.new }) }
-{
-    match read_tool(words) {
-        Err(word) => outcome_at(End::Usage { word }, 0),
-        Ok(Tool::Communicate) => communicate(alloc, settings, io, files, shelf),
+    match read_tool(alloc, words) {
+        Err(ToolError::Refused { word }) => end_run(err, End::Usage { word }, 0, 0),
+        Err(ToolError::OutOfMemory) => end_run(err, End::OutOfMemory, 0, 0),
+        Ok(tool) => run_tool(alloc, &tool, settings, io, err, files, shelf),
     }
 }
 
-// The database is loaded, a session is served over it, and what it changed is saved.
-fn communicate<L: Link, F: Files>(
+// The databases are loaded, the tool works on them, and what it changed is saved.
+fn run_tool<L: Link, E: Link, F: Files>(
     alloc: Global,
+    tool: &Tool,
     settings: &Settings,
     io: &mut L,
+    err: &mut E,
     files: &mut F,
     shelf: &mut Shelf,
 ) -> Outcome
     requires blank { AreBlank (each (λ b. state (b.vtable, b.value)) shelf.old.files.items) }
     requires room { 16 ≤ length shelf.old.files.items }
     requires used { shelf.old.used.items ≡ [] }
-    ensures ran { HasCommunicated settings.now.conf_path settings.now.lang
-        (record { stock = record { files = record { told = F.told files.old; counts = F.counts files.old }; used = each (λ b. state (b.vtable, b.value)) shelf.old.used.items }; talk = L.talk io.old; input = L.left io.old; link_counts = record { faults = L.faults io.old; refusals = L.refusals io.old } })
-        (record { stock = record { files = record { told = F.told files.new; counts = F.counts files.new }; used = each (λ b. state (b.vtable, b.value)) shelf.new.used.items }; talk = L.talk io.new; input = L.left io.new; link_counts = record { faults = L.faults io.new; refusals = L.refusals io.new } })
-        result.end result.last_code }
-    ensures status { result.status ≡ status_of result.end result.last_code }
+    ensures ran { HasRunTool tool.now settings.now.conf_path settings.now.lang
+        (record {
+          stock = record { files = record { told = F.told files.old; counts = F.counts files.old }; used = each (λ b. state (b.vtable, b.value)) shelf.old.used.items };
+          io = record { talk = L.talk io.old; input = L.left io.old; counts = record { faults = L.faults io.old; refusals = L.refusals io.old } };
+          err = record { talk = E.talk err.old; input = E.left err.old; counts = record { faults = E.faults err.old; refusals = E.refusals err.old } };
+        })
+        (record {
+          stock = record { files = record { told = F.told files.new; counts = F.counts files.new }; used = each (λ b. state (b.vtable, b.value)) shelf.new.used.items };
+          io = record { talk = L.talk io.new; input = L.left io.new; counts = record { faults = L.faults io.new; refusals = L.refusals io.new } };
+          err = record { talk = E.talk err.new; input = E.left err.new; counts = record { faults = E.faults err.new; refusals = E.refusals err.new } };
+        })
+        result }
     ensures link_counts { LinkCounts result.end (record { faults = L.faults io.old; refusals = L.refusals io.old }) (record { faults = L.faults io.new; refusals = L.refusals io.new }) }
 {
     match start(alloc, &settings.conf_path, files, shelf) {
-        Err(end) => outcome_at(end, 0),
+        Err(end) => end_run(err, end, 0, 0),
         Ok(roots) => {
+            let answer = use_tool(
+                alloc,
+                tool,
+                &roots,
+                &settings.lang,
+                io,
+                err,
+                files,
+                &mut shelf.used,
+            );
+            let ToolAnswer {
+                ended,
+                last_code,
+                status,
+            } = answer;
+            let end = finish_used(alloc, ended, files, &mut shelf.used);
+            end_run(err, end, last_code, status)
+        }
+    }
+}
+
+// The tool works on the layers, by the plans of questions and of templates.
+fn use_tool<L: Link, E: Link, F: Files>(
+    alloc: Global,
+    tool: &Tool,
+    roots: &Roots,
+    lang: &Text,
+    io: &mut L,
+    err: &mut E,
+    files: &mut F,
+    used: &mut Vec<Box<dyn Layer>>,
+) -> ToolAnswer
+    requires config { IsOver roots.now.config (length used.old.items) }
+    requires templates { IsOver roots.now.templates (length used.old.items) }
+    requires disjoint { are_disjoint roots.now.config roots.now.templates ≡ true }
+    ensures uses { HasUsedTool tool.now
+        (record { files = record { told = F.told files.old; counts = F.counts files.old }; used = each state used.old.items }) roots.now lang.now
+        (record { talk = L.talk io.old; input = L.left io.old; counts = record { faults = L.faults io.old; refusals = L.refusals io.old } })
+        (record { talk = L.talk io.new; input = L.left io.new; counts = record { faults = L.faults io.new; refusals = L.refusals io.new } })
+        (record { talk = E.talk err.old; input = E.left err.old; counts = record { faults = E.faults err.old; refusals = E.refusals err.old } })
+        (record { talk = E.talk err.new; input = E.left err.new; counts = record { faults = E.faults err.new; refusals = E.refusals err.new } })
+        result (each state used.new.items) (record { told = F.told files.new; counts = F.counts files.new }) }
+    ensures link_counts { ToolCounts result.ended (record { faults = L.faults io.old; refusals = L.refusals io.old }) (record { faults = L.faults io.new; refusals = L.refusals io.new }) }
+{
+    match tool {
+        Tool::Communicate { owner } => {
             let served = serve_layers(
                 alloc,
                 io,
-                &mut shelf.used,
+                files,
+                used,
                 &roots.config,
                 &roots.templates,
-                &settings.lang,
+                lang,
+                owner,
             );
-            let end = finish_used(alloc, served.end, files, &mut shelf.used);
-            outcome_at(end, served.last_code)
+            ToolAnswer {
+                ended: tool_end(served.end),
+                last_code: served.last_code,
+                status: served.last_code,
+            }
         }
+        Tool::LoadTemplate { owner, paths } => load_template_files(
+            alloc,
+            err,
+            files,
+            used,
+            &roots.config,
+            &roots.templates,
+            lang,
+            owner,
+            paths,
+        ),
     }
+}
+
+// The outcome of a run, whose end is told.
+fn end_run<E: Link>(err: &mut E, end: End, last_code: u8, status: u8) -> Outcome
+    ensures outcome { result ≡ record { status = status_of end status; end = end; last_code = last_code } }
+    ensures said { HasSaid (end_line end) (E.talk err.old) (E.talk err.new) (record { faults = E.faults err.old; refusals = E.refusals err.old }) (record { faults = E.faults err.new; refusals = E.refusals err.new }) }
+{
+    tell_end(err, &end);
+    outcome_at(end, last_code, status)
 }

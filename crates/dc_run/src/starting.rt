@@ -1,8 +1,8 @@
 // What a run does before its tool.
-ghost use Rattle.std.specs.Prelude.{◌≡◌, ◌≤◌, ◌∷◌, [], length, map as each, IfOk};
+ghost use Rattle.std.specs.Prelude.{◌≡◌, ◌≤◌, ◌∷◌, [], length, map as each, IfOk, true};
 ghost use Rattle.std.specs.List.{AllByRecursion};
-ghost use Rattle.dc_conf.specs.Configuration.{plan_of, IsAnswer};
-ghost use Rattle.dc_conf.specs.Plans.{IsOver};
+ghost use Rattle.dc_conf.specs.Configuration.{plan_of, IsAnswer, AreDisjoint};
+ghost use Rattle.dc_conf.specs.Plans.{IsOver, are_disjoint};
 ghost use Rattle.dc_shelf.specs.Shelves.{AreBlank, AreFiles, LoadsAll, all_set_up};
 ghost use Rattle.dc_save.specs.Loading.{text_in};
 ghost use Rattle.dc_run.specs.Ends.{end_of_conf as end_of_conf_by, end_of_patterns as end_of_patterns_by, end_of_load as end_of_load_by};
@@ -37,6 +37,7 @@ pub fn start<F: Files>(
     requires used { shelf.old.used.items ≡ [] }
     ensures starts { Starts path.now (record { told = F.told files.old; counts = F.counts files.old }) (record { files = record { told = F.told files.new; counts = F.counts files.new }; used = each (λ b. state (b.vtable, b.value)) shelf.new.used.items }) result }
     ensures over { IfOk result (λ roots. IsOver roots.config (length shelf.new.used.items) × IsOver roots.templates (length shelf.new.used.items)) }
+    ensures disjoint { IfOk result (λ roots. are_disjoint roots.config roots.templates ≡ true) }
 {
     let conf = match read_configuration(alloc, path, files) {
         Ok(conf) => conf,
@@ -120,6 +121,7 @@ fn resolve(alloc: Global, conf: &Conf) -> Result<Resolved, ResolveError>
     ensures specs { IfOk result (λ resolved. resolved.specs ≡ databases_of conf.now) }
     ensures plans { IfOk result (λ resolved. resolved.plans ≡ plan_of conf.now (databases_of conf.now) conf.now.config ∷ plan_of conf.now (databases_of conf.now) conf.now.templates ∷ []) }
     ensures over { IfOk result (λ resolved. AllByRecursion (λ plan. IsOver plan (length resolved.specs)) resolved.plans) }
+    ensures disjoint { IfOk result (λ resolved. AreDisjoint resolved.plans) }
     ensures few { IfOk result (λ resolved. length resolved.specs ≤ 16) }
     ensures sorts { IfOk result (λ resolved. AreFiles resolved.specs) }
 {

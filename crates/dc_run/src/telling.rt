@@ -1,11 +1,17 @@
-// The line of an end, told on standard error in pieces for which no memory is taken.
-ghost use Rattle.std.specs.Prelude.{◌≡◌, decimal};
+// What is told on standard error, in pieces for which no memory is taken.
+ghost use Rattle.std.specs.Prelude.{◌≡◌, ◌∷◌, ◌++◌, [], decimal};
+ghost use Rattle.dc_text.specs.Ascii.{newline};
+ghost use Rattle.dc_session.specs.Answers.{refusal};
 ghost use Rattle.dc_run.specs.EndLines.{end_line, place_text, HasSaid};
+ghost use Rattle.dc_run.specs.Inside.{end_text, told_line};
 ghost use Rattle.dc_run.specs.Kinds.{kind_word as kind_word_of};
 
 use crate::outcome::{End, PatternAt};
 use dc_conf::ConfKind;
 use dc_outside::Link;
+use dc_question::QuestionError;
+use dc_session::FileEnd;
+use dc_text::Text;
 use itoa::Buffer;
 
 // Says some bytes. A write that fails is passed over.
@@ -82,6 +88,55 @@ pub fn tell_end<E: Link>(err: &mut E, end: &End)
         }
         End::LinkFault => say(err, b"dckit: link failed\n"),
         End::TooLong => say(err, b"dckit: input too long\n"),
+    }
+}
+
+/// Tells of a template file that isn't loaded why, in one line.
+#[tactic(auto, using(crate::proofs::Saying::none_said))]
+pub fn tell_file<E: Link>(err: &mut E, path: &Text, ended: &FileEnd)
+    ensures { HasSaid (told_line (end_text path.now ended.now)) (E.talk err.old) (E.talk err.new) (record { faults = E.faults err.old; refusals = E.refusals err.old }) (record { faults = E.faults err.new; refusals = E.refusals err.new }) }
+{
+    match ended {
+        FileEnd::Loaded | FileEnd::Unreadable => {}
+        FileEnd::Missing => {
+            say(err, path.bytes());
+            say(err, b": no such file");
+            say(err, b"\n")
+        }
+        FileEnd::Faulty { line } => {
+            say(err, path.bytes());
+            say(err, b": bad template, line ");
+            say_number(err, *line);
+            say(err, b"\n")
+        }
+        FileEnd::Refused(error) => {
+            say_refusal(err, error);
+            say(err, b"\n")
+        }
+    }
+}
+
+fn say_refusal<E: Link>(err: &mut E, error: &QuestionError)
+    ensures { HasSaid (refusal [] error.now).text (E.talk err.old) (E.talk err.new) (record { faults = E.faults err.old; refusals = E.refusals err.old }) (record { faults = E.faults err.new; refusals = E.refusals err.new }) }
+{
+    match error {
+        QuestionError::NoQuestion { name } => {
+            say(err, name.bytes());
+            say(err, b" doesn't exist")
+        }
+        QuestionError::NoTemplate { name } => {
+            say(err, b"no template for ");
+            say(err, name.bytes())
+        }
+        QuestionError::CantChange { name } => {
+            say(err, name.bytes());
+            say(err, b" can't be changed")
+        }
+        QuestionError::Twice { name } => {
+            say(err, name.bytes());
+            say(err, b" has another template")
+        }
+        QuestionError::NoField | QuestionError::OutOfMemory => say(err, b" doesn't exist"),
     }
 }
 

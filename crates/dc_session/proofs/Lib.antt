@@ -5,5 +5,6 @@ pub mod DiskLaws
 pub mod FaultLaws
 pub mod FrameLaws
 pub mod LineLaws
+pub mod LoadLemmas
 pub mod ServeLemmas
 pub mod Teeth

@@ -1,4 +1,5 @@
 pub mod Answers
+pub mod FileLoading
 pub mod Inside
 pub mod Machine
 pub mod Serving

@@ -6,7 +6,9 @@ pub mod replies;
 pub mod serving;
 pub mod session;
 pub mod template_files;
+pub mod template_loading;
 
 pub use serving::serve_layers;
-pub use session::Session;
+pub use session::{Desk, Session};
 pub use template_files::{Found, find_templates};
+pub use template_loading::FileEnd;

@@ -1,6 +1,6 @@
 use Rattle.std.proofs.Common.{rules, refl, Ok}
-use Rattle.dc_run.proofs.StartLemmas.{loaded_by, both_plans}
-use Rattle.dc_run.specs.World.{FilesState}
+use Rattle.dc_run.proofs.StartLemmas.{loaded_by, both_plans, both_disjoint}
+use Rattle.dc_session.specs.SessionState.{FilesState}
 use Rattle.dc_run.proofs.starting.start.Goals as goal
 
 pub returns-in-Ok-load_used-clause-starts : goal.returns-in-Ok-load_used-clause-starts
@@ -15,3 +15,6 @@ returns-in-Ok-load_used-clause-starts g c =
       config_is = plans.0;
       templates_is = plans.1;
     }
+
+pub returns-in-Ok-load_used-clause-disjoint : goal.returns-in-Ok-load_used-clause-disjoint
+returns-in-Ok-load_used-clause-disjoint g c = both_disjoint _ _ _ c.both.ensures c.in-Ok-resolve.ensures.disjoint

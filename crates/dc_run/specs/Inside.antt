@@ -1,0 +1,91 @@
+-- What the inner functions of a run promise. No public clause cites these.
+use Rattle.std.specs.Prelude.{◌≡◌, ◌⊎◌, ℕ, Bool, true, false, List, [], ◌∷◌, ◌++◌, Option, Some, None, is_some, Result, Ok, Err, codes, decimal, if◌then◌else◌}
+use Rattle.std.specs.Option.{option_map_or}
+use Rattle.dc_text.specs.Ascii.{newline}
+use Rattle.dc_outside.specs.Counts.{FaultRose, RefusalRose}
+use Rattle.dc_outside.specs.Told.{Counts}
+use Rattle.dc_layer.specs.State.{LayerState}
+use Rattle.dc_session.specs.Answers.{refusal}
+use Rattle.dc_session.specs.SessionState.{FilesState, SessionState}
+use Rattle.dc_session.specs.declared.template_loading.FileEnd.{FileEnd}
+use Rattle.dc_session.specs.declared.template_loading.FileEnd.TheVariants as file
+use Rattle.dc_run.specs.declared.loading_templates.FilesLoaded.{FilesLoaded}
+use Rattle.dc_run.specs.declared.outcome.ToolAnswer.{ToolAnswer}
+use Rattle.dc_run.specs.declared.outcome.ToolEnd.{ToolEnd}
+use Rattle.dc_run.specs.declared.outcome.ToolEnd.TheVariants as tool
+use Rattle.dc_run.specs.declared.starting.Roots.{Roots}
+use Rattle.dc_run.specs.declared.tool.Tool.{Tool}
+use Rattle.dc_run.specs.EndLines.{HasSaidOn}
+use Rattle.dc_run.specs.Headline.{Uses}
+use Rattle.dc_run.specs.Starting.{begun}
+use Rattle.dc_run.specs.TemplateLoading.{FileTurn, IsFileTurn, refusal_of, EndsAt, HasLoadedFiles}
+use Rattle.dc_run.specs.Tools.{owner_of}
+use Rattle.dc_run.specs.World.{LinkState, Stock}
+
+-- ---- one template file
+
+-- what is told of a file, where it is refused
+abbrev pub end_text : List ℕ → FileEnd → Option (List ℕ)
+end_text path file.Loaded = None
+end_text path file.Unreadable = None
+end_text path file.Missing = Some (path ++ codes ": no such file")
+end_text path (file.Faulty line) = Some (path ++ codes ": bad template, line " ++ decimal line)
+end_text path (file.Refused error) = Some (refusal [] error).text
+
+-- the read of the file failed
+abbrev pub is_unread : FileEnd → Bool
+is_unread file.Unreadable = true
+is_unread _ = false
+
+-- in a line
+abbrev pub told_line : Option (List ℕ) → List ℕ
+told_line text = option_map_or (λ line. line ++ newline ∷ []) text []
+
+-- the file was read, and its templates were loaded, or it was told why not
+pub record GoesThrough (start : SessionState) (path : List ℕ) (old new : LinkState) (refused : Bool) (left : SessionState) : Type 0 where
+  pub turn : FileTurn
+  pub path_is : turn.path ≡ path
+  pub left_is : left ≡ turn.new
+  pub taken : IsFileTurn start turn
+  pub refused_is : refused ≡ is_some (refusal_of start path turn.found)
+  pub said : HasSaidOn (told_line (refusal_of start path turn.found)) old new
+
+-- or the tool ended at it, and nothing was told
+abbrev pub LoadsOne : SessionState → List ℕ → LinkState → LinkState → Result Bool ToolEnd → SessionState → Type 0
+LoadsOne start path old new (Ok refused) left = GoesThrough start path old new refused left
+LoadsOne start path old new (Err ended) left = ((later : List (List ℕ)) → EndsAt ended start (path ∷ later) left) × (new ≡ old)
+
+-- ---- all files
+
+abbrev pub status_by : Bool → ℕ
+status_by refused = if refused then 1 else 0
+
+pub record LoadsFiles (start : SessionState) (paths : List (List ℕ)) (old new : LinkState) (loaded : FilesLoaded) (left : SessionState) : Type 0 where
+  pub said : List ℕ
+  pub loads : HasLoadedFiles start paths loaded.ended said (status_by loaded.refused) left
+  pub telling : HasSaidOn said old new
+
+-- the same over layers and files
+pub record HasLoadedOver (start : SessionState) (paths : List (List ℕ)) (old new : LinkState) (answer : ToolAnswer) (layers : List LayerState) (files : FilesState) : Type 0 where
+  pub said : List ℕ
+  pub state : SessionState
+  pub layers_are : layers ≡ state.store.layers
+  pub files_are : files ≡ state.files
+  pub loads : HasLoadedFiles start paths answer.ended said answer.status state
+  pub last_code_is : answer.last_code ≡ 0
+  pub telling : HasSaidOn said old new
+
+-- ---- a tool
+
+-- what a tool does, and what it tells
+abbrev pub HasUsedTool : Tool → Stock → Roots → List ℕ → LinkState → LinkState → LinkState → LinkState → ToolAnswer → List LayerState → FilesState → Type 0
+HasUsedTool tool stock roots lang old new err err_new answer layers files =
+    (told : List ℕ) × Uses tool (begun stock roots lang (owner_of tool)) old new answer told layers files × HasSaidOn told err err_new
+
+-- how the link counts its calls, by the end of the tool
+abbrev pub ToolCounts : ToolEnd → Counts → Counts → Type 0
+ToolCounts tool.Done before now = now ≡ before
+ToolCounts tool.LinkFault before now = FaultRose before now
+ToolCounts tool.TooLong before now = now ≡ before
+ToolCounts tool.OutOfMemory before now = (now ≡ before) ⊎ RefusalRose before now
+ToolCounts (tool.FilesFault path) before now = now ≡ before

@@ -1,0 +1,203 @@
+// Template files loaded one after another.
+ghost use Rattle.std.specs.Prelude.{◌≡◌, [], is_some, length, map as each, true};
+ghost use Rattle.dc_conf.specs.Plans.{IsOver, are_disjoint};
+ghost use Rattle.dc_store.specs.Plans.{stored};
+ghost use Rattle.dc_run.specs.Inside.{end_text, is_unread, status_by, LoadsOne, LoadsFiles, HasLoadedOver};
+
+use crate::outcome::{ToolAnswer, ToolEnd};
+use crate::telling::tell_file;
+use dc_conf::Plan;
+use dc_layer::Layer;
+use dc_outside::{Files, Link};
+use dc_question::Questions;
+use dc_session::{Desk, FileEnd, find_templates};
+use dc_store::Store;
+use dc_text::{List, Mem, Name, OutOfMemory, Text};
+use std::alloc::Global;
+use std::marker::PhantomData;
+
+/// What template files are loaded into.
+trait TakesTemplates {
+    ghost use Rattle.std.specs.Prelude.{◌≡◌};
+    ghost use Rattle.dc_session.specs.SessionState.{SessionState};
+    ghost use Rattle.dc_session.specs.FileLoading.{Loads};
+
+    /// The state that it works on.
+    ghost state_at: { Self → SessionState };
+
+    ghost Kept: { Type 0 };
+
+    /// The names of the references that it holds.
+    ghost kept: { Self → Kept };
+
+    /// Loads the templates of the file at the path for the owner of the state (debconf-loadtemplate(1)): all of them, or none.
+    fn load_file(&mut self, path: &Text) -> Mem<FileEnd>
+        ensures loads { Loads path.now (state_at self.old) (state_at self.new) result }
+        ensures kept { kept self.new ≡ kept self.old };
+}
+
+/// A desk, and the files in which it looks for templates.
+#[derive(Drop)]
+struct Loader<'s, 'f, F: Files> {
+    alloc: Global,
+    desk: Desk<'s>,
+    files: &'f mut F,
+    of: PhantomData<Box<dyn Layer>>,
+}
+
+impl<'s, 'f, F: Files> TakesTemplates for Loader<'s, 'f, F> {
+    ghost use Rattle.std.specs.Prelude.{map as each};
+    ghost use Rattle.std.specs.Borrow.{GName};
+    ghost use Rattle.dc_store.specs.Plans.{stored};
+
+    ghost state_at = { λ s. record {
+      store = stored (each (λ b. (Layer-box b).state b.value) s.desk.questions.store.now.layers.items) s.desk.questions.store.now.told;
+      files = record { told = F.told s.files.now; counts = F.counts s.files.now };
+      at = s.desk.questions.setting;
+      owner = s.desk.owner.now;
+    } };
+
+    ghost Kept = { GName × GName };
+
+    ghost kept = { λ s. (s.desk.questions.store.ghost_name, s.files.ghost_name) };
+
+    fn load_file(&mut self, path: &Text) -> Mem<FileEnd> {
+        match find_templates(self.alloc, self.files, path) {
+            Ok(found) => self.desk.take_templates(&found),
+            Err(_) => Err(OutOfMemory),
+        }
+    }
+}
+
+/// Loads the template files at the paths, in order, into these layers, by the plans of questions and of templates, for a user of the
+/// language and for an owner (debconf-loadtemplate(1)). A file that is refused is told on `err`, and the status is 1 where there was
+/// one. The layers are given back as they are then, in their order.
+pub fn load_template_files<E: Link, F: Files>(
+    alloc: Global,
+    err: &mut E,
+    files: &mut F,
+    layers: &mut Vec<Box<dyn Layer>>,
+    config: &Plan,
+    templates: &Plan,
+    lang: &Text,
+    owner: &Name,
+    paths: &List<Text>,
+) -> ToolAnswer
+    requires config { IsOver config.now (length layers.old.items) }
+    requires templates { IsOver templates.now (length layers.old.items) }
+    requires disjoint { are_disjoint config.now templates.now ≡ true }
+    ensures { HasLoadedOver
+        (record { store = stored (each state layers.old.items) []; files = record { told = F.told files.old; counts = F.counts files.old }; at = record { config = config.now; templates = templates.now; lang = lang.now }; owner = owner.now }) paths.now
+        (record { talk = E.talk err.old; input = E.left err.old; counts = record { faults = E.faults err.old; refusals = E.refusals err.old } })
+        (record { talk = E.talk err.new; input = E.left err.new; counts = record { faults = E.faults err.new; refusals = E.refusals err.new } })
+        result (each state layers.new.items) (record { told = F.told files.new; counts = F.counts files.new }) }
+{
+    let mut store = Store::new(alloc, std::mem::replace(layers, Vec::new(alloc)));
+    let questions = Questions::new(alloc, &mut store, config, templates, lang);
+    let mut loader = Loader {
+        alloc,
+        desk: Desk::new(questions, owner),
+        files,
+        of: PhantomData,
+    };
+    let loaded = load_files(&mut loader, err, paths.as_slice());
+    let Loader {
+        alloc: _,
+        desk,
+        files: _kept,
+        of: _,
+    } = loader;
+    *layers = desk.layers_left(alloc);
+    ToolAnswer {
+        ended: loaded.ended,
+        last_code: 0,
+        status: status_of_files(loaded.refused),
+    }
+}
+
+/// What some template files came to: how the tool ended at them, and whether one of them was refused.
+#[derive(Drop)]
+pub struct FilesLoaded {
+    pub ended: ToolEnd,
+    pub refused: bool,
+}
+
+fn load_files<S: TakesTemplates, E: Link>(
+    session: &mut S,
+    err: &mut E,
+    paths: &[Text],
+) -> FilesLoaded
+    ensures loads { LoadsFiles (S.state_at session.old) paths.now
+        (record { talk = E.talk err.old; input = E.left err.old; counts = record { faults = E.faults err.old; refusals = E.refusals err.old } })
+        (record { talk = E.talk err.new; input = E.left err.new; counts = record { faults = E.faults err.new; refusals = E.refusals err.new } })
+        result (S.state_at session.new) }
+    ensures kept { S.kept session.new ≡ S.kept session.old }
+{
+    match paths {
+        [] => FilesLoaded {
+            ended: ToolEnd::Done,
+            refused: false,
+        },
+        [path, rest @ ..] => match load_one(session, err, path) {
+            Err(ended) => FilesLoaded {
+                ended,
+                refused: false,
+            },
+            Ok(refused) => {
+                let later = load_files(session, err, rest);
+                FilesLoaded {
+                    ended: later.ended,
+                    refused: refused || later.refused,
+                }
+            }
+        },
+    }
+}
+
+// Loads one file, and tells whether it was refused, or ends the tool.
+fn load_one<S: TakesTemplates, E: Link>(
+    session: &mut S,
+    err: &mut E,
+    path: &Text,
+) -> Result<bool, ToolEnd>
+    ensures loads { LoadsOne (S.state_at session.old) path.now
+        (record { talk = E.talk err.old; input = E.left err.old; counts = record { faults = E.faults err.old; refusals = E.refusals err.old } })
+        (record { talk = E.talk err.new; input = E.left err.new; counts = record { faults = E.faults err.new; refusals = E.refusals err.new } })
+        result (S.state_at session.new) }
+    ensures kept { S.kept session.new ≡ S.kept session.old }
+{
+    let kept = match path.copy() {
+        Ok(kept) => kept,
+        Err(_) => return Err(ToolEnd::OutOfMemory),
+    };
+    let ended = match session.load_file(path) {
+        Ok(ended) => ended,
+        Err(_) => return Err(ToolEnd::OutOfMemory),
+    };
+    if is_unreadable(&ended) {
+        return Err(ToolEnd::FilesFault { path: kept });
+    }
+    tell_file(err, path, &ended);
+    Ok(is_refused(&ended))
+}
+
+fn is_unreadable(ended: &FileEnd) -> bool
+    ensures { result ≡ is_unread ended.now }
+{
+    matches!(ended, FileEnd::Unreadable)
+}
+
+fn is_refused(ended: &FileEnd) -> bool
+    ensures { result ≡ is_some (end_text [] ended.now) }
+{
+    match ended {
+        FileEnd::Loaded | FileEnd::Unreadable => false,
+        FileEnd::Missing | FileEnd::Faulty { line: _ } | FileEnd::Refused(_) => true,
+    }
+}
+
+fn status_of_files(refused: bool) -> u8
+    ensures { result ≡ status_by refused }
+{
+    if refused { 1 } else { 0 }
+}

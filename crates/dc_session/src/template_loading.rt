@@ -1,0 +1,63 @@
+// Template files that are loaded into the questions of a desk.
+ghost use Rattle.std.specs.Prelude.{◌≡◌, length, map as each};
+ghost use Rattle.dc_store.specs.Plans.{stored};
+ghost use Rattle.dc_question.specs.Questions.{IsSetOver};
+ghost use Rattle.dc_session.specs.FileLoading.{Takes};
+ghost use Rattle.dc_session.specs.Inside.{HasDistinctNames};
+ghost use Rattle.dc_session.specs.SessionState.{FilesState};
+
+use crate::session::Desk;
+use crate::template_files::Found;
+use dc_layer::Layer;
+use dc_question::QuestionError;
+use dc_text::{Mem, OutOfMemory};
+use std::alloc::Global;
+
+/// What becomes of a template file.
+#[derive(Drop)]
+pub enum FileEnd {
+    /// Its templates are loaded.
+    Loaded,
+    /// The read failed.
+    Unreadable,
+    /// No file is there.
+    Missing,
+    /// The file's first line with a fault has this number.
+    Faulty { line: u64 },
+    /// A question has another template, or can't be changed, and nothing is loaded.
+    Refused(QuestionError),
+}
+
+impl<'s> Desk<'s> {
+    /// Loads the templates that were found, for the desk's owner (debconf-loadtemplate(1)): all of them, or none.
+    pub fn take_templates(&mut self, found: &Found) -> Mem<FileEnd>
+        requires distinct { HasDistinctNames found.now }
+        ensures takes { (files : FilesState) → Takes found.now
+            (record { store = stored (each state self.old.questions.store.now.layers.items) self.old.questions.store.now.told; files = files; at = self.old.questions.setting; owner = self.old.owner.now })
+            (record { store = stored (each state self.new.questions.store.now.layers.items) self.new.questions.store.now.told; files = files; at = self.new.questions.setting; owner = self.new.owner.now }) result }
+        ensures owner { self.new.owner.now ≡ self.old.owner.now }
+        ensures held { self.new.questions.store.ghost_name ≡ self.old.questions.store.ghost_name }
+    {
+        match found {
+            Found::Unreadable => Ok(FileEnd::Unreadable),
+            Found::Missing => Ok(FileEnd::Missing),
+            Found::Faulty { line } => Ok(FileEnd::Faulty { line: *line }),
+            Found::Templates(templates) => {
+                let owner = self.owner;
+                match self.questions.load_templates(owner, templates) {
+                    Ok(()) => Ok(FileEnd::Loaded),
+                    Err(QuestionError::OutOfMemory) => Err(OutOfMemory),
+                    Err(error) => Ok(FileEnd::Refused(error)),
+                }
+            }
+        }
+    }
+
+    /// The layers of a desk at which the work is over, as it left them. Their store keeps none.
+    pub fn layers_left(self, alloc: Global) -> Vec<Box<dyn Layer>>
+        requires { IsSetOver self.questions.setting (length self.questions.store.now.layers.items) }
+        ensures { result.items ≡ self.entry.questions.store.now.layers.items }
+    {
+        self.into_layers(alloc)
+    }
+}
