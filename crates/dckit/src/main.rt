@@ -51,7 +51,7 @@ fn run(rt: HostRuntime) -> Mem<u8> {
         HostOutput::new(&rt, &rt.stdout(), "/dev/stdout"),
     );
     let mut err = HostErr::new(HostOutput::new(&rt, &rt.stderr(), "/dev/stderr"));
-    let mut files = HostFiles::new(alloc, rt, open_to_all(alloc, &settings)?);
+    let mut files = HostFiles::new(alloc, rt, open_to_all(alloc, &settings, &words)?);
     let mut shelf = Shelf::empty(alloc);
     shelf.take_file(blank_layer!(alloc))?;
     shelf.take_file(blank_layer!(alloc))?;
@@ -75,10 +75,19 @@ fn run(rt: HostRuntime) -> Mem<u8> {
     Ok(outcome.status)
 }
 
-// The paths of files that are read without a lock: that of the configuration, which no run writes.
-fn open_to_all(alloc: Global, settings: &Settings) -> Mem<List<Text>> {
+// The paths of files that are read without a lock: that of the configuration, which no run writes, and those of the template
+// files that the words of `loadtemplate` name.
+fn open_to_all(alloc: Global, settings: &Settings, words: &List<Text>) -> Mem<List<Text>> {
     let mut paths = List::new(alloc);
     paths.push(settings.conf_path.copy()?)?;
+    match words.as_slice() {
+        [tool, _, files @ ..] if tool.bytes() == b"loadtemplate".as_slice() => {
+            for path in files {
+                paths.push(path.copy()?)?;
+            }
+        }
+        _ => {}
+    }
     Ok(paths)
 }
 
