@@ -1,7 +1,7 @@
 use Rattle.std.proofs.Common.{map as each, ◌∙◌}
 use Rattle.dc_question.specs.KindsLeft.{item_kind}
 use Rattle.dc_question.proofs.KindLemmas.{gone_seen}
-use Rattle.dc_question.proofs.questions.Questions.kind_then.Goals as goal
+use Rattle.dc_question.proofs.questions.Questions.item_kind_made.Goals as goal
 
 pub returns-in-Gone : goal.returns-in-Gone
 returns-in-Gone g c =

@@ -1,7 +1,7 @@
 use Rattle.std.proofs.Common.{◌∙◌}
 use Rattle.dc_question.specs.Readings.{kind_by}
 use Rattle.dc_question.proofs.KindLemmas.{same_seen, changed_seen, gone_seen}
-use Rattle.dc_question.proofs.questions.Questions.kind_left.Goals as goal
+use Rattle.dc_question.proofs.questions.Questions.kind_made.Goals as goal
 
 pub returns-in-Same : goal.returns-in-Same
 returns-in-Same g c =
