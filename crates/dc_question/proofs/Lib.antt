@@ -5,3 +5,4 @@ pub mod GroupLemmas
 pub mod KindLemmas
 pub mod LeaveLemmas
 pub mod ReadingLemmas
+pub mod RefusalLemmas
