@@ -4,5 +4,6 @@ pub mod ChangeLemmas
 pub mod GroupLemmas
 pub mod KindLemmas
 pub mod LeaveLemmas
+pub mod PurgeLemmas
 pub mod ReadingLemmas
 pub mod RefusalLemmas

@@ -6,10 +6,10 @@ ghost use Rattle.dc_text.specs.Maps.{AreDistinct};
 ghost use Rattle.dc_item.specs.Item.{ItemParts};
 ghost use Rattle.dc_conf.specs.Plans.{are_disjoint};
 ghost use Rattle.dc_layer.specs.State.{LayerState};
-ghost use Rattle.dc_store.specs.Plans.{StoreState};
+ghost use Rattle.dc_store.specs.Plans.{StoreState, look, look_below, is_owned};
 ghost use Rattle.dc_store.specs.Rows.{Write, AllDistinct, is_refused, all_done, first_held_up};
 ghost use Rattle.dc_question.specs.Changes.{row_for};
-ghost use Rattle.dc_question.specs.Ownership.{register_row, leave_row};
+ghost use Rattle.dc_question.specs.Ownership.{register_row, leave_row, purged};
 ghost use Rattle.dc_question.specs.Questions.{Setting};
 ghost use Rattle.dc_question.specs.declared.errors.QuestionError.{QuestionError};
 ghost use Rattle.dc_question.specs.declared.errors.QuestionError.TheVariants.{CantChange};
@@ -37,4 +37,11 @@ pub fn refused_rows_change_nothing()
     ensures left { (store : StoreState) (names : List (List ℕ)) (row : List Write) → list_any (is_refused store.layers) row ≡ false → row_for store names row ≡ Ok (all_done store row) }
     ensures refused { (store : StoreState) (names : List (List ℕ)) (row : List Write) (error : QuestionError) → row_for store names row ≡ Err error → (list_any (is_refused store.layers) row ≡ true) × (error ≡ CantChange (unwrap_or (first_held_up store.layers names row) [])) }
     ensures told { (store : StoreState) (names : List (List ℕ)) (row : List Write) → list_any (is_refused store.layers) row ≡ true → row_for store names row ≡ Err (CantChange (unwrap_or (first_held_up store.layers names row) [])) }
+{}
+
+/// Once an owner's questions are purged, no question that is seen has it, unless one that another had hidden has come into sight:
+/// where questions and templates share no layer, and those of questions have no backup.
+pub fn purged_questions_lose_the_owner()
+    ensures { (store new : StoreState) (at : Setting) (owner name : List ℕ) → are_disjoint at.config at.templates ≡ true → at.config.backup ≡ None → purged store at owner ≡ Ok new
+        → is_owned owner (look new.layers at.config name) ≡ true → is_owned owner (look_below store.layers at.config name) ≡ true }
 {}
