@@ -1,6 +1,6 @@
 -- What is seen of the questions once an owner is purged.
-use Rattle.std.proofs.Common.{◌≡◌, ◌≢◌, ℕ, Bool, true, false, cond, not, List, [], ◌∷◌, ◌++◌, Option, Some, None, Ok, is_some, map as each, refl, sym, ap, subst, ◌∙◌, inl, inr, ⊎_elim}
-use Rattle.std.specs.Prelude.{◌||◌, ◌&&◌, ◌⊎◌, if◌then◌else◌}
+use Rattle.std.proofs.Common.{◌≡◌, ◌≢◌, ℕ, Bool, true, false, cond, not, List, [], ◌∷◌, ◌++◌, Option, Some, None, Ok, is_some, map as each, refl, sym, ap, ◌∙◌, inl, inr, ⊎_elim}
+use Rattle.std.specs.Prelude.{◌||◌, if◌then◌else◌}
 use Rattle.std.specs.List.{All, AllByRecursion, filter, list_any}
 use Rattle.std.specs.Ordering.{eq_by_cmp}
 use Rattle.std.specs.FinMap.{contains_key, keys, get, get-retain_keys}
@@ -12,14 +12,12 @@ use Rattle.dc_text.specs.Maps.{TextSet, set_of, text_cmp, AreDistinct as AllDiff
 use Rattle.dc_text.proofs.MapLemmas.{exact_texts}
 use Rattle.dc_item.specs.Item.{ItemParts}
 use Rattle.dc_item.specs.After.{after_at, asked, parts_eq, without}
-use Rattle.dc_item.specs.declared.op.After.{After}
 use Rattle.dc_item.specs.declared.op.After.TheVariants.{Same, Changed, Gone}
 use Rattle.dc_item.specs.declared.op.Op.TheVariants.{DropOwners}
 use Rattle.dc_item.proofs.AfterLemmas.{parts_eq-Decides}
 use Rattle.dc_item.proofs.ItemLemmas.{contains_key-set_of}
 use Rattle.dc_conf.specs.Plans.{are_disjoint}
-use Rattle.dc_layer.specs.State.{LayerState}
-use Rattle.dc_store.specs.Plans.{StoreState, look, look_below, look_after, seen_after, is_owned, owned}
+use Rattle.dc_store.specs.Plans.{StoreState, look, look_below, seen_after, is_owned, owned}
 use Rattle.dc_store.specs.Rows.{Write, AreDistinct, is_refused, all_done}
 use Rattle.dc_store.proofs.ListingLemmas.{is_in, same_text, owned_listed}
 use Rattle.dc_store.proofs.TakenLemmas.{row_stays, row_seen}
