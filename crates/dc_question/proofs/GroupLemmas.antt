@@ -17,10 +17,10 @@ behind_push : (t : List ℕ) (xs ys : List (List ℕ × List ℕ)) → behind t 
 behind_push t [] ys = refl
 behind_push t (x ∷ xs) ys =
     elim (bytes_eq t x.0) as (λ b. each (λ (p : List ℕ × List ℕ). p.1) (cond b (x ∷ filter (λ p. bytes_eq t p.0) (xs ++ ys)) (filter (λ p. bytes_eq t p.0) (xs ++ ys)))
-        ≡ each (λ (p : List ℕ × List ℕ). p.1) (cond b (x ∷ filter (λ p. bytes_eq t p.0) xs) (filter (λ p. bytes_eq t p.0) xs)) ++ behind t ys) [
-          | true ↦ ap (λ l. x.1 ∷ l) (behind_push t xs ys)
-          | false ↦ behind_push t xs ys
-        ]
+    ≡ each (λ (p : List ℕ × List ℕ). p.1) (cond b (x ∷ filter (λ p. bytes_eq t p.0) xs) (filter (λ p. bytes_eq t p.0) xs)) ++ behind t ys) [
+      | true ↦ ap (λ l. x.1 ∷ l) (behind_push t xs ys)
+      | false ↦ behind_push t xs ys
+    ]
 
 pub behind_more : (t : List ℕ) (xs : List (List ℕ × List ℕ)) (i : ℕ) (x : List ℕ × List ℕ) → i < length xs → x ≡ get_or xs i x
     → behind t (take i xs) ++ behind t (x ∷ []) ≡ behind t (take (i + 1) xs)

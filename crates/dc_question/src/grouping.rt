@@ -63,12 +63,7 @@ fn by_first(alloc: Global, pairs: &[(Name, Name)]) -> Mem<TextMap<List<Name>>>
 }
 
 // Adds a name to those that are held at the first.
-fn add_behind(
-    alloc: Global,
-    held: &mut TextMap<List<Name>>,
-    first: &Name,
-    name: &Name,
-) -> Mem<()>
+fn add_behind(alloc: Global, held: &mut TextMap<List<Name>>, first: &Name, name: &Name) -> Mem<()>
     ensures { OnOk result ((t : Listed ℕ) → held_at held.new t ≡ held_at held.old t ++ behind_of t ((first.now, name.now) ∷ [])) }
 {
     if !held.contains(first.bytes()) {

@@ -7,5 +7,5 @@ use Rattle.dc_question.proofs.grouping.grouped.Goals as goal
 pub returns : goal.returns
 returns c =
     let is = grouped_is c.args.pairs.now c.as_slice-2.result.now c.in_ok-held.held (c.as_slice-2.ensures ∙ c.in_ok-in_order.ensures.value ∙ ap (λ names. keys (set_of names)) c.in_ok-firsts.ensures)
-        c.in_ok-held.ensures in
+    c.in_ok-held.ensures in
     subst (λ made. IfOk c.grouped_by.result (λ groups. groups ≡ made)) is c.grouped_by.ensures
