@@ -4,24 +4,29 @@ use Rattle.std.specs.Prelude.{◌&&◌, ◌||◌, option_map, option_and_then, u
 use Rattle.std.specs.Option.{option_map_or, option_or}
 use Rattle.std.specs.List.{find}
 use Rattle.std.specs.Str.{bytes_eq}
-use Rattle.std.specs.FinMap.{get, insert, contains_key, empty, get-empty, get-insert}
+use Rattle.std.specs.FinMap.{keys, get, insert, contains_key, empty, get-empty, get-insert}
 use Rattle.std.specs.Cmp.Lexicographic.{nat_list_cmp_total}
 use Rattle.std.proofs.lemmas.Slice.Eq.{bytes_eq-Decides}
 use Rattle.std.proofs.lemmas.Map.Text.{is_eq-slice_cmp}
+use Rattle.dc_text.specs.Bytes.{is_nil}
 use Rattle.dc_text.specs.Maps.{Texts, text_cmp}
 use Rattle.dc_item.specs.Item.{ItemParts}
-use Rattle.dc_item.specs.After.{after_at}
+use Rattle.dc_item.specs.After.{after_at, asked, parts_eq, effect_of}
 use Rattle.dc_item.specs.declared.op.After.{After}
 use Rattle.dc_item.specs.declared.op.After.TheVariants.{Same, Changed, Gone}
 use Rattle.dc_item.specs.declared.op.Op.{Op}
+use Rattle.dc_item.specs.declared.op.Op.TheVariants.{Put, SetField, DropField, SetFlag, SetVar, AddOwner, DropOwners}
+use Rattle.dc_item.specs.declared.effect.Effect.TheVariants as effect
+use Rattle.dc_item.proofs.AfterLemmas.{parts_eq-Decides}
 use Rattle.dc_template.specs.declared.kinds.Kind.{Kind}
 use Rattle.dc_conf.specs.declared.plans.Plan.{Plan}
 use Rattle.dc_layer.specs.State.{LayerState}
 use Rattle.dc_store.specs.Plans.{look, look_below, look_after, seen_after}
 use Rattle.dc_store.specs.Rows.{Write, is_refused}
-use Rattle.dc_question.specs.KindsLeft.{kind_left, with_kind, with_kinds, known_kind, item_kind, write_by}
-use Rattle.dc_question.specs.Ownership.{is_taken_on, template_then, write_beside}
+use Rattle.dc_question.specs.KindsLeft.{kind_left, with_kind, with_kinds, known_kind, item_kind, write_by, is_on_owners}
+use Rattle.dc_question.specs.Ownership.{is_gone, kept_after, is_taken_on, template_then, write_beside}
 use Rattle.dc_question.specs.Questions.{Setting}
+use Rattle.dc_template.specs.Kinds.{kind_of}
 use Rattle.dc_question.specs.Readings.{kind_by, template_of}
 
 -- ---- what is seen then
@@ -40,6 +45,106 @@ pub gone_seen : {A : Type 0} (ls : List LayerState) (p : Plan) (name : List ℕ)
     → item ≡ look ls p name → below ≡ look_below ls p name → made ≡ after_at op item → made ≡ Gone → f below ≡ f (look_after ls p name op)
 gone_seen ls p name op f item below made found lower is gone =
     ap f lower ∙ ap (λ m. f (seen_after item (look_below ls p name) m)) (sym gone ∙ is) ∙ ap (λ i. f (seen_after i (look_below ls p name) (after_at op i))) found
+
+-- ---- what is read of the fields of what is seen then
+
+-- what is read of an item is read of its fields
+abbrev pub ReadsFields : {A : Type 0} → (Option ItemParts → A) → Type 0
+ReadsFields f = (i j : ItemParts) → i.fields ≡ j.fields → f (Some i) ≡ f (Some j)
+
+pub kind_reads : ReadsFields kind_by
+kind_reads i j e = ap (λ fields. option_and_then kind_of (get fields (codes "type"))) e
+
+pub item_kind_reads : (ls : List LayerState) (at : Setting) (kinds : Texts (Option Kind)) → ReadsFields (item_kind ls at kinds)
+item_kind_reads ls at kinds i j e = ap (λ fields. option_and_then (known_kind ls at kinds) (get fields (codes "template"))) e
+
+module _ {A : Type 0} (f : Option ItemParts → A) (reads : ReadsFields f) where
+  put_made : (new : ItemParts) (item below : Option ItemParts) → f (Some new) ≡ f (seen_after item below (after_at (Put new) item))
+  put_made new None below = refl
+  put_made new (Some parts) below =
+      elim (parts_eq new parts) as (λ b. parts_eq new parts ≡ b → f (Some new) ≡ f (seen_after (Some parts) below (if b then Same else Changed new))) [
+        | true ↦ λ e. ap (λ i. f (Some i)) ((parts_eq-Decides new parts).0 e)
+        | false ↦ λ e. refl
+      ] refl
+
+  -- an item that is put is read
+  pub put_seen : (ls : List LayerState) (p : Plan) (name : List ℕ) (op : Op) (new : ItemParts) → op ≡ Put new → f (Some new) ≡ f (look_after ls p name op)
+  put_seen ls p name op new is =
+      put_made new (look ls p name) (look_below ls p name) ∙ ap (λ o. f (look_after ls p name o)) (sym is)
+
+  pub put_kept : (op : Op) (new : ItemParts) (item : Option ItemParts) → op ≡ Put new → f (Some new) ≡ f (kept_after item (after_at op item))
+  put_kept op new item is = by_item item ∙ ap (λ o. f (kept_after item (after_at o item))) (sym is) where
+    by_item : (item : Option ItemParts) → f (Some new) ≡ f (kept_after item (after_at (Put new) item))
+    by_item None = refl
+    by_item (Some parts) =
+        elim (parts_eq new parts) as (λ b. parts_eq new parts ≡ b → f (Some new) ≡ f (kept_after (Some parts) (if b then Same else Changed new))) [
+          | true ↦ λ e. ap (λ i. f (Some i)) ((parts_eq-Decides new parts).0 e)
+          | false ↦ λ e. refl
+        ] refl
+
+  -- what changes owners alone leaves the fields, where the item doesn't go
+  stays_by : (op : Op) (parts : ItemParts) (below : Option ItemParts) (same gone : Bool) → (asked op parts).fields ≡ parts.fields
+      → is_gone (if same then Same else if gone then Gone else Changed (asked op parts)) ≡ false
+      → f (Some parts) ≡ f (seen_after (Some parts) below (if same then Same else if gone then Gone else Changed (asked op parts)))
+  stays_by op parts below true gone e h = refl
+  stays_by op parts below false true e h = cc
+  stays_by op parts below false false e h = reads parts (asked op parts) (sym e)
+
+  kept_by : (op : Op) (parts : ItemParts) (same gone : Bool) → (asked op parts).fields ≡ parts.fields
+      → f (Some parts) ≡ f (kept_after (Some parts) (if same then Same else if gone then Gone else Changed (asked op parts)))
+  kept_by op parts true gone e = refl
+  kept_by op parts false true e = refl
+  kept_by op parts false false e = reads parts (asked op parts) (sym e)
+
+  owners_made : (op : Op) (item below : Option ItemParts) → is_on_owners op ≡ true → is_gone (after_at op item) ≡ false → f item ≡ f (seen_after item below (after_at op item))
+  owners_made (Put i) item below on h = absurd (cc)
+  owners_made (SetField k v) item below on h = absurd (cc)
+  owners_made (DropField k) item below on h = absurd (cc)
+  owners_made (SetFlag k b) item below on h = absurd (cc)
+  owners_made (SetVar k v) item below on h = absurd (cc)
+  owners_made (AddOwner o) None below on h = refl
+  owners_made (AddOwner o) (Some parts) below on h = stays_by (AddOwner o) parts below (parts_eq (asked (AddOwner o) parts) parts) false refl h
+  owners_made (DropOwners os) None below on h = refl
+  owners_made (DropOwners os) (Some parts) below on h =
+      stays_by (DropOwners os) parts below (parts_eq (asked (DropOwners os) parts) parts) (is_nil (keys (asked (DropOwners os) parts).owners)) refl h
+
+  pub owners_kept : (op : Op) (item : Option ItemParts) → is_on_owners op ≡ true → f item ≡ f (kept_after item (after_at op item))
+  owners_kept (Put i) item on = absurd (cc)
+  owners_kept (SetField k v) item on = absurd (cc)
+  owners_kept (DropField k) item on = absurd (cc)
+  owners_kept (SetFlag k b) item on = absurd (cc)
+  owners_kept (SetVar k v) item on = absurd (cc)
+  owners_kept (AddOwner o) None on = refl
+  owners_kept (AddOwner o) (Some parts) on = kept_by (AddOwner o) parts (parts_eq (asked (AddOwner o) parts) parts) false refl
+  owners_kept (DropOwners os) None on = refl
+  owners_kept (DropOwners os) (Some parts) on = kept_by (DropOwners os) parts (parts_eq (asked (DropOwners os) parts) parts) (is_nil (keys (asked (DropOwners os) parts).owners)) refl
+
+  pub owners_seen : (ls : List LayerState) (p : Plan) (name : List ℕ) (op : Op) (item : Option ItemParts) (does : Bool) → item ≡ look ls p name → is_on_owners op ≡ true
+      → does ≡ is_gone (after_at op item) → does ≡ false → f item ≡ f (look_after ls p name op)
+  owners_seen ls p name op item does found on is stays =
+      owners_made op item (look_below ls p name) on (sym is ∙ stays) ∙ ap (λ i. f (seen_after i (look_below ls p name) (after_at op i))) found
+
+gone_by : (made : After) → is_gone made ≡ true → made ≡ Gone
+gone_by Same h = cc
+gone_by (Changed item) h = cc
+gone_by Gone h = refl
+
+-- where the item goes, the one below it is seen
+pub below_seen : {A : Type 0} (f : Option ItemParts → A) (ls : List LayerState) (p : Plan) (name : List ℕ) (op : Op) (item below : Option ItemParts) (does : Bool)
+    → item ≡ look ls p name → below ≡ look_below ls p name → does ≡ is_gone (after_at op item) → does ≡ true → f below ≡ f (look_after ls p name op)
+below_seen f ls p name op item below does found lower is goes =
+    gone_seen ls p name op f item below (after_at op item) found lower refl (gone_by (after_at op item) (sym is ∙ goes))
+
+-- whether an item goes, by what is done to it
+pub effect_goes : (made : After) → effect_of made ≡ effect.Gone → true ≡ is_gone made
+effect_goes Same h = cc
+effect_goes (Changed item) h = cc
+effect_goes Gone h = refl
+
+pub effect_stays : (made : After) → (effect_of made ≡ effect.Gone → ⊥) → false ≡ is_gone made
+effect_stays Same h = refl
+effect_stays (Changed item) h = refl
+effect_stays Gone h = absurd (h refl)
 
 -- ---- the map of kinds
 

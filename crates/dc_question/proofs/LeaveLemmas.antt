@@ -11,7 +11,6 @@ use Rattle.std.proofs.lemmas.List.Kept.{AllPairs-cons}
 use Rattle.dc_text.specs.Maps.{Texts, set_of, AreDistinct as AllDiffer}
 use Rattle.dc_item.specs.Item.{ItemParts}
 use Rattle.dc_item.specs.After.{after_at}
-use Rattle.dc_item.specs.declared.op.After.{After}
 use Rattle.dc_item.specs.declared.op.Op.TheVariants.{DropOwners}
 use Rattle.dc_item.proofs.PrintedLines.{keys_apart}
 use Rattle.dc_template.specs.declared.kinds.Kind.{Kind}
@@ -42,10 +41,10 @@ filter_map_more h xs i x lt is =
 
 -- ---- which questions go
 
-pub goes_is : (ls : List LayerState) (at : Setting) (o n : List ℕ) (owners : List (List ℕ)) (item : Option ItemParts) (made : After) (lower : Bool)
-    → owners ≡ o ∷ [] → item ≡ question ls at n → made ≡ after_at (DropOwners owners) item → lower ≡ has_below ls at.config n → (is_gone made && not lower) ≡ goes_with ls at o n
-goes_is ls at o n owners item made lower os is m b =
-    (λ i. is_gone (m i) && not (b i)) ∙ (λ i. is_gone (after_at (DropOwners (os i)) (is i)) && not (has_below ls at.config n))
+pub goes_is : (ls : List LayerState) (at : Setting) (o n : List ℕ) (owners : List (List ℕ)) (item : Option ItemParts) (goes lower : Bool)
+    → owners ≡ o ∷ [] → item ≡ question ls at n → goes ≡ is_gone (after_at (DropOwners owners) item) → lower ≡ has_below ls at.config n → (goes && not lower) ≡ goes_with ls at o n
+goes_is ls at o n owners item goes lower os is m b =
+    (λ i. m i && not (b i)) ∙ (λ i. is_gone (after_at (DropOwners (os i)) (is i)) && not (has_below ls at.config n))
 
 -- ---- what templates lose
 

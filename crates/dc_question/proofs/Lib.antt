@@ -1,6 +1,9 @@
 pub mod ApartLemmas
 pub mod BindLemmas
 pub mod ChangeLemmas
+pub mod GroupLemmas
 pub mod KindLemmas
 pub mod LeaveLemmas
+pub mod PurgeLemmas
 pub mod ReadingLemmas
+pub mod RefusalLemmas

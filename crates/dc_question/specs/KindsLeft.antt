@@ -1,15 +1,22 @@
 -- The kinds of templates once writes to them are done, kept in a map, by which writes to questions beside them are tested.
-use Rattle.std.specs.Prelude.{ℕ, ◌||◌, List, [], ◌∷◌, Option, option_and_then, unwrap_or, codes, if◌then◌else◌}
+use Rattle.std.specs.Prelude.{ℕ, Bool, true, false, ◌||◌, List, [], ◌∷◌, Option, option_and_then, unwrap_or, codes, if◌then◌else◌}
 use Rattle.std.specs.FinMap as map
 use Rattle.dc_text.specs.Maps.{Texts}
 use Rattle.dc_item.specs.Item.{ItemParts}
 use Rattle.dc_item.specs.declared.op.Op.{Op}
+use Rattle.dc_item.specs.declared.op.Op.TheVariants.{AddOwner, DropOwners}
 use Rattle.dc_template.specs.declared.kinds.Kind.{Kind}
 use Rattle.dc_layer.specs.State.{LayerState}
 use Rattle.dc_store.specs.Plans.{look, look_after}
 use Rattle.dc_store.specs.Rows.{Write, is_refused}
 use Rattle.dc_question.specs.Questions.{Setting}
 use Rattle.dc_question.specs.Readings.{kind_by}
+
+-- the operation changes owners alone
+abbrev pub is_on_owners : Op → Bool
+is_on_owners (AddOwner owner) = true
+is_on_owners (DropOwners owners) = true
+is_on_owners _ = false
 
 -- the kind of a template once an operation on it is done
 abbrev pub kind_left : List LayerState → Setting → List ℕ → Op → Option Kind

@@ -1,9 +1,9 @@
 -- The questions that templates lose, by the templates.
-use Rattle.std.specs.Prelude.{ℕ, List, map as each, option_map}
+use Rattle.std.specs.Prelude.{ℕ, List, [], map as each, option_map, unwrap_or}
 use Rattle.std.specs.List.{filter, filter_map}
 use Rattle.std.specs.Str.{bytes_eq}
 use Rattle.std.specs.FinMap as map
-use Rattle.dc_text.specs.Maps.{set_of}
+use Rattle.dc_text.specs.Maps.{Texts, set_of}
 use Rattle.dc_item.specs.declared.op.Op.TheVariants.{DropOwners}
 use Rattle.dc_layer.specs.State.{LayerState}
 use Rattle.dc_store.specs.Rows.{Write}
@@ -21,6 +21,10 @@ behind first pairs = each (λ p. p.1) (filter (λ p. bytes_eq first p.0) pairs)
 -- each first name of the pairs, in byte order, with those that stand behind it
 abbrev pub grouped : List (List ℕ × List ℕ) → List (List ℕ × List (List ℕ))
 grouped pairs = each (λ t. (t, behind t pairs)) (map.keys (set_of (each (λ p. p.0) pairs)))
+
+-- the names that a map of lists holds at a name
+abbrev pub held_at : Texts (List (List ℕ)) → List ℕ → List (List ℕ)
+held_at held t = unwrap_or (map.get held t) []
 
 -- the writes by which templates lose questions
 abbrev pub losses_of : List LayerState → Setting → List (List ℕ × List (List ℕ)) → List Write

@@ -5,15 +5,15 @@ ghost use Rattle.std.specs.Option.{option_copied};
 ghost use Rattle.dc_item.specs.After.{after_at};
 ghost use Rattle.dc_conf.specs.Plans.{IsOver};
 ghost use Rattle.dc_store.specs.Rows.{AreOver, is_refused};
-ghost use Rattle.dc_question.specs.KindsLeft.{kind_left as kind_left_of, with_kind, with_kinds, item_kind as item_kind_of, write_by};
-ghost use Rattle.dc_question.specs.Ownership.{kept_after, template_write};
+ghost use Rattle.dc_question.specs.KindsLeft.{kind_left as kind_left_of, with_kind, with_kinds, item_kind as item_kind_of, write_by, is_on_owners as is_on_owners_of};
+ghost use Rattle.dc_question.specs.Ownership.{kept_after, template_write, is_gone};
 ghost use Rattle.dc_question.specs.Questions.{IsSetOver};
 ghost use Rattle.dc_question.specs.Readings.{kind_by};
 ghost use Rattle.dc_store.specs.Plans.{look, look_below, look_after};
 
 use crate::questions::Questions;
 use crate::values::kind;
-use dc_item::{After, Item, Op};
+use dc_item::{After, Effect, Item, Op};
 use dc_layer::Layer;
 use dc_store::Write;
 use dc_template::Kind;
@@ -77,6 +77,24 @@ impl<'q> Questions<'q> {
         requires over { IsSetOver self.now.setting (length self.now.store.now.layers.items) }
         ensures { IfOk result (λ kind. kind ≡ kind_left_of (each (λ b. state (b.vtable, b.value)) self.now.store.now.layers.items) self.now.setting name.now op.now) }
     {
+        if let Op::Put(made) = op {
+            return Ok(kind(Some(made)));
+        }
+        if !is_on_owners(op) {
+            return self.kind_made(name, op);
+        }
+        let item = self.template_seen(name);
+        if goes(op, item)? {
+            return Ok(kind(self.template_below(name)));
+        }
+        Ok(kind(item))
+    }
+
+    // The same by the item that the operation makes.
+    fn kind_made(&self, name: &Name, op: &Op) -> Mem<Option<Kind>>
+        requires over { IsSetOver self.now.setting (length self.now.store.now.layers.items) }
+        ensures { IfOk result (λ kind. kind ≡ kind_left_of (each (λ b. state (b.vtable, b.value)) self.now.store.now.layers.items) self.now.setting name.now op.now) }
+    {
         let item = self.template_seen(name);
         match op.at(item)? {
             After::Same => Ok(kind(item)),
@@ -134,6 +152,29 @@ impl<'q> Questions<'q> {
         requires over { IsSetOver self.now.setting (length self.now.store.now.layers.items) }
         ensures { IfOk result (λ kind. kind ≡ item_kind_of (each (λ b. state (b.vtable, b.value)) self.now.store.now.layers.items) self.now.setting kinds.now (look_after (each (λ b. state (b.vtable, b.value)) self.now.store.now.layers.items) self.now.setting.config name.now op.now)) }
     {
+        if let Op::Put(made) = op {
+            return Ok(self.item_kind(kinds, Some(made)));
+        }
+        if !is_on_owners(op) {
+            return self.item_kind_made(kinds, name, op);
+        }
+        let item = self.question(name);
+        if goes(op, item)? {
+            return Ok(self.item_kind(kinds, self.question_below(name)));
+        }
+        Ok(self.item_kind(kinds, item))
+    }
+
+    // The same by the item that the operation makes.
+    fn item_kind_made(
+        &self,
+        kinds: &TextMap<Option<Kind>>,
+        name: &Name,
+        op: &Op,
+    ) -> Mem<Option<Kind>>
+        requires over { IsSetOver self.now.setting (length self.now.store.now.layers.items) }
+        ensures { IfOk result (λ kind. kind ≡ item_kind_of (each (λ b. state (b.vtable, b.value)) self.now.store.now.layers.items) self.now.setting kinds.now (look_after (each (λ b. state (b.vtable, b.value)) self.now.store.now.layers.items) self.now.setting.config name.now op.now)) }
+    {
         let item = self.question(name);
         match op.at(item)? {
             After::Same => Ok(self.item_kind(kinds, item)),
@@ -159,10 +200,40 @@ impl<'q> Questions<'q> {
 fn kept_kind(item: Option<&Item>, op: &Op) -> Mem<Option<Kind>>
     ensures { IfOk result (λ kind. kind ≡ kind_by (kept_after (option_copied item.entry) (after_at op.now (option_copied item.entry)))) }
 {
+    if let Op::Put(made) = op {
+        return Ok(kind(Some(made)));
+    }
+    if is_on_owners(op) {
+        return Ok(kind(item));
+    }
+    kept_kind_made(item, op)
+}
+
+// The same by the item that the operation makes.
+fn kept_kind_made(item: Option<&Item>, op: &Op) -> Mem<Option<Kind>>
+    ensures { IfOk result (λ kind. kind ≡ kind_by (kept_after (option_copied item.entry) (after_at op.now (option_copied item.entry)))) }
+{
     match op.at(item)? {
         After::Same => Ok(kind(item)),
         After::Changed(made) => Ok(kind(Some(&made))),
         After::Gone => Ok(kind(item)),
+    }
+}
+
+// Whether the operation changes owners alone.
+fn is_on_owners(op: &Op) -> bool
+    ensures { result ≡ is_on_owners_of op.now }
+{
+    matches!(op, Op::AddOwner(_) | Op::DropOwners(_))
+}
+
+/// Whether the item goes by the operation.
+pub fn goes(op: &Op, item: Option<&Item>) -> Mem<bool>
+    ensures { IfOk result (λ does. does ≡ is_gone (after_at op.now (option_copied item.entry))) }
+{
+    match op.effect(item)? {
+        Effect::Gone => Ok(true),
+        _ => Ok(false),
     }
 }
 

@@ -1,7 +1,18 @@
 //! Laws of the readings.
-ghost use Rattle.std.specs.Prelude.{◌≡◌, List, ℕ, [], Some, None, length, codes};
+ghost use Rattle.std.specs.Prelude.{◌≡◌, List, ℕ, [], Some, None, Ok, Err, true, false, length, unwrap_or, codes};
+ghost use Rattle.std.specs.List.{list_any};
 ghost use Rattle.std.specs.FinMap as map;
+ghost use Rattle.dc_text.specs.Maps.{AreDistinct};
 ghost use Rattle.dc_item.specs.Item.{ItemParts};
+ghost use Rattle.dc_conf.specs.Plans.{are_disjoint};
+ghost use Rattle.dc_layer.specs.State.{LayerState};
+ghost use Rattle.dc_store.specs.Plans.{StoreState, look, look_below, is_owned};
+ghost use Rattle.dc_store.specs.Rows.{Write, AllDistinct, is_refused, all_done, first_held_up};
+ghost use Rattle.dc_question.specs.Changes.{row_for};
+ghost use Rattle.dc_question.specs.Ownership.{register_row, leave_row, purged};
+ghost use Rattle.dc_question.specs.Questions.{Setting};
+ghost use Rattle.dc_question.specs.declared.errors.QuestionError.{QuestionError};
+ghost use Rattle.dc_question.specs.declared.errors.QuestionError.TheVariants.{CantChange};
 ghost use Rattle.dc_question.specs.Readings.{choices_by, localised, value_of};
 
 /// A question has as many labels as choices.
@@ -12,4 +23,25 @@ pub fn labels_pair_with_choices()
 /// A field `type` in a language is never read for the type.
 pub fn types_are_in_no_language()
     ensures { (lang : List ℕ) (template : ItemParts) → localised lang template (codes "type") ≡ map.get template.fields (codes "type") }
+{}
+
+/// The writes of a row are on different items, where questions and templates share no layer.
+pub fn writes_of_a_row_are_distinct()
+    ensures register { (layers : List LayerState) (at : Setting) (template name owner : List ℕ) → are_disjoint at.config at.templates ≡ true → AllDistinct (register_row layers at template name owner) }
+    ensures leave { (layers : List LayerState) (at : Setting) (owner : List ℕ) (names : List (List ℕ)) → are_disjoint at.config at.templates ≡ true → AreDistinct names → AllDistinct (leave_row layers at owner names) }
+{}
+
+/// A row is done as a whole exactly where none of its writes is refused, and else none of it is.
+pub fn refused_rows_change_nothing()
+    ensures taken { (store new : StoreState) (names : List (List ℕ)) (row : List Write) → row_for store names row ≡ Ok new → (list_any (is_refused store.layers) row ≡ false) × (new ≡ all_done store row) }
+    ensures left { (store : StoreState) (names : List (List ℕ)) (row : List Write) → list_any (is_refused store.layers) row ≡ false → row_for store names row ≡ Ok (all_done store row) }
+    ensures refused { (store : StoreState) (names : List (List ℕ)) (row : List Write) (error : QuestionError) → row_for store names row ≡ Err error → (list_any (is_refused store.layers) row ≡ true) × (error ≡ CantChange (unwrap_or (first_held_up store.layers names row) [])) }
+    ensures told { (store : StoreState) (names : List (List ℕ)) (row : List Write) → list_any (is_refused store.layers) row ≡ true → row_for store names row ≡ Err (CantChange (unwrap_or (first_held_up store.layers names row) [])) }
+{}
+
+/// Once an owner's questions are purged, no question that is seen has it, unless one that another had hidden has come into sight:
+/// where questions and templates share no layer, and those of questions have no backup.
+pub fn purged_questions_lose_the_owner()
+    ensures { (store new : StoreState) (at : Setting) (owner name : List ℕ) → are_disjoint at.config at.templates ≡ true → at.config.backup ≡ None → purged store at owner ≡ Ok new
+        → is_owned owner (look new.layers at.config name) ≡ true → is_owned owner (look_below store.layers at.config name) ≡ true }
 {}

@@ -1,5 +1,5 @@
 // Owners that leave questions.
-ghost use Rattle.std.specs.Prelude.{◌≡◌, ◌∷◌, ◌++◌, ◌&&◌, [], IfOk, OnOk, length, true, not, option_map, map as each};
+ghost use Rattle.std.specs.Prelude.{◌≡◌, ◌∷◌, ◌++◌, [], IfOk, OnOk, length, true, option_map, map as each};
 ghost use Rattle.std.specs.List.{cons_option};
 ghost use Rattle.dc_conf.specs.Plans.{are_disjoint};
 ghost use Rattle.dc_text.specs.Maps.{AreDistinct};
@@ -10,14 +10,14 @@ ghost use Rattle.dc_store.specs.StoreLaws.{AreSameButAll};
 ghost use Rattle.dc_question.specs.Changes.{Does, row_for};
 ghost use Rattle.dc_question.specs.KindsLeft.{write_by};
 ghost use Rattle.dc_question.specs.Losses.{pairs_lost as pairs_lost_of, losses_of};
-ghost use Rattle.dc_question.specs.Ownership.{goes_with as goes_with_of, bound_to as bound_to_of, loser_of as loser_of_of, leave_row as leave_row_of, is_gone as is_gone_of, template_write as template_write_of};
+ghost use Rattle.dc_question.specs.Ownership.{goes_with as goes_with_of, bound_to as bound_to_of, loser_of as loser_of_of, leave_row as leave_row_of, template_write as template_write_of};
 ghost use Rattle.dc_question.specs.Questions.{IsSetOver};
 
-use crate::beside::only;
+use crate::beside::{goes, only};
 use crate::errors::QuestionError;
 use crate::grouping::grouped;
 use crate::questions::Questions;
-use dc_item::{After, Op};
+use dc_item::Op;
 use dc_layer::Layer;
 use dc_store::Write;
 use dc_template::Kind;
@@ -105,8 +105,8 @@ impl<'q> Questions<'q> {
         ensures { IfOk result (λ is. is ≡ goes_with_of (each (λ b. state (b.vtable, b.value)) self.now.store.now.layers.items) self.now.setting owner.now name.now) }
     {
         let op = Op::DropOwners(only(self.alloc, owner)?);
-        let made = op.at(self.question(name))?;
-        Ok(is_last(&made, self.has_below(name)))
+        let goes = goes(&op, self.question(name))?;
+        Ok(goes && !self.has_below(name))
     }
 
     // The questions that have the owner.
@@ -176,11 +176,4 @@ impl<'q> Questions<'q> {
         let op = Op::DropOwners(questions.copy()?);
         self.template_write(template.copy()?, op, questions.copy()?)
     }
-}
-
-// Whether an item went and none comes into its place.
-fn is_last(made: &After, has_below: bool) -> bool
-    ensures { result ≡ (is_gone_of made.now && not has_below) }
-{
-    matches!(made, After::Gone) && !has_below
 }

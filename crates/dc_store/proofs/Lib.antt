@@ -5,4 +5,5 @@ pub mod ListingLemmas
 pub mod RowLemmas
 pub mod Searches
 pub mod SeenLemmas
+pub mod TakenLemmas
 pub mod TestLemmas

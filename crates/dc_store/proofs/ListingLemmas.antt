@@ -1,11 +1,13 @@
 -- The names that are seen with an owner are among those that the layers have for it.
-use Rattle.std.proofs.Common.{◌≡◌, ℕ, Bool, true, false, cond, ◌||◌, List, [], ◌∷◌, Some, None, is_some, refl, sym, ap, ◌∙◌}
+use Rattle.std.proofs.Common.{◌≡◌, ℕ, Bool, true, false, cond, ◌||◌, List, [], ◌∷◌, Option, Some, None, is_some, refl, sym, ap, ◌∙◌}
 use Rattle.std.specs.Prelude.{slice_get, option_and_then}
 use Rattle.std.specs.Option.{option_or, option_map_or}
 use Rattle.std.specs.List.{flat_map, filter, list_any}
 use Rattle.std.specs.Ordering.{eq_by_cmp}
 use Rattle.std.specs.Cmp.Lexicographic.{nat_list_cmp_total}
 use Rattle.std.proofs.lemmas.List.Folds.{list_any-append}
+use Rattle.std.proofs.lemmas.Slice.Eq.{bytes_eq-Decides}
+use Rattle.std.proofs.lemmas.Map.Text.{is_eq-slice_cmp}
 use Rattle.std.specs.FinMap.{get, find, entries, keys, contains_key, retain_keys, same_map, get-entries, get-retain_keys, contains_key-keys}
 use Rattle.dc_text.specs.Maps.{set_of, text_cmp}
 use Rattle.dc_text.proofs.MapLemmas.{exact_texts, get-set_of}
@@ -16,11 +18,11 @@ use Rattle.dc_store.specs.Holders.{item_at, look_of}
 use Rattle.dc_store.specs.Listings.{owned_at}
 use Rattle.dc_conf.specs.Plans.{places}
 use Rattle.dc_conf.specs.declared.plans.Plan.{Plan}
-use Rattle.dc_store.specs.Plans.{names_at, is_owned, owned as seen_owned}
+use Rattle.dc_store.specs.Plans.{look, names_at, is_owned, owned as seen_owned}
 use Rattle.dc_store.proofs.Searches.{look_step}
 
 -- the text is in the list
-abbrev is_in : List ℕ → List (List ℕ) → Bool
+abbrev pub is_in : List ℕ → List (List ℕ) → Bool
 is_in q texts = list_any (eq_by_cmp text_cmp q) texts
 
 or_later : (a b : Bool) → b ≡ true → (a || b) ≡ true
@@ -71,6 +73,27 @@ listed f ls q item here (p ∷ ps) e =
 
 in_both : (a b : List (List ℕ)) (q : List ℕ) → is_in q a ≡ true → is_in q b ≡ true → get (set_of a) q ≡ get (set_of b) q
 in_both a b q x y = get-set_of a q ∙ ap (λ t. cond t (Some tt) None) (x ∙ sym y) ∙ sym (get-set_of b q)
+
+pub same_text : (q k : List ℕ) → eq_by_cmp text_cmp q k ≡ true → q ≡ k
+same_text q k t = (bytes_eq-Decides q k).0 (sym (is_eq-slice_cmp q k) ∙ t)
+
+in_filter : (has : List ℕ → Bool) (q : List ℕ) (ks : List (List ℕ)) → has q ≡ true → is_in q ks ≡ true → is_in q (filter has ks) ≡ true
+in_filter has q [] h e = cc
+in_filter has q (k ∷ ks) h e = elim (eq_by_cmp text_cmp q k) as (λ b. eq_by_cmp text_cmp q k ≡ b → (b || is_in q ks) ≡ true → is_in q (cond (has k) (k ∷ filter has ks) (filter has ks)) ≡ true) [
+  | true ↦ λ t e. ap (λ b. is_in q (cond b (k ∷ filter has ks) (filter has ks))) (ap has (sym (same_text q k t)) ∙ h) ∙ ap (λ b. b || is_in q (filter has ks)) t
+  | false ↦ λ t e. put_later (has k) q k (filter has ks) (in_filter has q ks h e)
+] refl e
+
+-- a name whose item is seen with the owner is among those that have it
+pub owned_listed : (ls : List LayerState) (plan : Plan) (owner q : List ℕ) → is_owned owner (look ls plan q) ≡ true → is_in q (seen_owned ls plan owner) ≡ true
+owned_listed ls plan owner q has = by_item (look ls plan q) refl has where
+  by_item : (o : Option ItemParts) → look ls plan q ≡ o → is_owned owner o ≡ true → is_in q (seen_owned ls plan owner) ≡ true
+  by_item None e h = cc
+  by_item (Some item) e h =
+      let all = flat_map (names_at ls) (places plan.base) in
+      let here : is_in q all ≡ true = listed (names_at ls) ls q item (λ place is. name_there ls q place item is) (places plan.base) e in
+      in_filter (λ name. is_owned owner (look ls plan name)) q (keys (set_of all)) has
+      (sym (contains_key-keys (set_of all) q) ∙ ap is_some (get-set_of all q) ∙ ap (λ b. is_some (cond b (Some tt) None)) here)
 
 -- those that are seen with the owner, of all names and of those that the layers have for it
 pub seen_with : (ls : List LayerState) (ps owner : List ℕ)

@@ -1,8 +1,8 @@
 -- No write changes another's test.
-use Rattle.std.proofs.Common.{◌≡◌, ℕ, zero, suc, false, cond, not, ◌&&◌, List, [], ◌∷◌, ◌++◌, Option, Some, None, is_some, refl, sym, ap, subst, ◌∙◌, ⊎_elim}
+use Rattle.std.proofs.Common.{◌≡◌, ℕ, zero, suc, true, false, cond, not, ◌&&◌, List, [], ◌∷◌, ◌++◌, Option, Some, None, is_some, refl, sym, ap, subst, ◌∙◌, ⊎_elim}
 use Rattle.std.specs.Prelude.{slice_get, option_and_then, option_map, unwrap_or, if◌then◌else◌}
 use Rattle.std.specs.Option.{option_or, option_map_or}
-use Rattle.std.specs.List.{All, Contains}
+use Rattle.std.specs.List.{All, Contains, after_first}
 use Rattle.std.specs.FinMap as map
 use Rattle.std.proofs.lemmas.List.Elements.{All-head, All-tail, All-weaker, All-contains_itself, Contains-append_left, Contains-append_right}
 use Rattle.dc_conf.specs.declared.plans.Base.{Base}
@@ -13,7 +13,7 @@ use Rattle.dc_item.specs.declared.op.After.{After}
 use Rattle.dc_item.specs.declared.op.After.TheVariants.{Same, Changed, Gone}
 use Rattle.dc_template.specs.declared.kinds.Kind.{Kind}
 use Rattle.dc_layer.specs.State.{LayerState, is_writable, admits, with_made}
-use Rattle.dc_store.specs.Holders.{item_at, has_at, holder_of, look_of}
+use Rattle.dc_store.specs.Holders.{item_at, has_at, holder_of, look_of, look_below_of}
 use Rattle.dc_conf.specs.Plans.{places}
 use Rattle.dc_store.specs.Plans.{StoreState, stored, backup_op, tried, backed_up, told_line, write}
 use Rattle.dc_store.specs.Rows.{Write, AreApart, AreDistinct, all_places, is_refused}
@@ -22,7 +22,7 @@ use Rattle.dc_store.specs.Writes.{is_writable_at, takes_at, open_holder, home, b
 use Rattle.dc_store.proofs.Frames.{plan_keeps}
 use Rattle.dc_store.proofs.LawLemmas.{changes_one}
 use Rattle.dc_store.proofs.SeenLemmas.{change_apart}
-use Rattle.dc_store.proofs.Searches.{find_within, home_step, look_step}
+use Rattle.dc_store.proofs.Searches.{find_within, after_first_step, home_step, look_step}
 
 -- a place is alike for a name and a kind in two lists of layers
 pub record IsAlike (ls ms : List LayerState) (n : List ℕ) (k : Option Kind) (p : ℕ) : Type 0 where
@@ -37,11 +37,22 @@ module _ (ls ms : List LayerState) (n : List ℕ) (k : Option Kind) where
       ap (λ o. cond (is_some o) (Some p) (holder_of ms ps n)) (All-head (IsAlike ls ms n k) p ps all).item
       ∙ ap (λ o. cond (has_at ls n p) (Some p) o) (holder_alike ps (All-tail (IsAlike ls ms n k) p ps all))
 
-  look_alike : (ps : List ℕ) → All (IsAlike ls ms n k) ps → look_of ms ps n ≡ look_of ls ps n
+  pub look_alike : (ps : List ℕ) → All (IsAlike ls ms n k) ps → look_of ms ps n ≡ look_of ls ps n
   look_alike [] all = refl
   look_alike (p ∷ ps) all =
       look_step ms p ps n ∙ ap (λ o. option_or o (look_of ms ps n)) (All-head (IsAlike ls ms n k) p ps all).item
       ∙ ap (option_or (item_at ls p n)) (look_alike ps (All-tail (IsAlike ls ms n k) p ps all)) ∙ sym (look_step ls p ps n)
+
+  pub below_alike : (ps : List ℕ) → All (IsAlike ls ms n k) ps → look_below_of ms ps n ≡ look_below_of ls ps n
+  below_alike [] all = refl
+  below_alike (p ∷ ps) all =
+      ap (λ qs. look_of ms qs n) (after_first_step (has_at ms n) p ps)
+      ∙ ap (λ o. look_of ms (cond (is_some o) ps (after_first (has_at ms n) ps)) n) (All-head (IsAlike ls ms n k) p ps all).item
+      ∙ (elim (has_at ls n p) as (λ b. look_of ms (cond b ps (after_first (has_at ms n) ps)) n ≡ look_of ls (cond b ps (after_first (has_at ls n) ps)) n) [
+        | true ↦ look_alike ps (All-tail (IsAlike ls ms n k) p ps all)
+        | false ↦ below_alike ps (All-tail (IsAlike ls ms n k) p ps all)
+      ])
+      ∙ sym (ap (λ qs. look_of ls qs n) (after_first_step (has_at ls n) p ps))
 
   home_alike : (ps : List ℕ) → All (IsAlike ls ms n k) ps → home ms ps n k ≡ home ls ps n k
   home_alike [] all = refl
@@ -139,14 +150,16 @@ plans_alike ls ms n k p e = record {
 
 -- ---- both
 
-pub tests_apart : (store new : StoreState) (v w : Write) → AreDistinct v w → write store v.plan v.name v.kind v.op ≡ Some new → is_refused new.layers w ≡ is_refused store.layers w
-tests_apart store new v w distinct h = ap not (write_alike store.layers new.layers w.name w.kind (places w.plan.base) w.op all) where
-  all_by : ((p : ℕ) → Contains (places w.plan.base) p → IsAlike store.layers new.layers w.name w.kind p) → All (IsAlike store.layers new.layers w.name w.kind) (places w.plan.base)
-  all_by each = All-weaker (Contains (places w.plan.base)) (IsAlike store.layers new.layers w.name w.kind) each (places w.plan.base) (All-contains_itself (places w.plan.base))
+-- all places of a write are alike before and after a write on another item
+pub all_alike : (store new : StoreState) (v w : Write) → AreDistinct v w → write store v.plan v.name v.kind v.op ≡ Some new
+    → All (IsAlike store.layers new.layers w.name w.kind) (places w.plan.base)
+all_alike store new v w distinct h =
+    ⊎_elim (λ differ. all_by (λ p in'. names_alike v.name w.name store.layers new.layers w.kind (λ e. differ (sym e)) (plan_keeps store new v.plan v.name v.kind v.op h) p))
+    (λ (apart : AreApart v.plan w.plan). all_by (λ p in'. plans_alike store.layers new.layers w.name w.kind p (plan_apart store new v.plan v.name v.kind v.op h p
+    (λ at. apart p at (Contains-append_left (places w.plan.base) (option_map_or places w.plan.backup []) p in')))))
+    distinct where
+      all_by : ((p : ℕ) → Contains (places w.plan.base) p → IsAlike store.layers new.layers w.name w.kind p) → All (IsAlike store.layers new.layers w.name w.kind) (places w.plan.base)
+      all_by each = All-weaker (Contains (places w.plan.base)) (IsAlike store.layers new.layers w.name w.kind) each (places w.plan.base) (All-contains_itself (places w.plan.base))
 
-  all : All (IsAlike store.layers new.layers w.name w.kind) (places w.plan.base)
-  all = ⊎_elim
-      (λ differ. all_by (λ p in'. names_alike v.name w.name store.layers new.layers w.kind (λ e. differ (sym e)) (plan_keeps store new v.plan v.name v.kind v.op h) p))
-      (λ (apart : AreApart v.plan w.plan). all_by (λ p in'. plans_alike store.layers new.layers w.name w.kind p (plan_apart store new v.plan v.name v.kind v.op h p
-      (λ at. apart p at (Contains-append_left (places w.plan.base) (option_map_or places w.plan.backup []) p in')))))
-      distinct
+pub tests_apart : (store new : StoreState) (v w : Write) → AreDistinct v w → write store v.plan v.name v.kind v.op ≡ Some new → is_refused new.layers w ≡ is_refused store.layers w
+tests_apart store new v w distinct h = ap not (write_alike store.layers new.layers w.name w.kind (places w.plan.base) w.op (all_alike store new v w distinct h))

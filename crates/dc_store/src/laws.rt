@@ -8,7 +8,8 @@ ghost use Rattle.dc_item.specs.declared.op.After.TheVariants.{Same, Changed, Gon
 ghost use Rattle.dc_template.specs.declared.kinds.Kind.{Kind};
 ghost use Rattle.dc_layer.specs.State.{LayerState};
 ghost use Rattle.dc_store.specs.Holders.{item_at, has_at, holder_of, look_of, above};
-ghost use Rattle.dc_store.specs.Plans.{StoreState, write};
+ghost use Rattle.dc_store.specs.Plans.{StoreState, look, look_below, look_after, write};
+ghost use Rattle.dc_conf.specs.declared.plans.Plan.{Plan};
 ghost use Rattle.dc_store.specs.Rows.{Write, AreDistinct, is_refused};
 ghost use Rattle.dc_store.specs.StoreLaws.{AreSameBut, IsTopmost, ChangesOne, IsRefusal};
 ghost use Rattle.dc_store.specs.Writes.{is_writable_at, write_of};
@@ -43,6 +44,13 @@ pub fn copies_are_whole()
     ensures { (layers new : List LayerState) (places name : List ℕ) (kind : Option Kind) (op : Op) (item : ItemParts) (holder : ℕ) → write_of layers places name kind op ≡ Some new
         → after_at op (look_of layers places name) ≡ Changed item → holder_of layers places name ≡ Some holder → is_writable_at layers holder ≡ false
         → ((place : ℕ) × Contains (above layers places name) place × (item_at new place name ≡ Some item) × (item_at new holder name ≡ item_at layers holder name)) }
+{}
+
+/// On a plan without a backup what the operation left is seen once its write is taken. One exception: it took the item away from a
+/// layer that stands in the stack again below, so that the item below it was the same one.
+pub fn taken_writes_are_seen()
+    ensures { (store new : StoreState) (plan : Plan) (name : List ℕ) (kind : Option Kind) (op : Op) → plan.backup ≡ None → write store plan name kind op ≡ Some new
+        → (look new.layers plan name ≡ look_after store.layers plan name op) ⊎ ((after_at op (look store.layers plan name) ≡ Gone) × (look_below store.layers plan name ≡ look store.layers plan name)) }
 {}
 
 /// A write is refused only where it would change the item, no writable layer holds it, and it would go or no layer takes it.

@@ -1,17 +1,17 @@
-use Rattle.std.proofs.Common.{◌∙◌}
+use Rattle.std.proofs.Common.{◌≡◌, true, map as each, ◌∙◌}
+use Rattle.dc_question.specs.KindsLeft.{is_on_owners}
 use Rattle.dc_question.specs.Readings.{kind_by}
-use Rattle.dc_question.proofs.KindLemmas.{same_seen, changed_seen, gone_seen}
+use Rattle.dc_question.proofs.KindLemmas.{kind_reads, put_seen, owners_seen}
 use Rattle.dc_question.proofs.questions.Questions.kind_left.Goals as goal
 
-pub returns-in-Same : goal.returns-in-Same
-returns-in-Same g c =
-    c.kind.ensures ∙ same_seen _ c.args.self.now.setting.templates c.args.name.now c.args.op.now kind_by _ c.in_ok-at.field-0 c.template_seen-item.ensures c.in_ok-at.ensures c.in-Same.is
+pub returns-in-Put : goal.returns-in-Put
+returns-in-Put g c =
+    let layers = each (λ b. (goal.Layer-dyn g (b.vtable, b.value)).state b.value) c.args.self.now.store.now.layers.items in
+    c.kind.ensures ∙ put_seen kind_by kind_reads layers c.args.self.now.setting.templates c.args.name.now c.args.op.now c.in-Put.made c.in-Put.is
 
-pub returns-in-Changed : goal.returns-in-Changed
-returns-in-Changed g c =
-    c.kind-in-Changed.ensures ∙ changed_seen _ c.args.self.now.setting.templates c.args.name.now c.args.op.now kind_by _ c.in_ok-at.field-0 _ c.template_seen-item.ensures c.in_ok-at.ensures c.in-Changed.is
-
-pub returns-in-Gone : goal.returns-in-Gone
-returns-in-Gone g c =
-    c.kind-in-Gone.ensures
-    ∙ gone_seen _ c.args.self.now.setting.templates c.args.name.now c.args.op.now kind_by _ _ c.in_ok-at.field-0 c.template_seen-item.ensures c.template_below.ensures c.in_ok-at.ensures c.in-Gone.is
+pub returns : goal.returns
+returns g c =
+    let layers = each (λ b. (goal.Layer-dyn g (b.vtable, b.value)).state b.value) c.args.self.now.store.now.layers.items in
+    let owners : is_on_owners c.args.op.now ≡ true = cc in
+    c.kind-2.ensures
+    ∙ owners_seen kind_by kind_reads layers c.args.self.now.setting.templates c.args.name.now c.args.op.now _ c.in_ok-goes.field-0 c.template_seen-item.ensures owners c.in_ok-goes.ensures c.if-branch.false

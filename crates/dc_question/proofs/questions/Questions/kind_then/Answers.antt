@@ -1,10 +1,11 @@
 use Rattle.std.proofs.Common.{map as each, ◌∙◌}
 use Rattle.dc_question.specs.KindsLeft.{item_kind}
-use Rattle.dc_question.proofs.KindLemmas.{gone_seen}
+use Rattle.dc_question.proofs.KindLemmas.{item_kind_reads, put_seen}
 use Rattle.dc_question.proofs.questions.Questions.kind_then.Goals as goal
 
-pub returns-in-Gone : goal.returns-in-Gone
-returns-in-Gone g c =
+pub returns-in-Put : goal.returns-in-Put
+returns-in-Put g c =
     let layers = each (λ b. (goal.Layer-dyn g (b.vtable, b.value)).state b.value) c.args.self.now.store.now.layers.items in
-    c.item_kind-in-Gone.ensures
-    ∙ gone_seen layers c.args.self.now.setting.config c.args.name.now c.args.op.now (item_kind layers c.args.self.now.setting c.args.kinds.now) _ _ c.in_ok-at.field-0 c.question-item.ensures c.question_below.ensures c.in_ok-at.ensures c.in-Gone.is
+    c.item_kind.ensures
+    ∙ put_seen (item_kind layers c.args.self.now.setting c.args.kinds.now) (item_kind_reads layers c.args.self.now.setting c.args.kinds.now) layers c.args.self.now.setting.config c.args.name.now
+    c.args.op.now c.in-Put.made c.in-Put.is
