@@ -3,4 +3,5 @@ pub mod BindLemmas
 pub mod ChangeLemmas
 pub mod KindLemmas
 pub mod LeaveLemmas
+pub mod LoadLemmas
 pub mod ReadingLemmas

@@ -10,6 +10,7 @@ pub mod fields;
 mod grouping;
 pub mod laws;
 mod leaving;
+mod loading;
 mod ownership;
 pub mod questions;
 mod rows;
