@@ -25,6 +25,8 @@ pub use setting::Setting;
 pub use values::{kind, value};
 
 #[cfg(test)]
+mod ownership_tests;
+#[cfg(test)]
 mod store_tests;
 #[cfg(test)]
 mod tests;
