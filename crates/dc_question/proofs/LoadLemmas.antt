@@ -1,5 +1,5 @@
 -- Templates that are loaded.
-use Rattle.std.proofs.Common.{◌≡◌, ◌≢◌, ℕ, ◌+◌, ◌<◌, length, get_or, take, true, Option, Some, None, Result, Err, List, [], ◌∷◌, ◌++◌, map as each, refl, sym, ap, ◌∙◌, inl, inr}
+use Rattle.std.proofs.Common.{◌≡◌, ◌≢◌, ℕ, ◌+◌, ◌<◌, length, get_or, take, true, Option, Some, List, [], ◌∷◌, ◌++◌, map as each, refl, sym, ap, ◌∙◌, inl, inr}
 use Rattle.std.specs.List.{All, AllByRecursion, flat_map}
 use Rattle.std.specs.FinMap.{insert, empty, keys, from_entries}
 use Rattle.std.specs.Option.{option_map_or}
@@ -14,14 +14,11 @@ use Rattle.dc_item.proofs.ItemLemmas.{set_of-keys}
 use Rattle.dc_item.specs.declared.op.Op.TheVariants.{Put}
 use Rattle.dc_conf.specs.Plans.{IsOver, are_disjoint}
 use Rattle.dc_layer.specs.State.{LayerState}
-use Rattle.dc_store.specs.Plans.{StoreState, look}
+use Rattle.dc_store.specs.Plans.{look}
 use Rattle.dc_store.specs.Rows.{Write, AreDistinct, AllDistinct, AreOver}
 use Rattle.dc_template.specs.Stanzas.{Stanza}
-use Rattle.dc_question.specs.Changes.{row_for}
-use Rattle.dc_question.specs.Ownership.{template_write, write_beside, binding, loaded_template, load_row, bound_elsewhere, loaded}
+use Rattle.dc_question.specs.Ownership.{template_write, write_beside, binding, loaded_template, load_row}
 use Rattle.dc_question.specs.Questions.{Setting, IsSetOver, question}
-use Rattle.dc_question.specs.declared.errors.QuestionError.{QuestionError}
-use Rattle.dc_question.specs.declared.errors.QuestionError.TheVariants.{Twice}
 use Rattle.dc_question.proofs.ApartLemmas.{apart_too, no_pairs}
 
 -- ---- the fields, put from the last to the first
@@ -111,15 +108,3 @@ module _ (ls : List LayerState) (at : Setting) (o : List ℕ) where
 
   pub load_over : (ts : List Stanza) (count : ℕ) → IsSetOver at count → AreOver (load_row ls at o ts) count
   load_over ts count over = pairs_over put bound count (λ t. over.templates) (λ t. over.config) ts
-
-pub loads : (old : StoreState) (at : Setting) (o : List ℕ) (ts ss : List Stanza) (found : Option Stanza) → found ≡ bound_elsewhere old.layers at ss → found ≡ None → ss ≡ ts
-    → row_for old (each (λ t. t.name) ss) (load_row old.layers at o ss) ≡ loaded old at o ts
-loads old at o ts ss found f none is =
-    ap (λ xs. row_for old (each (λ t. t.name) xs) (load_row old.layers at o xs)) is
-    ∙ ap (λ b. option_map_or (λ t. Err (Twice t.name)) b (row_for old (each (λ t. t.name) ts) (load_row old.layers at o ts))) (sym none ∙ f ∙ ap (bound_elsewhere old.layers at) is)
-
-pub loads_none : (old : StoreState) (at : Setting) (o : List ℕ) (ts ss : List Stanza) (found : Option Stanza) (t : Stanza) (n : List ℕ)
-    → found ≡ bound_elsewhere old.layers at ss → found ≡ Some t → ss ≡ ts → n ≡ t.name → loaded old at o ts ≡ Err (Twice n)
-loads_none old at o ts ss found t n f some is named =
-    ap (λ b. option_map_or (λ t. Err (Twice t.name)) b (row_for old (each (λ t. t.name) ts) (load_row old.layers at o ts))) (sym (sym some ∙ f ∙ ap (bound_elsewhere old.layers at) is))
-    ∙ ap (λ x. Err (Twice x)) (sym named)
