@@ -4,6 +4,7 @@ pub mod ChangeLemmas
 pub mod GroupLemmas
 pub mod KindLemmas
 pub mod LeaveLemmas
+pub mod LoadLemmas
 pub mod PurgeLemmas
 pub mod ReadingLemmas
 pub mod RefusalLemmas

@@ -10,6 +10,7 @@ pub mod fields;
 mod grouping;
 pub mod laws;
 mod leaving;
+mod loading;
 mod ownership;
 pub mod questions;
 mod rows;
@@ -23,6 +24,8 @@ pub use questions::Questions;
 pub use setting::Setting;
 pub use values::{kind, value};
 
+#[cfg(test)]
+mod ownership_tests;
 #[cfg(test)]
 mod store_tests;
 #[cfg(test)]

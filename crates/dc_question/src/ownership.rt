@@ -97,6 +97,12 @@ impl<'q> Questions<'q> {
         ensures setting { self.new.setting ≡ self.old.setting }
         ensures held { self.new.store.ghost_name ≡ self.old.store.ghost_name }
     {
-        Err(QuestionError::OutOfMemory)
+        let list = list.as_slice();
+        if let Some(template) = self.bound_elsewhere(list) {
+            return Err(QuestionError::Twice {
+                name: template.name().copy()?,
+            });
+        }
+        self.load(owner, list)
     }
 }

@@ -38,7 +38,7 @@ fn spec(alloc: Global) -> Option<LayerSpec>
 }
 
 // Makes the layer one that takes changes.
-fn set_up(alloc: Global, layer: &mut FileLayer) -> Option<()>
+pub(crate) fn set_up(alloc: Global, layer: &mut FileLayer) -> Option<()>
     requires { ⟦<FileLayer as Layer>⟧.state layer.now ≡ blank File }
     ensures { IsSome result → (⟦<FileLayer as Layer>⟧.state layer.exit.now).touched ≡ [] }
 {
