@@ -1,15 +1,16 @@
 //! Laws of the readings.
-ghost use Rattle.std.specs.Prelude.{◌≡◌, List, ℕ, [], Some, None, Ok, Err, true, false, length, unwrap_or, codes};
+ghost use Rattle.std.specs.Prelude.{◌≡◌, List, ℕ, [], Some, None, Ok, Err, true, false, length, unwrap_or, codes, map as each};
 ghost use Rattle.std.specs.List.{list_any};
 ghost use Rattle.std.specs.FinMap as map;
 ghost use Rattle.dc_text.specs.Maps.{AreDistinct};
 ghost use Rattle.dc_item.specs.Item.{ItemParts};
 ghost use Rattle.dc_conf.specs.Plans.{are_disjoint};
 ghost use Rattle.dc_layer.specs.State.{LayerState};
+ghost use Rattle.dc_template.specs.Stanzas.{Stanza};
 ghost use Rattle.dc_store.specs.Plans.{StoreState, look, look_below, is_owned};
 ghost use Rattle.dc_store.specs.Rows.{Write, AllDistinct, is_refused, all_done, first_held_up};
 ghost use Rattle.dc_question.specs.Changes.{row_for};
-ghost use Rattle.dc_question.specs.Ownership.{register_row, leave_row, purged};
+ghost use Rattle.dc_question.specs.Ownership.{register_row, leave_row, load_row, purged};
 ghost use Rattle.dc_question.specs.Questions.{Setting};
 ghost use Rattle.dc_question.specs.declared.errors.QuestionError.{QuestionError};
 ghost use Rattle.dc_question.specs.declared.errors.QuestionError.TheVariants.{CantChange};
@@ -29,6 +30,7 @@ pub fn types_are_in_no_language()
 pub fn writes_of_a_row_are_distinct()
     ensures register { (layers : List LayerState) (at : Setting) (template name owner : List ℕ) → are_disjoint at.config at.templates ≡ true → AllDistinct (register_row layers at template name owner) }
     ensures leave { (layers : List LayerState) (at : Setting) (owner : List ℕ) (names : List (List ℕ)) → are_disjoint at.config at.templates ≡ true → AreDistinct names → AllDistinct (leave_row layers at owner names) }
+    ensures load { (layers : List LayerState) (at : Setting) (owner : List ℕ) (templates : List Stanza) → are_disjoint at.config at.templates ≡ true → AreDistinct (each (λ t. t.name) templates) → AllDistinct (load_row layers at owner templates) }
 {}
 
 /// A row is done as a whole exactly where none of its writes is refused, and else none of it is.
