@@ -48,7 +48,7 @@ use Rattle.dc_session.proofs.DiskLaws.{breaks_reads, course_reads}
 use Rattle.dc_session.proofs.FrameLaws.{others_stay}
 use Rattle.dc_run.specs.Ends.{IsEnded, tool_end_of, end_unsaved}
 use Rattle.dc_run.specs.Finishing.{images_of, IsSaved, IsUnsaved, IsWithoutMemory, Finishes}
-use Rattle.dc_run.specs.Headline.{Uses, HasUsed, HasRunWords}
+use Rattle.dc_run.specs.Headline.{Uses, HasUsed, HasRunTool}
 use Rattle.dc_run.specs.Starting.{IsConfiguration, EndsBefore, begun, databases_of, roots}
 use Rattle.dc_run.specs.TemplateLoading.{FileTurn, IsFileTurn, IsFileCourse, state_after as file_state, EndsAt}
 use Rattle.dc_run.specs.Tools.{owner_of}
@@ -345,11 +345,15 @@ module _ (path lang : List ℕ) (old new : World) (outcome : Outcome) (before af
     finished tool.OutOfMemory specs does = none_by does.files_are
     finished (tool.FilesFault fault) specs does = none_by does.files_are
 
-  run_by : (words : List (List ℕ)) → HasRunWords words path lang old new outcome → KeepsDatabases path before after outcome.end
-  run_by words (inl refused) = nothing_done (ap (λ (stock : Stock). stock.files.told.disk) refused.untouched)
-  run_by words (inr (used, named, inl ends)) = nothing_done (before_reads path old.stock.files new.stock outcome.end ends.0)
-  run_by words (inr (used, named, inr run)) = finished used run run.answer.ended (specs_left used run) run.finishes
+  tool_by : (used : Tool) → HasRunTool used path lang old new outcome → KeepsDatabases path before after outcome.end
+  tool_by used (inl ends) = nothing_done (before_reads path old.stock.files new.stock outcome.end ends.0)
+  tool_by used (inr run) = finished used run run.answer.ended (specs_left used run) run.finishes
 
-pub run_keeps : (words : List (List ℕ)) (path lang : List ℕ) (old new : World) (outcome : Outcome) (before after : Disk) → HasRunWords words path lang old new outcome → old.stock.files.told.disk ≡ Some before
+-- a run of a tool
+pub run_keeps : (used : Tool) (path lang : List ℕ) (old new : World) (outcome : Outcome) (before after : Disk) → HasRunTool used path lang old new outcome → old.stock.files.told.disk ≡ Some before
     → new.stock.files.told.disk ≡ Some after → IsSettled before.standing → KeepsDatabases path before after outcome.end
-run_keeps words path lang old new outcome before after run at to settled = run_by path lang old new outcome before after at to settled words run
+run_keeps used path lang old new outcome before after run at to settled = tool_by path lang old new outcome before after at to settled used run
+
+-- a run that did nothing on the files
+pub nothing_kept : (path : List ℕ) (how : End) (before after : Disk) (disk : Option Disk) → disk ≡ Some before → disk ≡ Some after → IsSettled before.standing → KeepsDatabases path before after how
+nothing_kept path how before after disk at to settled = none_saved path how before after settled (same_some after before (sym to ∙ at))
