@@ -22,6 +22,7 @@ const LOADS: &str = "rconf rconfig.dat rpasswords.dat rtemplates.dat ";
 
 /// A run: its words, the files beside the configuration, the call that fails, the input, the paths that are looked at, and what is
 /// said, told, done and left.
+#[derive(Clone, Copy)]
 struct Example {
     words: &'static [&'static str],
     beside: &'static [(&'static str, &'static str)],
@@ -45,12 +46,6 @@ fn shown(alloc: Global, conf: &str, example: &Example) -> Option<Text> {
         example.input,
         example.paths,
     )
-}
-
-fn is_shown(alloc: Global, conf: &str, example: &Example) -> Option<bool> {
-    let found = shown(alloc, conf, example)?;
-    let expected = joined(alloc, example.shown)?;
-    Some(found.bytes() == expected.bytes())
 }
 
 const COMMUNICATE: &[&str] = &["communicate", "p"];
@@ -85,7 +80,7 @@ fn a_question_is_registered_where_its_kind_may_stand(rt: HostRuntime) {
             input: "REGISTER p/secret p/secret\n",
             paths: &["templates.dat"],
             shown: &[
-                "10 p/secret can't be changed\n||10 done 0 |rconf rconfig.dat rpasswords.dat! rtemplates.dat |",
+                "10 p/secret can't be changed\n||10 done 0 |rconf rconfig.dat rpasswords.dat!rtemplates.dat |",
                 OTHER_SECRET,
             ],
         },
@@ -96,7 +91,7 @@ fn a_question_is_registered_where_its_kind_may_stand(rt: HostRuntime) {
             input: "REGISTER p/secret p/secret\n",
             paths: &["templates.dat"],
             shown: &[
-                "|dckit: config.dat: read or write failed\n|123 files 0 config.dat|rconf rconfig.dat! |",
+                "|dckit: config.dat: read or write failed\n|123 files 0 config.dat|rconf rconfig.dat!|",
                 OTHER_SECRET,
             ],
         },
@@ -113,7 +108,9 @@ fn a_question_is_registered_where_its_kind_may_stand(rt: HostRuntime) {
             ],
         },
     ] {
-        assert_eq!(rt; is_shown(rt.alloc(), DEBIAN, &example), Some(true));
+        let found = shown(rt.alloc(), DEBIAN, &example).expect(&rt, "ample memory");
+        let expected = joined(rt.alloc(), example.shown).expect(&rt, "ample memory");
+        assert_eq!(rt; found.bytes(), expected.bytes());
     }
 }
 
@@ -180,7 +177,9 @@ fn owners_leave_questions_of_a_stack(rt: HostRuntime) {
             ],
         },
     ] {
-        assert_eq!(rt; is_shown(rt.alloc(), conf, &example), Some(true));
+        let found = shown(rt.alloc(), conf, &example).expect(&rt, "ample memory");
+        let expected = joined(rt.alloc(), example.shown).expect(&rt, "ample memory");
+        assert_eq!(rt; found.bytes(), expected.bytes());
     }
 }
 
@@ -233,10 +232,12 @@ fn a_question_goes_with_its_last_owner(rt: HostRuntime) {
             failing: &[3],
             input: "X_LOADTEMPLATEFILE none\n",
             paths: &[],
-            shown: &["100 read fault\n||100 done 0 |rconf rq.dat rt.dat rnone! "],
+            shown: &["100 read fault\n||100 done 0 |rconf rq.dat rt.dat rnone!"],
         },
     ] {
-        assert_eq!(rt; is_shown(rt.alloc(), CONF, &example), Some(true));
+        let found = shown(rt.alloc(), CONF, &example).expect(&rt, "ample memory");
+        let expected = joined(rt.alloc(), example.shown).expect(&rt, "ample memory");
+        assert_eq!(rt; found.bytes(), expected.bytes());
     }
 }
 
@@ -303,7 +304,7 @@ fn template_files_are_loaded(rt: HostRuntime) {
             shown: &[
                 "|dckit: x.templates: read or write failed\n|123 files 0 x.templates|",
                 LOADS,
-                "rx.templates! |",
+                "rx.templates!|",
                 SECRET,
             ],
         },
@@ -324,7 +325,9 @@ fn template_files_are_loaded(rt: HostRuntime) {
             shown: &["|dckit: usage, word 1\n|120 usage 1 |"],
         },
     ] {
-        assert_eq!(rt; is_shown(rt.alloc(), DEBIAN, &example), Some(true));
+        let found = shown(rt.alloc(), DEBIAN, &example).expect(&rt, "ample memory");
+        let expected = joined(rt.alloc(), example.shown).expect(&rt, "ample memory");
+        assert_eq!(rt; found.bytes(), expected.bytes());
     }
 }
 
