@@ -128,8 +128,8 @@ module _ (start : SessionState) where
           ends = subst (λ (s : SessionState). EndsAt later.ended (state_after s turns) more.loads.rest left) gone.left_is more.loads.ends;
           said_is = (λ i. told_line (refusal_of start (sym gone.path_is i) turn.found) ++ (more.loads.said_is ∙ ap (λ (s : SessionState). lines_of s turns) gone.left_is) i);
           status_is =
-            ap status_by joins ∙ joined refused later.refused (refuses turn.new turns) (more.loads.status_is ∙ ap (λ (s : SessionState). cond (refuses s turns) 1 0) gone.left_is)
-            ∙ ap (λ (r : Bool). cond (r || refuses turn.new turns) 1 0) (gone.refused_is ∙ ap (λ (p : List ℕ). is_some (refusal_of start p turn.found)) (sym gone.path_is));
+              ap status_by joins ∙ joined refused later.refused (refuses turn.new turns) (more.loads.status_is ∙ ap (λ (s : SessionState). cond (refuses s turns) 1 0) gone.left_is)
+              ∙ ap (λ (r : Bool). cond (r || refuses turn.new turns) 1 0) (gone.refused_is ∙ ap (λ (p : List ℕ). is_some (refusal_of start p turn.found)) (sym gone.path_is));
         };
         telling = said_then (told_line (refusal_of start path turn.found)) more.said old.talk mid.talk new.talk old.counts mid.counts new.counts gone.said more.telling;
       }

@@ -163,7 +163,7 @@ module _ (words : List (List ℕ)) (path lang : List ℕ) (old new : World) (out
     named.0,
     named.1,
     ended_before named.0 path lang old new outcome end.OutOfMemory
-    (inl (record { end_is = refl; begun = inl (record { files_are = ap (λ (s : Stock). s.files.told) untouched; counts = inl (ap (λ (s : Stock). s.files.counts) untouched) }) })) same said is,
+        (inl (record { end_is = refl; begun = inl (record { files_are = ap (λ (s : Stock). s.files.told) untouched; counts = inl (ap (λ (s : Stock). s.files.counts) untouched) }) })) same said is,
   )
 
 pub counted_words : (how : End) (status : ℕ) (outcome : Outcome) (before now : Counts) → outcome ≡ record { status = status; end = how; last_code = 0 } → LinkCounts how before now → LinkCounts outcome.end before now
