@@ -1,12 +1,11 @@
 -- What the files that a tool loads come to, one after another.
-use Rattle.std.proofs.Common.{◌≡◌, ◌≢◌, ◌≤◌, ◌<◌, ◌-◌, ℕ, Bool, true, false, cond, List, [], ◌∷◌, ◌++◌, length, take, drop, get_or, Option, Some, None, refl, sym, ap, subst, ◌∙◌, arith, inl, inr, Result, Ok, Err}
+use Rattle.std.proofs.Common.{◌≡◌, ◌≢◌, ◌≤◌, ◌<◌, ◌-◌, ℕ, Bool, true, false, cond, List, [], ◌∷◌, ◌++◌, length, take, drop, get_or, Option, refl, sym, ap, subst, ◌∙◌, arith, Result, Ok, Err}
 use Rattle.std.specs.Prelude.{◌||◌, is_some}
-use Rattle.dc_outside.specs.Told.{Counts}
 use Rattle.dc_store.specs.Plans.{StoreState}
 use Rattle.dc_question.specs.Ownership.{loaded}
 use Rattle.dc_question.specs.declared.errors.QuestionError.{QuestionError}
 use Rattle.dc_session.specs.FileLoading.{LoadsFile, file_end, end_by}
-use Rattle.dc_session.specs.SessionState.{FilesState, SessionState}
+use Rattle.dc_session.specs.SessionState.{SessionState}
 use Rattle.dc_session.specs.TemplateFiles.{Finds}
 use Rattle.dc_session.specs.declared.template_files.Found.{Found}
 use Rattle.dc_session.specs.declared.template_files.Found.TheVariants.{Unreadable, Missing, Faulty, Templates}
@@ -14,7 +13,7 @@ use Rattle.dc_session.specs.declared.template_loading.FileEnd.{FileEnd}
 use Rattle.dc_session.specs.declared.template_loading.FileEnd.TheVariants as file
 use Rattle.dc_run.specs.EndLines.{HasSaidOn}
 use Rattle.dc_run.specs.Inside.{end_text, is_unread, told_line, GoesThrough, LoadsOne, LoadsFiles, status_by}
-use Rattle.dc_run.specs.TemplateLoading.{refused_by, refusal_of, FileTurn, IsFileCourse, state_after, lines_of, refuses, EndsAt, HasLoadedFiles}
+use Rattle.dc_run.specs.TemplateLoading.{refused_by, refusal_of, FileTurn, IsFileCourse, state_after, lines_of, refuses, EndsAt}
 use Rattle.dc_run.specs.World.{LinkState}
 use Rattle.dc_run.specs.declared.loading_templates.FilesLoaded.{FilesLoaded}
 use Rattle.dc_run.specs.declared.outcome.ToolEnd.{ToolEnd}
@@ -133,3 +132,22 @@ module _ (start : SessionState) where
         };
         telling = said_then (told_line (refusal_of start path turn.found)) more.said old.talk mid.talk new.talk old.counts mid.counts new.counts gone.said more.telling;
       }
+
+-- ---- the files so far, and those that are left
+
+or_false : (a : Bool) → (a || false) ≡ a
+or_false true = refl
+or_false false = refl
+
+or_grouped : (a b c : Bool) → (a || (b || c)) ≡ ((a || b) || c)
+or_grouped true b c = refl
+or_grouped false b c = refl
+
+pub no_more : (start : SessionState) (paths : List (List ℕ)) (old new : LinkState) (ended : ToolEnd) (refused : Bool) (left : SessionState)
+    → LoadsFiles start paths old new (record { ended = ended; refused = refused || false }) left → LoadsFiles start paths old new (record { ended = ended; refused = refused }) left
+no_more start paths old new ended refused left loads = subst (λ (r : Bool). LoadsFiles start paths old new (record { ended = ended; refused = r }) left) (or_false refused) loads
+
+pub one_joined : (start : SessionState) (paths : List (List ℕ)) (old new : LinkState) (ended : ToolEnd) (before one later either : Bool) (left : SessionState) → either ≡ (before || one)
+    → LoadsFiles start paths old new (record { ended = ended; refused = before || (one || later) }) left → LoadsFiles start paths old new (record { ended = ended; refused = either || later }) left
+one_joined start paths old new ended before one later either left is loads =
+    subst (λ (r : Bool). LoadsFiles start paths old new (record { ended = ended; refused = r }) left) (or_grouped before one later ∙ ap (λ (r : Bool). r || later) (sym is)) loads

@@ -1,6 +1,5 @@
 -- The counts of the link by the end of a run, and what a run of a tool comes to.
-use Rattle.std.proofs.Common.{◌≡◌, ◌⊎◌, inl, inr, ℕ, List, [], ◌++◌, refl, sym, subst, ap, ◌∙◌}
-use Rattle.dc_outside.specs.Counts.{FaultRose, RefusalRose}
+use Rattle.std.proofs.Common.{◌≡◌, inl, inr, ℕ, List, [], refl, sym, subst, ap, ◌∙◌}
 use Rattle.dc_outside.specs.Told.{Counts}
 use Rattle.dc_conf.specs.declared.faults.ConfError.{ConfError}
 use Rattle.dc_conf.specs.declared.faults.ConfError.TheVariants as conf

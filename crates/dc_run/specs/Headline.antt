@@ -6,7 +6,6 @@ use Rattle.dc_layer.specs.State.{LayerState}
 use Rattle.dc_serve.specs.declared.outcome.LinkEnd.{LinkEnd}
 use Rattle.dc_session.specs.Serving.{IsServed}
 use Rattle.dc_session.specs.SessionState.{FilesState, SessionState}
-use Rattle.dc_run.specs.declared.outcome.End.{End}
 use Rattle.dc_run.specs.declared.outcome.End.TheVariants as end
 use Rattle.dc_run.specs.declared.outcome.Outcome.{Outcome}
 use Rattle.dc_run.specs.declared.outcome.ToolAnswer.{ToolAnswer}

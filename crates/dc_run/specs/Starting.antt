@@ -9,7 +9,6 @@ use Rattle.dc_outside.specs.declared.files.FilesOp.TheVariants.{Read}
 use Rattle.dc_conf.specs.Configuration.{Configuration, IsAnswer, reached, plan_of}
 use Rattle.dc_conf.specs.declared.faults.ConfError.{ConfError}
 use Rattle.dc_conf.specs.declared.spec.LayerSpec.{LayerSpec}
-use Rattle.dc_layer.specs.State.{LayerState}
 use Rattle.dc_save.specs.Loading.{IsTextAt}
 use Rattle.dc_save.specs.declared.loading.LoadError.{LoadError}
 use Rattle.dc_session.specs.SessionState.{FilesState, SessionState}

@@ -1,5 +1,5 @@
 -- What a run finds and leaves.
-use Rattle.std.specs.Prelude.{◌≡◌, ℕ, List, Option}
+use Rattle.std.specs.Prelude.{ℕ, List, Option}
 use Rattle.dc_outside.specs.declared.link.Piece.{Piece}
 use Rattle.dc_outside.specs.Told.{Counts}
 use Rattle.dc_layer.specs.State.{LayerState}

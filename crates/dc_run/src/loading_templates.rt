@@ -1,5 +1,5 @@
 // Template files loaded one after another.
-ghost use Rattle.std.specs.Prelude.{◌≡◌, [], is_some, length, map as each, true};
+ghost use Rattle.std.specs.Prelude.{◌≡◌, ◌||◌, [], is_some, length, map as each, true};
 ghost use Rattle.dc_conf.specs.Plans.{IsOver, are_disjoint};
 ghost use Rattle.dc_store.specs.Plans.{stored};
 ghost use Rattle.dc_run.specs.Inside.{end_text, is_unread, status_by, LoadsOne, LoadsFiles, HasLoadedOver};
@@ -133,25 +133,25 @@ fn load_files<S: TakesTemplates, E: Link>(
         result (S.state_at session.new) }
     ensures kept { S.kept session.new ≡ S.kept session.old }
 {
-    match paths {
-        [] => FilesLoaded {
-            ended: ToolEnd::Done,
-            refused: false,
-        },
-        [path, rest @ ..] => match load_one(session, err, path) {
-            Err(ended) => FilesLoaded {
-                ended,
-                refused: false,
-            },
-            Ok(refused) => {
-                let later = load_files(session, err, rest);
-                FilesLoaded {
-                    ended: later.ended,
-                    refused: refused || later.refused,
-                }
-            }
-        },
+    let mut refused = false;
+    let mut rest = paths;
+    while let [path, later @ ..] = rest {
+        match load_one(session, err, path) {
+            Err(ended) => return FilesLoaded { ended, refused },
+            Ok(is_refused) => refused = either(refused, is_refused),
+        }
+        rest = later;
     }
+    FilesLoaded {
+        ended: ToolEnd::Done,
+        refused,
+    }
+}
+
+fn either(one: bool, other: bool) -> bool
+    ensures { result ≡ (one || other) }
+{
+    one || other
 }
 
 // Loads one file, and tells whether it was refused, or ends the tool.
