@@ -8,7 +8,7 @@ use dc_run::{Outcome, Shelf, run_words};
 use dc_text::{Name, Text};
 use std::alloc::Global;
 
-const TEMPLATES: &str =
+pub const TEMPLATES: &str =
     "Name: a/b\nType: string\nOwners: a/b\n\nName: p/secret\nType: password\nOwners: p/secret\n\n";
 
 /// A stack of a read-only database, one that takes writes, and a read-only one.
@@ -19,11 +19,11 @@ const STACK: [&str; 3] = [
 ];
 
 /// The configuration that Debian ships, with files of this folder.
-const DEBIAN: &str =
+pub const DEBIAN: &str =
     "Config: configdb\nTemplates: templatedb\n\nName: config\nDriver: File\nMode: 644\nReject-Type: password\nFilename: config.dat\n\nName: passwords\nDriver: File\nMode: 600\nBackup: false\nRequired: false\nAccept-Type: password\nFilename: passwords.dat\n\nName: configdb\nDriver: Stack\nStack: config, passwords\n\nName: templatedb\nDriver: File\nMode: 644\nFilename: templates.dat\n";
 
 /// The stack, with a line more for the database that takes writes.
-fn stack(alloc: Global, line: &str) -> Option<Text> {
+pub fn stack(alloc: Global, line: &str) -> Option<Text> {
     let mut conf = Text::new(alloc);
     for part in [STACK[0], line, STACK[1], STACK[2]] {
         conf.append(part.as_bytes()).ok()?;
@@ -31,7 +31,7 @@ fn stack(alloc: Global, line: &str) -> Option<Text> {
     Some(conf)
 }
 
-fn as_text(conf: &Text) -> Option<&str> {
+pub fn as_text(conf: &Text) -> Option<&str> {
     std::str::from_utf8(conf.bytes()).ok()
 }
 
@@ -70,8 +70,8 @@ fn stacked(
     done(alloc, as_text(&conf)?, beside, input, paths)
 }
 
-// Texts one after another.
-fn joined(alloc: Global, parts: &[&str]) -> Option<Text> {
+/// Texts one after another.
+pub fn joined(alloc: Global, parts: &[&str]) -> Option<Text> {
     let mut all = Text::new(alloc);
     for part in parts {
         all.append(part.as_bytes()).ok()?;

@@ -7,6 +7,8 @@ mod configured;
 #[cfg(test)]
 mod crashing;
 #[cfg(test)]
+mod owning;
+#[cfg(test)]
 mod saving;
 #[cfg(test)]
 mod serving;

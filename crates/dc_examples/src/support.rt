@@ -117,6 +117,33 @@ pub fn run(
     Some(run_words(alloc, &words, &settings, io, &mut err, files, &mut shelf))
 }
 
+/// What a run over these files says on the link, on standard error, its end, the calls of the files, and what then stands at
+/// the paths, with a bar between.
+pub fn shown_run(
+    alloc: Global,
+    list: &[&str],
+    files: &mut MemFiles,
+    input: &str,
+    paths: &[&str],
+) -> Option<Text> {
+    let words = make_words(alloc, list)?;
+    let settings = settings(alloc, "")?;
+    let mut io = MemLink::new(alloc, input.as_bytes(), &[], &[]).ok()?;
+    let mut err = MemLink::new(alloc, b"", &[], &[]).ok()?;
+    let mut shelf = blank_shelf(alloc)?;
+    let outcome = run_words(
+        alloc, &words, &settings, &mut io, &mut err, files, &mut shelf,
+    );
+    let mut shown = io.sent().copy().ok()?;
+    append_barred(&mut shown, err.sent().bytes())?;
+    append_barred(&mut shown, shown_end(alloc, &outcome)?.bytes())?;
+    append_barred(&mut shown, called(alloc, files)?.bytes())?;
+    for path in paths {
+        append_barred(&mut shown, text_at(alloc, files, path.as_bytes())?.bytes())?;
+    }
+    Some(shown)
+}
+
 fn place_of(at: &PatternAt) -> u64 {
     match at {
         PatternAt::Database(place) | PatternAt::Word(place) => *place as u64,
