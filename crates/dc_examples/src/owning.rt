@@ -1,6 +1,6 @@
 // Who owns questions and templates: registering, unregistering, purging, and loading templates.
 use crate::configured::{DEBIAN, TEMPLATES, as_text, joined, stack};
-use crate::support::{OLD, files_of, shown_run};
+use crate::support::{CONF, OLD, files_of, shown_run};
 use dc_text::Text;
 use std::alloc::Global;
 
@@ -178,6 +178,64 @@ fn owners_leave_questions_of_a_stack(rt: HostRuntime) {
         },
     ] {
         let found = shown(rt.alloc(), conf, &example).expect(&rt, "ample memory");
+        let expected = joined(rt.alloc(), example.shown).expect(&rt, "ample memory");
+        assert_eq!(rt; found.bytes(), expected.bytes());
+    }
+}
+
+const BOTH_OWN: &str = "Name: a/b\nTemplate: a/b\nOwners: p, q\n\n";
+
+const ONE_TEMPLATE: &str = "Name: a/b\nType: string\nOwners: a/b\n\n";
+
+#[test]
+fn a_question_goes_with_its_last_owner(rt: HostRuntime) {
+    for example in [
+        Example {
+            words: COMMUNICATE,
+            beside: &[("q.dat", BOTH_OWN), ("t.dat", ONE_TEMPLATE)],
+            failing: &[],
+            input: "UNREGISTER a/b\nGET a/b\nUNREGISTER a/b\n",
+            paths: &["q.dat"],
+            shown: &[
+                "0\n0\n0\n||0 done 0 |rconf rq.dat rt.dat wq.dat-old sq.dat-old wq.dat-new sq.dat-new mq.dat n |Name: a/b\nTemplate: a/b\nOwners: q\n\n",
+            ],
+        },
+        Example {
+            words: &["communicate", "q"],
+            beside: &[
+                ("q.dat", "Name: a/b\nTemplate: a/b\nOwners: q\n\n"),
+                ("t.dat", ONE_TEMPLATE),
+            ],
+            failing: &[],
+            input: "UNREGISTER a/b\nGET a/b\nREGISTER a/b a/b\n",
+            paths: &["q.dat", "t.dat"],
+            shown: &[
+                "0\n10 a/b doesn't exist\n10 no template for a/b\n||10 done 0 |rconf rq.dat rt.dat wq.dat-old sq.dat-old wq.dat-new sq.dat-new mq.dat n wt.dat-old st.dat-old wt.dat-new st.dat-new mt.dat n ||",
+            ],
+        },
+        Example {
+            words: COMMUNICATE,
+            beside: &[("x", X_TEMPLATES), ("y", "Template: y/a\nType: colour\n")],
+            failing: &[],
+            input: "X_LOADTEMPLATEFILE none\nX_LOADTEMPLATEFILE y\nX_LOADTEMPLATEFILE x x\nX_LOADTEMPLATEFILE x x\nX_LOADTEMPLATEFILE x p,q\nGET x/name\nPURGE\nGET x/name\n",
+            paths: &["q.dat", "t.dat"],
+            shown: &[
+                "10 no such template file\n10 bad template file, line 2\n0\n0\n20 bad name\n0 Bob\n0\n0 Bob\n||0 done 0 |rconf rq.dat rt.dat rnone ry rx rx wq.dat-new sq.dat-new mq.dat n wt.dat-new st.dat-new mt.dat n |",
+                LOADED[1],
+                "|",
+                LOADED[0],
+            ],
+        },
+        Example {
+            words: COMMUNICATE,
+            beside: &[],
+            failing: &[3],
+            input: "X_LOADTEMPLATEFILE none\n",
+            paths: &[],
+            shown: &["100 read fault\n||100 done 0 |rconf rq.dat rt.dat rnone!"],
+        },
+    ] {
+        let found = shown(rt.alloc(), CONF, &example).expect(&rt, "ample memory");
         let expected = joined(rt.alloc(), example.shown).expect(&rt, "ample memory");
         assert_eq!(rt; found.bytes(), expected.bytes());
     }
