@@ -330,3 +330,48 @@ fn template_files_are_loaded(rt: HostRuntime) {
         assert_eq!(rt; found.bytes(), expected.bytes());
     }
 }
+
+const SHARED: &str = "Name: a/t\nType: string\nOwners: a/kept\n\n";
+
+// A line a question, with its number in the place of the bar.
+fn numbered(alloc: Global, line: &str) -> Option<Text> {
+    let mut lines = Text::new(alloc);
+    for number in 0..100u8 {
+        let line = format!(in alloc; "{line}{number}\n").ok()?;
+        lines.append(line.as_bytes()).ok()?;
+    }
+    Some(lines)
+}
+
+// What is said where a hundred questions of one template are registered and purged, and the template that is left.
+fn purged(alloc: Global) -> Option<Text> {
+    let mut input = numbered(alloc, "REGISTER a/t a/q")?;
+    input.append(b"PURGE\nGET a/q7\n").ok()?;
+    let beside = [("t.dat", SHARED.as_bytes())];
+    let mut files = files_of(alloc, CONF, &beside, &[])?;
+    shown_run(
+        alloc,
+        COMMUNICATE,
+        &mut files,
+        as_text(&input)?,
+        &["q.dat", "t.dat"],
+    )
+}
+
+#[test]
+fn a_hundred_questions_are_purged(rt: HostRuntime) {
+    let found = purged(rt.alloc()).expect(&rt, "ample memory");
+    let end = joined(
+        rt.alloc(),
+        &[
+            "\n0\n10 a/q7 doesn't exist\n||10 done 0 |rconf rq.dat rt.dat wq.dat-new sq.dat-new mq.dat n wt.dat-old st.dat-old wt.dat-new st.dat-new mt.dat n ||",
+            SHARED,
+        ],
+    )
+    .expect(&rt, "ample memory");
+    assert_eq!(rt; found.bytes().ends_with(end.bytes()), true);
+    assert_eq!(rt;
+        found.bytes().iter().filter(|byte| **byte == b'0').count() >= 101,
+        true
+    );
+}
