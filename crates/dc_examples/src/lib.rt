@@ -3,15 +3,21 @@
 #![tactic(auto)]
 
 #[cfg(test)]
+mod asking;
+#[cfg(test)]
 mod configured;
 #[cfg(test)]
 mod crashing;
+#[cfg(test)]
+mod escaping;
 #[cfg(test)]
 mod owning;
 #[cfg(test)]
 mod saving;
 #[cfg(test)]
 mod serving;
+#[cfg(test)]
+mod sessions;
 #[cfg(test)]
 mod support;
 #[cfg(test)]

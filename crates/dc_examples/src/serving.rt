@@ -26,8 +26,8 @@ fn questions_and_flags_are_answered(rt: HostRuntime) {
             "20 wrong number of arguments\n20 wrong number of arguments\n20 wrong number of arguments\n10 a//b doesn't exist\n10 done 0 ",
         ),
         (
-            "STOP\nINPUT high a/b\nGET a/b\n",
-            "20 unsupported command\n20 unsupported command\n0 x\\ny\n0 done 0 ",
+            "INPUT high a/b\nGET a/b\nSTOP\nGET a/b\n",
+            "10 no template for a/b\n0 x\\ny\n0 done 0 ",
         ),
         ("\0\n", "20 unsupported command\n20 done 0 "),
     ] {

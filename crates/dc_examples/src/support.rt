@@ -138,10 +138,21 @@ pub fn shown_run(
     append_barred(&mut shown, err.sent().bytes())?;
     append_barred(&mut shown, shown_end(alloc, &outcome)?.bytes())?;
     append_barred(&mut shown, called(alloc, files)?.bytes())?;
-    for path in paths {
-        append_barred(&mut shown, text_at(alloc, files, path.as_bytes())?.bytes())?;
-    }
+    append_texts(alloc, &mut shown, files, paths)?;
     Some(shown)
+}
+
+/// What stands at the paths, with a bar before each.
+pub fn append_texts(
+    alloc: Global,
+    shown: &mut Text,
+    files: &mut MemFiles,
+    paths: &[&str],
+) -> Option<()> {
+    for path in paths {
+        append_barred(shown, text_at(alloc, files, path.as_bytes())?.bytes())?;
+    }
+    Some(())
 }
 
 fn place_of(at: &PatternAt) -> u64 {

@@ -1,6 +1,7 @@
 -- Commands with a wrong number of arguments.
 use Rattle.std.proofs.Common.{◌≡◌, ◌≤◌, ◌<◌, ℕ, List, [], ◌∷◌, length, refl, arith}
-use Rattle.dc_proto.specs.Commands.{get, reset, subst, fget, fset, metaget, register, unregister, purge, load_template_file}
+use Rattle.dc_proto.specs.Commands.{get, reset, subst, fget, fset, metaget, register, unregister, load_template_file, alone, version, set_title, input, progress_start, progress_set, progress_step, progress_info}
+use Rattle.dc_proto.specs.declared.command.Command.{Command}
 use Rattle.dc_proto.specs.Replies.{wrong_number}
 use Rattle.dc_proto.specs.declared.command.Heard.TheVariants.{Refused}
 
@@ -75,12 +76,66 @@ unregister_long [] long = absurd (omega arith)
 unregister_long (question ∷ []) long = absurd (omega arith)
 unregister_long (question ∷ more ∷ arguments) long = refl
 
-pub purge_long : (arguments : List (List ℕ)) → 1 ≤ length arguments → purge arguments ≡ Refused wrong_number
-purge_long [] long = absurd (omega arith)
-purge_long (more ∷ arguments) long = refl
+pub alone_long : (command : Command) (arguments : List (List ℕ)) → 1 ≤ length arguments → alone command arguments ≡ Refused wrong_number
+alone_long command [] long = absurd (omega arith)
+alone_long command (more ∷ arguments) long = refl
 
 pub load_long : (arguments : List (List ℕ)) → 3 ≤ length arguments → load_template_file arguments ≡ Refused wrong_number
 load_long [] long = absurd (omega arith)
 load_long (path ∷ []) long = absurd (omega arith)
 load_long (path ∷ owner ∷ []) long = absurd (omega arith)
 load_long (path ∷ owner ∷ more ∷ arguments) long = refl
+
+pub version_long : (arguments : List (List ℕ)) → 2 ≤ length arguments → version arguments ≡ Refused wrong_number
+version_long [] long = absurd (omega arith)
+version_long (number ∷ []) long = absurd (omega arith)
+version_long (number ∷ more ∷ arguments) long = refl
+
+pub set_title_long : (arguments : List (List ℕ)) → 2 ≤ length arguments → set_title arguments ≡ Refused wrong_number
+set_title_long [] long = absurd (omega arith)
+set_title_long (question ∷ []) long = absurd (omega arith)
+set_title_long (question ∷ more ∷ arguments) long = refl
+
+pub input_one : (arguments : List (List ℕ)) → 1 ≤ length arguments → length arguments < 2 → input arguments ≡ Refused wrong_number
+input_one [] least below = absurd (omega arith)
+input_one (priority ∷ []) least below = refl
+input_one (priority ∷ more ∷ arguments) least below = absurd (omega arith)
+
+pub input_long : (arguments : List (List ℕ)) → 3 ≤ length arguments → input arguments ≡ Refused wrong_number
+input_long [] long = absurd (omega arith)
+input_long (priority ∷ []) long = absurd (omega arith)
+input_long (priority ∷ question ∷ []) long = absurd (omega arith)
+input_long (priority ∷ question ∷ more ∷ arguments) long = refl
+
+pub progress_start_one : (arguments : List (List ℕ)) → 1 ≤ length arguments → length arguments < 2 → progress_start arguments ≡ Refused wrong_number
+progress_start_one [] least below = absurd (omega arith)
+progress_start_one (min ∷ []) least below = refl
+progress_start_one (min ∷ more ∷ arguments) least below = absurd (omega arith)
+
+pub progress_start_two : (arguments : List (List ℕ)) → 2 ≤ length arguments → length arguments < 3 → progress_start arguments ≡ Refused wrong_number
+progress_start_two [] least below = absurd (omega arith)
+progress_start_two (min ∷ []) least below = absurd (omega arith)
+progress_start_two (min ∷ max ∷ []) least below = refl
+progress_start_two (min ∷ max ∷ more ∷ arguments) least below = absurd (omega arith)
+
+pub progress_start_long : (arguments : List (List ℕ)) → 4 ≤ length arguments → progress_start arguments ≡ Refused wrong_number
+progress_start_long [] long = absurd (omega arith)
+progress_start_long (min ∷ []) long = absurd (omega arith)
+progress_start_long (min ∷ max ∷ []) long = absurd (omega arith)
+progress_start_long (min ∷ max ∷ question ∷ []) long = absurd (omega arith)
+progress_start_long (min ∷ max ∷ question ∷ more ∷ arguments) long = refl
+
+pub progress_set_long : (arguments : List (List ℕ)) → 2 ≤ length arguments → progress_set arguments ≡ Refused wrong_number
+progress_set_long [] long = absurd (omega arith)
+progress_set_long (number ∷ []) long = absurd (omega arith)
+progress_set_long (number ∷ more ∷ arguments) long = refl
+
+pub progress_step_long : (arguments : List (List ℕ)) → 2 ≤ length arguments → progress_step arguments ≡ Refused wrong_number
+progress_step_long [] long = absurd (omega arith)
+progress_step_long (number ∷ []) long = absurd (omega arith)
+progress_step_long (number ∷ more ∷ arguments) long = refl
+
+pub progress_info_long : (arguments : List (List ℕ)) → 2 ≤ length arguments → progress_info arguments ≡ Refused wrong_number
+progress_info_long [] long = absurd (omega arith)
+progress_info_long (question ∷ []) long = absurd (omega arith)
+progress_info_long (question ∷ more ∷ arguments) long = refl

@@ -12,3 +12,10 @@ priority_of word =
     else if bytes_eq word (codes "high") then Some High
     else if bytes_eq word (codes "critical") then Some Critical
     else None
+
+-- how much a priority matters, from the least on
+abbrev pub rank : Priority → ℕ
+rank Low = 0
+rank Medium = 1
+rank High = 2
+rank Critical = 3

@@ -22,6 +22,12 @@ wrong_number = reply 20 (codes "wrong number of arguments")
 abbrev pub bad_name : Reply
 bad_name = reply 20 (codes "bad name")
 
+abbrev pub bad_priority : Reply
+bad_priority = reply 20 (codes "bad priority")
+
+abbrev pub bad_number : Reply
+bad_number = reply 20 (codes "bad number")
+
 -- ---- how a reply is sent
 
 -- the text in one line: in escape mode escaped, and in plain mode with each newline as the pair of a backslash and an n

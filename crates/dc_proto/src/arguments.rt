@@ -1,8 +1,8 @@
-// What the arguments of each command say.
+// What the arguments of each command on questions say.
 ghost use Rattle.std.specs.Prelude.{◌≡◌, ◌∷◌, ◌++◌, IfOk, OnOk};
 ghost use Rattle.std.specs.List.{flat_map};
 ghost use Rattle.dc_text.specs.Ascii.{space};
-ghost use Rattle.dc_proto.specs.Commands.{get, set, reset, subst, fget, fset, metaget, register, unregister, purge, load_template_file, joined_value};
+ghost use Rattle.dc_proto.specs.Commands.{get, set, reset, subst, fget, fset, metaget, register, unregister, load_template_file, joined_value};
 ghost use Rattle.dc_proto.specs.Replies.{reply as reply_of};
 
 use crate::command::{Command, Heard};
@@ -10,7 +10,8 @@ use crate::reply::Reply;
 use dc_text::{FlagName, Mem, Name, NameRefused, OutOfMemory, Text, VarKey};
 use std::alloc::Global;
 
-const WRONG_NUMBER: &[u8] = b"wrong number of arguments";
+/// What a wrong number of arguments is refused with.
+pub const WRONG_NUMBER: &[u8] = b"wrong number of arguments";
 
 const BAD_NAME: &[u8] = b"bad name";
 
@@ -160,16 +161,6 @@ pub fn read_unregister(alloc: Global, arguments: &[Text]) -> Mem<Heard>
     }
 }
 
-/// PURGE
-pub fn read_purge(alloc: Global, arguments: &[Text]) -> Mem<Heard>
-    ensures { IfOk result (λ said. said ≡ purge arguments.now) }
-{
-    match arguments {
-        [] => Ok(Heard::Known(Command::Purge)),
-        [_, ..] => refuse(alloc, WRONG_NUMBER),
-    }
-}
-
 /// X_LOADTEMPLATEFILE path [owner]
 pub fn read_load_template_file(alloc: Global, arguments: &[Text]) -> Mem<Heard>
     ensures { IfOk result (λ said. said ≡ load_template_file arguments.now) }
@@ -192,8 +183,8 @@ pub fn read_load_template_file(alloc: Global, arguments: &[Text]) -> Mem<Heard>
     }
 }
 
-// The words joined by one space.
-fn join(alloc: Global, words: &[Text]) -> Mem<Text>
+/// The words joined by one space.
+pub fn join(alloc: Global, words: &[Text]) -> Mem<Text>
     ensures { IfOk result (λ value. value ≡ joined_value words.now) }
 {
     let mut value = Text::new(alloc);

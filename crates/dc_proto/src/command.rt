@@ -1,13 +1,18 @@
 // Command lines.
-ghost use Rattle.std.specs.Prelude.{◌≡◌, IfOk, map};
+ghost use Rattle.std.specs.Prelude.{◌≡◌, IfOk, map, drop};
 ghost use Rattle.dc_text.specs.Bytes.{lower};
 ghost use Rattle.dc_proto.specs.Commands.{heard, commands, read_by, words_of, is_comment as is_comment_of};
 
 use crate::arguments::{
-    read_fget, read_fset, read_get, read_load_template_file, read_metaget, read_purge,
-    read_register, read_reset, read_set, read_subst, read_unregister, refuse,
+    read_fget, read_fset, read_get, read_load_template_file, read_metaget, read_register,
+    read_reset, read_set, read_subst, read_unregister, refuse,
 };
+use crate::priority::Priority;
+use crate::progress_arguments::read_progress;
 use crate::reply::Reply;
+use crate::session_arguments::{
+    read_alone, read_capb, read_input, read_set_title, read_title, read_version,
+};
 use dc_text::bytes::lowered;
 use dc_text::{FlagName, List, Mem, Name, Text, VarKey};
 use dc_words::{plain_words, unescape_words};
@@ -16,6 +21,20 @@ use std::alloc::Global;
 /// A command (debconf-devel(7)). The word of a question need not be a name: one that isn't names no question.
 #[derive(Drop)]
 pub enum Command {
+    /// Without a version, the protocol's own is asked for.
+    Version(Option<Text>),
+    Capb(List<Text>),
+    SetTitle(Text),
+    Title(Text),
+    Input {
+        priority: Priority,
+        question: Text,
+    },
+    BeginBlock,
+    EndBlock,
+    Go,
+    Clear,
+    Stop,
     Get(Text),
     Set {
         question: Text,
@@ -48,6 +67,16 @@ pub enum Command {
     },
     Unregister(Text),
     Purge,
+    /// A bar from `min` to `max`, which isn't below it.
+    ProgressStart {
+        min: u32,
+        max: u32,
+        question: Text,
+    },
+    ProgressSet(u32),
+    ProgressStep(u32),
+    ProgressInfo(Text),
+    ProgressStop,
     /// Without an owner the session's is meant.
     LoadTemplateFile {
         path: Text,
@@ -103,7 +132,42 @@ fn read_words(alloc: Global, word: &Text, arguments: &[Text]) -> Mem<Heard>
     ensures { IfOk result (λ said. said ≡ read_by commands (map lower word.now) arguments.now) }
 {
     let word = lowered(alloc, word.bytes())?;
-    let word = word.bytes();
+    read_session_words(alloc, word.bytes(), arguments)
+}
+
+// The commands on the session, and behind them those on questions.
+fn read_session_words(alloc: Global, word: &[u8], arguments: &[Text]) -> Mem<Heard>
+    ensures { IfOk result (λ said. said ≡ read_by commands word.now arguments.now) }
+{
+    if word == b"version".as_slice() {
+        read_version(alloc, arguments)
+    } else if word == b"capb".as_slice() {
+        read_capb(alloc, arguments)
+    } else if word == b"settitle".as_slice() {
+        read_set_title(alloc, arguments)
+    } else if word == b"title".as_slice() {
+        read_title(alloc, arguments)
+    } else if word == b"input".as_slice() {
+        read_input(alloc, arguments)
+    } else if word == b"beginblock".as_slice() {
+        read_alone(alloc, Command::BeginBlock, arguments)
+    } else if word == b"endblock".as_slice() {
+        read_alone(alloc, Command::EndBlock, arguments)
+    } else if word == b"go".as_slice() {
+        read_alone(alloc, Command::Go, arguments)
+    } else if word == b"clear".as_slice() {
+        read_alone(alloc, Command::Clear, arguments)
+    } else if word == b"stop".as_slice() {
+        read_alone(alloc, Command::Stop, arguments)
+    } else {
+        read_question_words(alloc, word, arguments)
+    }
+}
+
+// The rows of the table from GET on.
+fn read_question_words(alloc: Global, word: &[u8], arguments: &[Text]) -> Mem<Heard>
+    ensures { IfOk result (λ said. said ≡ read_by (drop 10 commands) word.now arguments.now) }
+{
     if word == b"get".as_slice() {
         read_get(alloc, arguments)
     } else if word == b"set".as_slice() {
@@ -123,7 +187,9 @@ fn read_words(alloc: Global, word: &Text, arguments: &[Text]) -> Mem<Heard>
     } else if word == b"unregister".as_slice() {
         read_unregister(alloc, arguments)
     } else if word == b"purge".as_slice() {
-        read_purge(alloc, arguments)
+        read_alone(alloc, Command::Purge, arguments)
+    } else if word == b"progress".as_slice() {
+        read_progress(alloc, arguments)
     } else if word == b"x_loadtemplatefile".as_slice() {
         read_load_template_file(alloc, arguments)
     } else {

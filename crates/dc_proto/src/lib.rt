@@ -3,8 +3,11 @@
 
 pub mod arguments;
 pub mod command;
+pub mod numbers;
 pub mod priority;
+pub mod progress_arguments;
 pub mod reply;
+pub mod session_arguments;
 
 pub use command::{Command, Heard, read_command};
 pub use priority::Priority;

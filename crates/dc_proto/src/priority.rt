@@ -10,8 +10,8 @@ pub enum Priority {
 }
 
 impl Priority {
-    ghost use Rattle.std.specs.Prelude.{◌≡◌};
-    ghost use Rattle.dc_proto.specs.Priorities.{priority_of};
+    ghost use Rattle.std.specs.Prelude.{◌≡◌, nat_le};
+    ghost use Rattle.dc_proto.specs.Priorities.{priority_of, rank};
 
     /// The priority of a word in lower case, and `None` for any other word.
     pub fn read(word: &[u8]) -> Option<Priority>
@@ -28,5 +28,12 @@ impl Priority {
         } else {
             None
         }
+    }
+
+    /// Whether the question matters at least so much, as one has to that is asked (debconf-devel(7), INPUT).
+    pub fn is_at_least(self, least: Priority) -> bool
+        ensures { result ≡ nat_le (rank least) (rank self) }
+    {
+        self >= least
     }
 }

@@ -1,3 +1,4 @@
+pub mod AnswerLemmas
 pub mod ApartLemmas
 pub mod BindLemmas
 pub mod ChangeLemmas

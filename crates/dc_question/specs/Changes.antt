@@ -1,5 +1,5 @@
 -- What calls write to questions: the row of writes of each, and what it leaves.
-use Rattle.std.specs.Prelude.{◌≡◌, ℕ, Bool, List, [], ◌∷◌, Option, Some, None, Result, Ok, Err, unwrap_or, codes}
+use Rattle.std.specs.Prelude.{◌≡◌, ℕ, Bool, List, [], ◌∷◌, Option, Some, None, Result, Ok, Err, unwrap_or, codes, map as each}
 use Rattle.std.specs.FinMap as map
 use Rattle.dc_text.specs.Settled.{settled}
 use Rattle.dc_item.specs.Item.{ItemParts}
@@ -9,7 +9,7 @@ use Rattle.dc_layer.specs.State.{LayerState}
 use Rattle.dc_store.specs.Plans.{StoreState}
 use Rattle.dc_store.specs.Rows.{Write, row_done, first_held_up}
 use Rattle.dc_question.specs.Readings.{kind_by}
-use Rattle.dc_question.specs.Questions.{Setting, question, template, read}
+use Rattle.dc_question.specs.Questions.{Setting, question, template, kind, read}
 use Rattle.dc_question.specs.declared.errors.QuestionError.{QuestionError}
 use Rattle.dc_question.specs.declared.errors.QuestionError.TheVariants.{CantChange, OutOfMemory}
 
@@ -57,6 +57,18 @@ without_answer item = record item { fields = map.remove item.fields (codes "valu
 -- it has no value of its own any more, and isn't seen
 abbrev pub value_reset : StoreState → Setting → List ℕ → Result StoreState QuestionError
 value_reset store at name = read name (question store.layers at name) (λ item. changed store at name (Put (without_answer item)))
+
+-- ---- values of several questions
+
+-- the write that gives a question a value, which is settled
+abbrev pub value_write : List LayerState → Setting → List ℕ × List ℕ → Write
+value_write layers at answer =
+    record { plan = at.config; name = answer.0; kind = kind layers at answer.0; op = SetField (codes "value") (settled answer.1); behalf = answer.0 ∷ [] }
+
+-- Each of the questions gets its value, or none does: a refusal is told by the first of them that can't be changed. A question that isn't
+-- there stays so.
+abbrev pub values_set : StoreState → Setting → List (List ℕ × List ℕ) → Result StoreState QuestionError
+values_set store at answers = row_for store (each (λ a. a.0) answers) (each (value_write store.layers at) answers)
 
 -- ---- what a call does
 

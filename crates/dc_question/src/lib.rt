@@ -1,6 +1,7 @@
 //! Questions: what each says and what is written to it, over the layers of a store (debconf-devel(7)).
 #![tactic(auto)]
 
+mod answers;
 mod beside;
 mod binding;
 mod changes;

@@ -1,6 +1,7 @@
 -- What the parts of a run do to the disk, and to the databases that its layers are of.
-use Rattle.std.proofs.Common.{◌≡◌, ◌⊎◌, ℕ, List, [], ◌∷◌, ◌++◌, Option, Some, None, false, refl, sym, ap, subst, ◌∙◌, inl, inr, map as each}
-use Rattle.std.specs.Prelude.{Result, Ok, Err}
+use Rattle.std.proofs.Common.{◌≡◌, ◌⊎◌, ℕ, List, [], ◌∷◌, ◌++◌, Option, Some, None, refl, sym, ap, subst, ◌∙◌, inl, inr, map as each}
+use Rattle.std.specs.Prelude.{codes, fold, true, Result, Ok, Err}
+use Rattle.std.specs.Result.{result_unwrap_or}
 use Rattle.dc_text.specs.declared.memory.OutOfMemory.{OutOfMemory}
 use Rattle.dc_words.specs.declared.stream.Line.{Line}
 use Rattle.dc_words.specs.declared.stream.Line.TheVariants.{Whole, TooLong}
@@ -17,8 +18,14 @@ use Rattle.dc_conf.specs.Configuration.{Configuration}
 use Rattle.dc_conf.specs.declared.spec.LayerSpec.{LayerSpec}
 use Rattle.dc_conf.proofs.AnswerLemmas.{sound_answer}
 use Rattle.dc_conf.proofs.ResolvedLemmas.{places_apart as places_kept_apart}
+use Rattle.dc_item.specs.Item.{ItemParts}
+use Rattle.dc_item.specs.declared.op.Op.TheVariants.{SetFlag}
 use Rattle.dc_layer.specs.State.{Table, LayerState}
 use Rattle.dc_layer.specs.declared.image.Image.{Image}
+use Rattle.dc_question.specs.Changes.{question_write, done_or}
+use Rattle.dc_question.specs.Questions.{Setting, question, read}
+use Rattle.dc_store.specs.Plans.{StoreState}
+use Rattle.dc_store.specs.Rows.{Write, row_done, names_of}
 use Rattle.dc_store.specs.StoreLaws.{AreSameButAll}
 use Rattle.dc_save.specs.Loading.{with_loaded, LoadsLayer, LoadsFiles}
 use Rattle.dc_save.specs.Saving.{Saves, Ends, MayAddAny, AreApart, StandSaved, all_saved}
@@ -38,14 +45,17 @@ use Rattle.dc_serve.specs.Said.{said, BreaksOff}
 use Rattle.dc_serve.specs.declared.heeds.Heeded.{Heeded}
 use Rattle.dc_serve.specs.declared.outcome.LinkEnd.{LinkEnd}
 use Rattle.dc_serve.specs.declared.outcome.LinkEnd.TheVariants as link
-use Rattle.dc_session.specs.Answers.{answer, names_on}
-use Rattle.dc_session.specs.Machine.{replied, Heeds, HeedsHeard, Breaks, HasDone, IsDoneInPart}
+use Rattle.dc_session.specs.Answers.{answer, after_command, names_on}
+use Rattle.dc_session.specs.Asking.{with_seen}
+use Rattle.dc_session.specs.Machine.{Heeds, Steps, StepsHeard, Breaks, HasDone, IsDoneInPart}
+use Rattle.dc_session.specs.Serving.{IsFinished, Finishes as FinishesSession}
 use Rattle.dc_session.specs.SessionState.{FilesState, SessionState}
 use Rattle.dc_session.specs.TemplateFiles.{Finds, FindsNoMemory}
+use Rattle.dc_session.specs.declared.stepped.Stepped.{Stepped}
 use Rattle.dc_session.specs.declared.template_files.Found.{Found}
 use Rattle.dc_session.specs.declared.template_files.Found.TheVariants.{Unreadable, Missing, Faulty, Templates}
 use Rattle.dc_session.proofs.DiskLaws.{breaks_reads, course_reads}
-use Rattle.dc_session.proofs.FrameLaws.{others_stay}
+use Rattle.dc_session.proofs.FrameLaws.{row_keeps, others_stay}
 use Rattle.dc_run.specs.Ends.{IsEnded, tool_end_of, end_unsaved}
 use Rattle.dc_run.specs.Finishing.{images_of, IsSaved, IsUnsaved, IsWithoutMemory, Finishes}
 use Rattle.dc_run.specs.Headline.{Uses, HasUsed, HasRunTool}
@@ -59,8 +69,10 @@ use Rattle.dc_run.specs.declared.outcome.Outcome.{Outcome}
 use Rattle.dc_run.specs.declared.outcome.ToolAnswer.{ToolAnswer}
 use Rattle.dc_run.specs.declared.outcome.ToolEnd.{ToolEnd}
 use Rattle.dc_run.specs.declared.outcome.ToolEnd.TheVariants as tool
+use Rattle.dc_run.specs.declared.settings.Settings.{Settings}
 use Rattle.dc_run.specs.declared.tool.Tool.{Tool}
 use Rattle.dc_run.specs.declared.tool.Tool.TheVariants.{Communicate, LoadTemplate}
+use Rattle.dc_run.proofs.RunLemmas.{ends_so}
 use Rattle.dc_run.proofs.StartLemmas.{files_reached}
 use Rattle.dc_run.specs.Crashes.{KeepsDatabases}
 
@@ -135,14 +147,17 @@ same_specs names (layer ∷ old) (made ∷ new) is = λ i. is.0.spec i ∷ same_
 abbrev specs_of : SessionState → List (Option LayerSpec)
 specs_of state = specs_in state.store.layers
 
-heard_keeps : (said : Heard) (old new : SessionState) (did : Heeded) → HeedsHeard said old did new → specs_of new ≡ specs_of old
-heard_keeps Nothing old new did heeds = ap specs_of heeds.1
-heard_keeps (Known command) old new did heeds = same_specs (names_on old command heeds.found) old.store.layers new.store.layers (others_stay command old new did heeds)
-heard_keeps (Refused reply) old new did heeds = ap specs_of heeds.1
+heard_keeps : (said : Heard) (old new : SessionState) (stepped : Stepped) → StepsHeard said old stepped new → specs_of new ≡ specs_of old
+heard_keeps Nothing old new stepped steps = ap specs_of steps.1
+heard_keeps (Known command) old new stepped steps = same_specs (names_on old command steps.found) old.store.layers new.store.layers (others_stay command old new stepped steps)
+heard_keeps (Refused reply) old new stepped steps = ap specs_of steps.1
+
+steps_keep : (old new : SessionState) (line : Line) (stepped : Stepped) → Steps old line stepped new → specs_of new ≡ specs_of old
+steps_keep old new TooLong stepped steps = ap specs_of steps.1
+steps_keep old new (Whole line) stepped steps = heard_keeps (heard old.asking.escape line) old new stepped steps
 
 heeds_keep : (old new : SessionState) (line : Line) (did : Heeded) → Heeds old line did new → specs_of new ≡ specs_of old
-heeds_keep old new TooLong did heeds = ap specs_of heeds.1
-heeds_keep old new (Whole line) did heeds = heard_keeps (heard false line) old new did heeds
+heeds_keep old new line did heeds = steps_keep old new line heeds.stepped heeds.steps
 
 course_keeps : (start : SessionState) (turns : List (Turn SessionState)) → IsCourse Heeds start turns → specs_of (state_after start turns) ≡ specs_of start
 course_keeps start [] is = refl
@@ -180,6 +195,47 @@ module _ (start new : SessionState) (turns : List (Turn SessionState)) (rest : L
   session_reads course link.OutOfMemory answered = reads_to course (broken_off answered)
   session_reads course (link.Broken error) answered = breaks_reads (state_after start turns) new answered.line error answered.broke ∙ course_reads start turns course
 
+-- ---- a session that is finished
+
+-- the row that sets `seen` on a question
+abbrev seen_row : Setting → StoreState → List ℕ → ItemParts → List Write
+seen_row at store name item = question_write store.layers at name item (SetFlag (codes "seen") true) ∷ []
+
+-- it is set, or not
+seen_keeps : (at : Setting) (store : StoreState) (name : List ℕ) → specs_in (with_seen at store name).layers ≡ specs_in store.layers
+seen_keeps at store name = by_item (question store.layers at name) where
+  by_row : (item : ItemParts) (done : Option StoreState) → row_done store (seen_row at store name item) ≡ done → specs_in (result_unwrap_or (done_or name done) store).layers ≡ specs_in store.layers
+  by_row item None is = refl
+  by_row item (Some new) is = same_specs (names_of (seen_row at store name item)) store.layers new.layers (row_keeps store new (seen_row at store name item) is)
+
+  by_item : (item : Option ItemParts) → specs_in (result_unwrap_or (read name item (λ i. done_or name (row_done store (seen_row at store name i)))) store).layers ≡ specs_in store.layers
+  by_item None = refl
+  by_item (Some item) = by_row item (row_done store (seen_row at store name item)) refl
+
+all_seen_keep : (at : Setting) (store : StoreState) (names : List (List ℕ)) → specs_in (fold (with_seen at) store names).layers ≡ specs_in store.layers
+all_seen_keep at store [] = refl
+all_seen_keep at store (name ∷ names) = all_seen_keep at (with_seen at store name) names ∙ seen_keeps at store name
+
+module _ (state : SessionState) (layers : List LayerState) where
+  finished_keeps : (served ended : LinkEnd OutOfMemory) → IsFinished state served layers ended → specs_in layers ≡ specs_of state
+  finished_keeps served ended (inl all) = ap specs_in all.0 ∙ all_seen_keep state.at state.store state.asking.asked
+  finished_keeps served ended (inr none) = same_specs state.asking.asked state.store.layers layers none.0
+
+  session_keeps : (served ended : LinkEnd OutOfMemory) → FinishesSession served state layers ended → specs_in layers ≡ specs_of state
+  session_keeps link.Done ended finishes = finished_keeps link.Done ended finishes
+  session_keeps link.LinkFault ended finishes = finished_keeps link.LinkFault ended finishes
+  session_keeps link.TooLong ended finishes = finished_keeps link.TooLong ended finishes
+  session_keeps link.OutOfMemory ended finishes = ap specs_in finishes.0
+  session_keeps (link.Broken error) ended finishes = ap specs_in finishes.0
+
+no_memory_left : (ended : LinkEnd OutOfMemory) → ended ≡ link.OutOfMemory → IsEnded (tool_end_of ended) → ⊥
+no_memory_left ended is done = subst (λ (e : LinkEnd OutOfMemory). IsEnded (tool_end_of e)) is done
+
+-- a session after which the layers are saved was served to such an end
+was_served : (served ended : LinkEnd OutOfMemory) → (ended ≡ served) ⊎ (ended ≡ link.OutOfMemory) → IsEnded (tool_end_of ended) → IsEnded (tool_end_of served)
+was_served served ended (inl same) done = subst (λ (e : LinkEnd OutOfMemory). IsEnded (tool_end_of e)) same done
+was_served served ended (inr none) done = absurd (no_memory_left ended none done)
+
 -- ---- template files
 
 finds_reads : (path : List ℕ) (old new : FilesState) (found : Found) → Finds path old found new → new.told.disk ≡ old.told.disk
@@ -215,9 +271,9 @@ end_reads tool.TooLong state rest new ends = absurd ends
 turn_keeps : (old : SessionState) (turn : FileTurn) → IsFileTurn old turn → specs_of turn.new ≡ specs_of old
 turn_keeps old turn is =
     let command : Command = LoadTemplateFile turn.path None in
-    let did : Heeded = replied (answer old command turn.found).reply in
-    let done : HasDone command old did turn.new = record { found = turn.found; gives = is.finds; heeded_is = refl; new_is = is.new_is } in
-    same_specs (names_on old command turn.found) old.store.layers turn.new.store.layers (others_stay command old turn.new did done)
+    let left : SessionState = after_command old command turn.found turn.new.files in
+    let done : HasDone command old (answer old command turn.found).stepped left = record { found = turn.found; gives = is.finds; stepped_is = refl; new_is = refl } in
+    ap specs_of is.new_is ∙ same_specs (names_on old command turn.found) old.store.layers left.store.layers (others_stay command old left (answer old command turn.found).stepped done)
 
 files_keep : (start : SessionState) (turns : List FileTurn) → IsFileCourse start turns → specs_of (file_state start turns) ≡ specs_of start
 files_keep start [] is = refl
@@ -242,10 +298,11 @@ tool_keeps (Communicate owner) start old new given told layers files uses =
     let served = uses.0.served in
     let ran = served.ran in
     record {
-      disk = ap (λ (f : FilesState). f.told.disk) served.files_are ∙ session_reads start served.state ran.turns ran.rest ran.pieces old.input given.last_code ran.course uses.0.ended ran.answered;
+      disk = ap (λ (f : FilesState). f.told.disk) served.files_are ∙ session_reads start served.state ran.turns ran.rest ran.pieces old.input given.last_code ran.course served.served ran.answered;
       specs = λ is.
-          ap specs_in served.layers_are
-          ∙ ap specs_of (state_left start served.state ran.turns ran.rest ran.pieces old.input given.last_code uses.0.ended (subst IsEnded uses.0.ended_is is) ran.answered)
+          let done : IsEnded (tool_end_of served.served) = was_served served.served uses.0.ended (ends_so served.served served.state layers uses.0.ended served.finishes) (subst IsEnded uses.0.ended_is is) in
+          session_keeps served.state layers served.served uses.0.ended served.finishes
+          ∙ ap specs_of (state_left start served.state ran.turns ran.rest ran.pieces old.input given.last_code served.served done ran.answered)
           ∙ course_keeps start ran.turns ran.course;
     }
 tool_keeps (LoadTemplate owner paths) start old new given told layers files uses =
@@ -312,13 +369,13 @@ module _ (path : List ℕ) (how : End) (before after : Disk) (settled : IsSettle
       stands = λ ok. all_stand (subst (λ (saves : Result (Unit {0}) SaveError). Ends (images_of layers) before.standing after.standing saves) ok (ends (images_of layers) files new save.saves save.did before after at to settled));
     }
 
-module _ (path lang : List ℕ) (old new : World) (outcome : Outcome) (before after : Disk) (at : old.stock.files.told.disk ≡ Some before) (to : new.stock.files.told.disk ≡ Some after) (settled : IsSettled before.standing) where
-  nothing_done : new.stock.files.told.disk ≡ old.stock.files.told.disk → KeepsDatabases path before after outcome.end
-  nothing_done same = none_saved path outcome.end before after settled (same_some after before (sym to ∙ same ∙ at))
+module _ (settings : Settings) (old new : World) (outcome : Outcome) (before after : Disk) (at : old.stock.files.told.disk ≡ Some before) (to : new.stock.files.told.disk ≡ Some after) (settled : IsSettled before.standing) where
+  nothing_done : new.stock.files.told.disk ≡ old.stock.files.told.disk → KeepsDatabases settings.conf_path before after outcome.end
+  nothing_done same = none_saved settings.conf_path outcome.end before after settled (same_some after before (sym to ∙ same ∙ at))
 
-  module _ (used : Tool) (run : HasUsed used path lang old new outcome) where
-    keeps : KeepsAll (begun run.mid run.roots lang (owner_of used)) run.answer.ended run.layers run.files
-    keeps = tool_keeps used (begun run.mid run.roots lang (owner_of used)) old.io new.io run.answer run.told run.layers run.files run.uses
+  module _ (used : Tool) (run : HasUsed used settings old new outcome) where
+    keeps : KeepsAll (begun run.mid run.roots settings (owner_of used)) run.answer.ended run.layers run.files
+    keeps = tool_keeps used (begun run.mid run.roots settings (owner_of used)) old.io new.io run.answer run.told run.layers run.files run.uses
 
     files_at : run.files.told.disk ≡ Some before
     files_at = keeps.disk ∙ all_read _ _ _ _ _ _ _ _ run.started.loaded.loads ∙ at
@@ -329,30 +386,30 @@ module _ (path lang : List ℕ) (old new : World) (outcome : Outcome) (before af
     specs_left : IsEnded run.answer.ended → specs_in run.layers ≡ each Some (databases_of run.started.conf)
     specs_left is = keeps.specs is ∙ mid_specs
 
-    kept_by : HasSaved (images_of run.layers) run.files.told new.stock.files.told outcome.end → specs_in run.layers ≡ each Some (databases_of run.started.conf) → KeepsDatabases path before after outcome.end
+    kept_by : HasSaved (images_of run.layers) run.files.told new.stock.files.told outcome.end → specs_in run.layers ≡ each Some (databases_of run.started.conf) → KeepsDatabases settings.conf_path before after outcome.end
     kept_by save specs =
-        some_saved path outcome.end before after settled run.started.conf (subst (λ (disk : Option Disk). IsConfiguration disk path run.started.conf) at run.started.loaded.conf_is)
+        some_saved settings.conf_path outcome.end before after settled run.started.conf (subst (λ (disk : Option Disk). IsConfiguration disk settings.conf_path run.started.conf) at run.started.loaded.conf_is)
         run.layers specs run.files.told new.stock.files.told files_at to save
 
-    none_by : new.stock.files ≡ run.files → KeepsDatabases path before after outcome.end
-    none_by same = none_saved path outcome.end before after settled (same_some after before (sym to ∙ ap (λ (files : FilesState). files.told.disk) same ∙ files_at))
+    none_by : new.stock.files ≡ run.files → KeepsDatabases settings.conf_path before after outcome.end
+    none_by same = none_saved settings.conf_path outcome.end before after settled (same_some after before (sym to ∙ ap (λ (files : FilesState). files.told.disk) same ∙ files_at))
 
     finished : (ended : ToolEnd) → (IsEnded ended → specs_in run.layers ≡ each Some (databases_of run.started.conf)) → Finishes run.layers new.stock.used ended run.files new.stock.files outcome.end
-        → KeepsDatabases path before after outcome.end
+        → KeepsDatabases settings.conf_path before after outcome.end
     finished tool.Done specs does = kept_by (saved_by run.layers new.stock.used run.files new.stock.files tool.Done outcome.end does) (specs tt)
     finished tool.LinkFault specs does = kept_by (saved_by run.layers new.stock.used run.files new.stock.files tool.LinkFault outcome.end does) (specs tt)
     finished tool.TooLong specs does = kept_by (saved_by run.layers new.stock.used run.files new.stock.files tool.TooLong outcome.end does) (specs tt)
     finished tool.OutOfMemory specs does = none_by does.files_are
     finished (tool.FilesFault fault) specs does = none_by does.files_are
 
-  tool_by : (used : Tool) → HasRunTool used path lang old new outcome → KeepsDatabases path before after outcome.end
-  tool_by used (inl ends) = nothing_done (before_reads path old.stock.files new.stock outcome.end ends.0)
+  tool_by : (used : Tool) → HasRunTool used settings old new outcome → KeepsDatabases settings.conf_path before after outcome.end
+  tool_by used (inl ends) = nothing_done (before_reads settings.conf_path old.stock.files new.stock outcome.end ends.0)
   tool_by used (inr run) = finished used run run.answer.ended (specs_left used run) run.finishes
 
 -- a run of a tool
-pub run_keeps : (used : Tool) (path lang : List ℕ) (old new : World) (outcome : Outcome) (before after : Disk) → HasRunTool used path lang old new outcome → old.stock.files.told.disk ≡ Some before
-    → new.stock.files.told.disk ≡ Some after → IsSettled before.standing → KeepsDatabases path before after outcome.end
-run_keeps used path lang old new outcome before after run at to settled = tool_by path lang old new outcome before after at to settled used run
+pub run_keeps : (used : Tool) (settings : Settings) (old new : World) (outcome : Outcome) (before after : Disk) → HasRunTool used settings old new outcome → old.stock.files.told.disk ≡ Some before
+    → new.stock.files.told.disk ≡ Some after → IsSettled before.standing → KeepsDatabases settings.conf_path before after outcome.end
+run_keeps used settings old new outcome before after run at to settled = tool_by settings old new outcome before after at to settled used run
 
 -- a run that did nothing on the files
 pub nothing_kept : (path : List ℕ) (how : End) (before after : Disk) (disk : Option Disk) → disk ≡ Some before → disk ≡ Some after → IsSettled before.standing → KeepsDatabases path before after how

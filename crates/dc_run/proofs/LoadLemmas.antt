@@ -1,21 +1,23 @@
 -- What the files that a tool loads come to, one after another.
 use Rattle.std.proofs.Common.{◌≡◌, ◌≢◌, ◌≤◌, ◌<◌, ◌-◌, ℕ, Bool, true, false, cond, List, [], ◌∷◌, ◌++◌, length, take, drop, get_or, Option, refl, sym, ap, subst, ◌∙◌, arith, Result, Ok, Err}
 use Rattle.std.specs.Prelude.{◌||◌, is_some}
+use Rattle.dc_layer.specs.State.{LayerState}
 use Rattle.dc_store.specs.Plans.{StoreState}
 use Rattle.dc_question.specs.Ownership.{loaded}
 use Rattle.dc_question.specs.declared.errors.QuestionError.{QuestionError}
 use Rattle.dc_session.specs.FileLoading.{LoadsFile, file_end, end_by}
-use Rattle.dc_session.specs.SessionState.{SessionState}
+use Rattle.dc_session.specs.SessionState.{FilesState, SessionState}
 use Rattle.dc_session.specs.TemplateFiles.{Finds}
 use Rattle.dc_session.specs.declared.template_files.Found.{Found}
 use Rattle.dc_session.specs.declared.template_files.Found.TheVariants.{Unreadable, Missing, Faulty, Templates}
 use Rattle.dc_session.specs.declared.template_loading.FileEnd.{FileEnd}
 use Rattle.dc_session.specs.declared.template_loading.FileEnd.TheVariants as file
 use Rattle.dc_run.specs.EndLines.{HasSaidOn}
-use Rattle.dc_run.specs.Inside.{end_text, is_unread, told_line, GoesThrough, LoadsOne, LoadsFiles, status_by}
-use Rattle.dc_run.specs.TemplateLoading.{refused_by, refusal_of, FileTurn, IsFileCourse, state_after, lines_of, refuses, EndsAt}
+use Rattle.dc_run.specs.Inside.{end_text, is_unread, told_line, GoesThrough, LoadsOne, LoadsFiles, HasLoadedOver, status_by}
+use Rattle.dc_run.specs.TemplateLoading.{refused_by, refusal_of, FileTurn, IsFileCourse, state_after, lines_of, refuses, EndsAt, HasLoadedFiles}
 use Rattle.dc_run.specs.World.{LinkState}
 use Rattle.dc_run.specs.declared.loading_templates.FilesLoaded.{FilesLoaded}
+use Rattle.dc_run.specs.declared.outcome.ToolAnswer.{ToolAnswer}
 use Rattle.dc_run.specs.declared.outcome.ToolEnd.{ToolEnd}
 use Rattle.dc_run.specs.declared.outcome.ToolEnd.TheVariants as tool
 use Rattle.dc_run.proofs.Saying.{said_then, none_said}
@@ -151,3 +153,17 @@ pub one_joined : (start : SessionState) (paths : List (List ℕ)) (old new : Lin
     → LoadsFiles start paths old new (record { ended = ended; refused = before || (one || later) }) left → LoadsFiles start paths old new (record { ended = ended; refused = either || later }) left
 one_joined start paths old new ended before one later either left is loads =
     subst (λ (r : Bool). LoadsFiles start paths old new (record { ended = ended; refused = r }) left) (or_grouped before one later ∙ ap (λ (r : Bool). r || later) (sym is)) loads
+
+-- the files were loaded into these layers
+pub loaded_over : (start begun left : SessionState) (slice paths : List (List ℕ)) (old new : LinkState) (loaded : FilesLoaded) (answer : ToolAnswer) (layers : List LayerState) (files : FilesState) → start ≡ begun → slice ≡ paths → LoadsFiles start slice old new loaded left
+    → layers ≡ left.store.layers → files ≡ left.files → answer ≡ record { ended = loaded.ended; last_code = 0; status = status_by loaded.refused } → HasLoadedOver begun paths old new answer layers files
+loaded_over start begun left slice paths old new loaded answer layers files same all loads layers_are files_are is =
+    subst (λ (a : ToolAnswer). HasLoadedOver begun paths old new a layers files) (sym is) (record {
+      said = loads.said;
+      state = left;
+      layers_are = layers_are;
+      files_are = files_are;
+      loads = subst (λ (s : SessionState). HasLoadedFiles s paths loaded.ended loads.said (status_by loaded.refused) left) same (subst (λ (p : List (List ℕ)). HasLoadedFiles start p loaded.ended loads.said (status_by loaded.refused) left) all loads.loads);
+      last_code_is = refl;
+      telling = loads.telling;
+    })

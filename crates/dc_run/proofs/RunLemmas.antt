@@ -1,17 +1,19 @@
 -- The counts of the link by the end of a run, and what a run of a tool comes to.
-use Rattle.std.proofs.Common.{◌≡◌, inl, inr, ℕ, List, [], refl, sym, subst, ap, ◌∙◌}
+use Rattle.std.proofs.Common.{◌≡◌, ◌⊎◌, inl, inr, ℕ, List, [], Option, refl, sym, subst, ap, ◌∙◌}
 use Rattle.dc_outside.specs.Told.{Counts}
 use Rattle.dc_conf.specs.declared.faults.ConfError.{ConfError}
 use Rattle.dc_conf.specs.declared.faults.ConfError.TheVariants as conf
 use Rattle.dc_layer.specs.State.{LayerState}
 use Rattle.dc_layer.specs.declared.pattern.PatternError.{PatternError}
 use Rattle.dc_layer.specs.declared.pattern.PatternError.TheVariants as pattern
+use Rattle.dc_proto.specs.declared.priority.Priority.{Priority}
 use Rattle.dc_save.specs.declared.loading.LoadError.{LoadError}
 use Rattle.dc_save.specs.declared.loading.LoadError.TheVariants as load
 use Rattle.dc_serve.specs.Ends.{LinkFaults, LinkRefusals}
 use Rattle.dc_serve.specs.declared.outcome.LinkEnd.{LinkEnd}
 use Rattle.dc_serve.specs.declared.outcome.LinkEnd.TheVariants as link
-use Rattle.dc_session.specs.Serving.{IsServed}
+use Rattle.dc_session.specs.Asking.{threshold_by}
+use Rattle.dc_session.specs.Serving.{IsFinished, Finishes as FinishesSession, IsServed}
 use Rattle.dc_session.specs.SessionState.{FilesState, SessionState}
 use Rattle.dc_text.specs.declared.memory.OutOfMemory.{OutOfMemory}
 use Rattle.dc_run.specs.declared.outcome.End.{End}
@@ -20,15 +22,16 @@ use Rattle.dc_run.specs.declared.outcome.Outcome.{Outcome}
 use Rattle.dc_run.specs.declared.outcome.ToolAnswer.{ToolAnswer}
 use Rattle.dc_run.specs.declared.outcome.ToolEnd.{ToolEnd}
 use Rattle.dc_run.specs.declared.outcome.ToolEnd.TheVariants as tool
+use Rattle.dc_run.specs.declared.settings.Settings.{Settings}
 use Rattle.dc_run.specs.declared.starting.Roots.{Roots}
 use Rattle.dc_run.specs.declared.tool.Tool.{Tool}
 use Rattle.dc_run.specs.declared.tool.Tool.TheVariants.{Communicate, LoadTemplate}
 use Rattle.dc_run.specs.EndLines.{end_line, HasSaidOn}
 use Rattle.dc_run.specs.Ends.{status_of, tool_end_of, LinkCounts, end_of_conf, end_of_pattern, end_of_load}
 use Rattle.dc_run.specs.Finishing.{Finishes}
-use Rattle.dc_run.specs.Headline.{HasRunTool, HasRunWords}
+use Rattle.dc_run.specs.Headline.{HasCommunicated, HasRunTool, HasRunWords}
 use Rattle.dc_run.specs.Inside.{HasLoadedOver, HasUsedTool, ToolCounts}
-use Rattle.dc_run.specs.Starting.{EndsBefore, HasStarted, begun}
+use Rattle.dc_run.specs.Starting.{EndsBefore, HasStarted, begun, chosen, setting_of}
 use Rattle.dc_run.specs.TemplateLoading.{EndsAt}
 use Rattle.dc_run.specs.Tools.{AreRefusedAt, IsToolWords}
 use Rattle.dc_run.specs.World.{LinkState, Stock, World}
@@ -70,13 +73,44 @@ counted_same : (faults refusals faults_now refusals_now : ℕ) → faults_now �
 counted_same faults refusals faults_now refusals_now one other = ap (λ (f : ℕ). counts_of f refusals_now) one ∙ ap (λ (r : ℕ). counts_of faults r) other
 
 module _ (faults refusals faults_now refusals_now : ℕ) where
-  pub served_counts : (ended : LinkEnd OutOfMemory) → LinkFaults ended faults faults_now → LinkRefusals ended refusals refusals_now → ToolCounts (tool_end_of ended) (counts_of faults refusals) (counts_of faults_now refusals_now)
-  served_counts link.Done one other = counted_same faults refusals faults_now refusals_now one other
-  served_counts link.TooLong one other = counted_same faults refusals faults_now refusals_now one other
-  served_counts link.LinkFault one other = record { faults = one; refusals = other }
-  served_counts link.OutOfMemory one (inl rose) = inr (record { faults = one; refusals = rose })
-  served_counts link.OutOfMemory one (inr same) = inl (counted_same faults refusals faults_now refusals_now one same)
-  served_counts (link.Broken error) one other = inl (counted_same faults refusals faults_now refusals_now one other)
+  link_counts : (served : LinkEnd OutOfMemory) → LinkFaults served faults faults_now → LinkRefusals served refusals refusals_now → ToolCounts (tool_end_of served) (counts_of faults refusals) (counts_of faults_now refusals_now)
+  link_counts link.Done one other = counted_same faults refusals faults_now refusals_now one other
+  link_counts link.TooLong one other = counted_same faults refusals faults_now refusals_now one other
+  link_counts link.LinkFault one other = record { faults = one; refusals = other }
+  link_counts link.OutOfMemory one (inl rose) = inr (inr (record { faults = one; refusals = rose }))
+  link_counts link.OutOfMemory one (inr same) = inl (counted_same faults refusals faults_now refusals_now one same)
+  link_counts (link.Broken error) one other = inl (counted_same faults refusals faults_now refusals_now one other)
+
+  -- the same where memory ran out as the session was finished
+  unfinished_counts : (served : LinkEnd OutOfMemory) → LinkFaults served faults faults_now → LinkRefusals served refusals refusals_now → ToolCounts tool.OutOfMemory (counts_of faults refusals) (counts_of faults_now refusals_now)
+  unfinished_counts link.Done one other = inl (counted_same faults refusals faults_now refusals_now one other)
+  unfinished_counts link.TooLong one other = inl (counted_same faults refusals faults_now refusals_now one other)
+  unfinished_counts link.LinkFault one other = inr (inl (record { faults = one; refusals = other }))
+  unfinished_counts link.OutOfMemory one other = link_counts link.OutOfMemory one other
+  unfinished_counts (link.Broken error) one other = link_counts (link.Broken error) one other
+
+  -- a session that was finished, or not for want of memory
+  finished_counts : (served ended : LinkEnd OutOfMemory) → (ended ≡ served) ⊎ (ended ≡ link.OutOfMemory) → LinkFaults served faults faults_now → LinkRefusals served refusals refusals_now
+      → ToolCounts (tool_end_of ended) (counts_of faults refusals) (counts_of faults_now refusals_now)
+  finished_counts served ended (inl same) one other = rw same (link_counts served one other)
+  finished_counts served ended (inr none) one other = rw none (unfinished_counts served one other)
+
+-- a session ends as its link was served, unless memory ran out
+ended_by : (state : SessionState) (layers : List LayerState) (served ended : LinkEnd OutOfMemory) → IsFinished state served layers ended → (ended ≡ served) ⊎ (ended ≡ link.OutOfMemory)
+ended_by state layers served ended (inl all) = inl all.1
+ended_by state layers served ended (inr none) = inr none.1
+
+pub ends_so : (served : LinkEnd OutOfMemory) (state : SessionState) (layers : List LayerState) (ended : LinkEnd OutOfMemory) → FinishesSession served state layers ended → (ended ≡ served) ⊎ (ended ≡ link.OutOfMemory)
+ends_so link.Done state layers ended finishes = ended_by state layers link.Done ended finishes
+ends_so link.LinkFault state layers ended finishes = ended_by state layers link.LinkFault ended finishes
+ends_so link.TooLong state layers ended finishes = ended_by state layers link.TooLong ended finishes
+ends_so link.OutOfMemory state layers ended finishes = inr finishes.1
+ends_so (link.Broken error) state layers ended finishes = inr finishes.1
+
+-- the counts of a link that was served
+pub served_counts : (start : SessionState) (layers : List LayerState) (files : FilesState) (old new : LinkState) (ended : LinkEnd OutOfMemory) (code : ℕ) → IsServed start layers files old new ended code → ToolCounts (tool_end_of ended) old.counts new.counts
+served_counts start layers files old new ended code is =
+    finished_counts old.counts.faults old.counts.refusals new.counts.faults new.counts.refusals is.served ended (ends_so is.served is.state layers ended is.finishes) is.faults is.refusals
 
 -- a tool that doesn't use the link
 silent_tool : (ended : ToolEnd) (state : SessionState) (rest : List (List ℕ)) (new : SessionState) (counts : Counts) → EndsAt ended state rest new → ToolCounts ended counts counts
@@ -101,7 +135,7 @@ module _ (layers used : List LayerState) (files new : FilesState) (before now : 
   run_counts tool.LinkFault how (inr (inl unsaved)) counts = rw unsaved.end_is counts
   run_counts tool.LinkFault how (inr (inr none)) counts = rw none.end_is (inr (inl counts))
   run_counts tool.OutOfMemory how broken (inl same) = rw broken.end_is (inl same)
-  run_counts tool.OutOfMemory how broken (inr rose) = rw broken.end_is (inr (inr rose))
+  run_counts tool.OutOfMemory how broken (inr rose) = rw broken.end_is (inr rose)
   run_counts (tool.FilesFault path) how broken counts = rw broken.end_is counts
 
   pub counted_after : (ended : ToolEnd) (how : End) (status code : ℕ) (outcome : Outcome) → Finishes layers used ended files new how → ToolCounts ended before now → outcome ≡ record { status = status; end = how; last_code = code } → LinkCounts outcome.end before now
@@ -109,30 +143,42 @@ module _ (layers used : List LayerState) (files new : FilesState) (before now : 
 
 -- ---- what a tool does
 
-module _ (owner : List ℕ) (stock : Stock) (roots : Roots) (lang : List ℕ) (old new err err_new : LinkState) (answer : ToolAnswer) (layers : List LayerState) (files : FilesState) where
+-- a session that begins with this priority as the one that was chosen
+abbrev begun_with : Stock → Roots → Settings → List ℕ → Option Priority → SessionState
+begun_with stock roots settings owner given =
+    record (begun stock roots settings owner) { manner = record { threshold = threshold_by given stock.used (setting_of roots settings); nonint_seen = settings.nonint_seen } }
+
+module _ (stock : Stock) (roots : Roots) (settings : Settings) (owner : List ℕ) (old new : LinkState) (answer : ToolAnswer) (layers : List LayerState) (files : FilesState) where
+  pub served_with : (given : Option Priority) (ended : LinkEnd OutOfMemory) → given ≡ chosen settings roots → answer.ended ≡ tool_end_of ended → answer.status ≡ answer.last_code
+      → IsServed (begun_with stock roots settings owner given) layers files old new ended answer.last_code → HasCommunicated (begun stock roots settings owner) old new answer layers files
+  served_with given ended same is status served = record {
+    ended = ended;
+    ended_is = is;
+    served = subst (λ (g : Option Priority). IsServed (begun_with stock roots settings owner g) layers files old new ended answer.last_code) same served;
+    status_is = status;
+  }
+
+module _ (owner : List ℕ) (stock : Stock) (roots : Roots) (settings : Settings) (old new err err_new : LinkState) (answer : ToolAnswer) (layers : List LayerState) (files : FilesState) where
   -- the link was served
-  pub communicated : (ended : LinkEnd OutOfMemory) → answer.ended ≡ tool_end_of ended → answer.status ≡ answer.last_code
-      → IsServed (begun stock roots lang owner) layers files old.talk new.talk old.input new.input ended answer.last_code → err_new ≡ err
-      → HasUsedTool (Communicate owner) stock roots lang old new err err_new answer layers files
-  communicated ended is status served same =
-      ([], (record { ended = ended; ended_is = is; served = served; status_is = status }, refl), subst (λ (l : LinkState). HasSaidOn [] err l) (sym same) (none_said err.talk err.counts))
+  pub communicated : HasCommunicated (begun stock roots settings owner) old new answer layers files → err_new ≡ err → HasUsedTool (Communicate owner) stock roots settings old new err err_new answer layers files
+  communicated served same = ([], (served, refl), subst (λ (l : LinkState). HasSaidOn [] err l) (sym same) (none_said err.talk err.counts))
 
   -- files were loaded
-  pub loaded_files : (paths : List (List ℕ)) → HasLoadedOver (begun stock roots lang owner) paths err err_new answer layers files → new ≡ old → HasUsedTool (LoadTemplate owner paths) stock roots lang old new err err_new answer layers files
+  pub loaded_files : (paths : List (List ℕ)) → HasLoadedOver (begun stock roots settings owner) paths err err_new answer layers files → new ≡ old → HasUsedTool (LoadTemplate owner paths) stock roots settings old new err err_new answer layers files
   loaded_files paths over same =
       (over.said, record { state = over.state; layers_are = over.layers_are; files_are = over.files_are; loaded = over.loads; last_code_is = over.last_code_is; link_is = same }, over.telling)
 
 -- ---- the run of a tool
 
-module _ (used : Tool) (path lang : List ℕ) (old new : World) (outcome : Outcome) (how : End) where
-  pub ended_before : EndsBefore path old.stock.files new.stock how → new.io ≡ old.io → HasSaidOn (end_line how) old.err new.err → outcome ≡ record { status = status_of how 0; end = how; last_code = 0 } → HasRunTool used path lang old new outcome
+module _ (used : Tool) (settings : Settings) (old new : World) (outcome : Outcome) (how : End) where
+  pub ended_before : EndsBefore settings.conf_path old.stock.files new.stock how → new.io ≡ old.io → HasSaidOn (end_line how) old.err new.err → outcome ≡ record { status = status_of how 0; end = how; last_code = 0 } → HasRunTool used settings old new outcome
   ended_before before same said is =
-      subst (λ (o : Outcome). HasRunTool used path lang old new o) (sym is) (inl (before, record { link_is = same; said = said; code_is = refl; status_is = refl }))
+      subst (λ (o : Outcome). HasRunTool used settings old new o) (sym is) (inl (before, record { link_is = same; said = said; code_is = refl; status_is = refl }))
 
-  pub ended_after : (mid : Stock) (roots : Roots) (answer : ToolAnswer) (layers : List LayerState) (files : FilesState) (err : LinkState) → HasStarted path old.stock.files mid roots
-      → HasUsedTool used mid roots lang old.io new.io old.err err answer layers files → Finishes layers new.stock.used answer.ended files new.stock.files how → HasSaidOn (end_line how) err new.err
-      → outcome ≡ record { status = status_of how answer.status; end = how; last_code = answer.last_code } → HasRunTool used path lang old new outcome
-  ended_after mid roots answer layers files err started uses finishes said is = subst (λ (o : Outcome). HasRunTool used path lang old new o) (sym is) (inr (record {
+  pub ended_after : (mid : Stock) (roots : Roots) (answer : ToolAnswer) (layers : List LayerState) (files : FilesState) (err : LinkState) → HasStarted settings.conf_path old.stock.files mid roots
+      → HasUsedTool used mid roots settings old.io new.io old.err err answer layers files → Finishes layers new.stock.used answer.ended files new.stock.files how → HasSaidOn (end_line how) err new.err
+      → outcome ≡ record { status = status_of how answer.status; end = how; last_code = answer.last_code } → HasRunTool used settings old new outcome
+  ended_after mid roots answer layers files err started uses finishes said is = subst (λ (o : Outcome). HasRunTool used settings old new o) (sym is) (inr (record {
     mid = mid;
     roots = roots;
     started = started;
@@ -149,19 +195,19 @@ module _ (used : Tool) (path lang : List ℕ) (old new : World) (outcome : Outco
 
 -- ---- the words
 
-module _ (words : List (List ℕ)) (path lang : List ℕ) (old new : World) (outcome : Outcome) where
+module _ (words : List (List ℕ)) (settings : Settings) (old new : World) (outcome : Outcome) where
   pub refused_words : (word : ℕ) → AreRefusedAt words word → new.stock ≡ old.stock → new.io ≡ old.io → HasSaidOn (end_line (end.Usage word)) old.err new.err
-      → outcome ≡ record { status = status_of (end.Usage word) 0; end = end.Usage word; last_code = 0 } → HasRunWords words path lang old new outcome
-  refused_words word refused untouched same said is = subst (λ (o : Outcome). HasRunWords words path lang old new o) (sym is)
+      → outcome ≡ record { status = status_of (end.Usage word) 0; end = end.Usage word; last_code = 0 } → HasRunWords words settings old new outcome
+  refused_words word refused untouched same said is = subst (λ (o : Outcome). HasRunWords words settings old new o) (sym is)
       (inl (record { word = word; end_is = refl; refused = refused; silent = record { link_is = same; said = said; code_is = refl; status_is = refl }; untouched = untouched }))
 
   -- memory ran out as the words were read
   pub unread_words : IsToolWords words → new.stock ≡ old.stock → new.io ≡ old.io → HasSaidOn (end_line end.OutOfMemory) old.err new.err
-      → outcome ≡ record { status = status_of end.OutOfMemory 0; end = end.OutOfMemory; last_code = 0 } → HasRunWords words path lang old new outcome
+      → outcome ≡ record { status = status_of end.OutOfMemory 0; end = end.OutOfMemory; last_code = 0 } → HasRunWords words settings old new outcome
   unread_words named untouched same said is = inr (
     named.0,
     named.1,
-    ended_before named.0 path lang old new outcome end.OutOfMemory
+    ended_before named.0 settings old new outcome end.OutOfMemory
         (inl (record { end_is = refl; begun = inl (record { files_are = ap (λ (s : Stock). s.files.told) untouched; counts = inl (ap (λ (s : Stock). s.files.counts) untouched) }) })) same said is,
   )
 

@@ -9,6 +9,7 @@ use Rattle.dc_session.specs.SessionState.{FilesState, SessionState}
 use Rattle.dc_run.specs.declared.outcome.End.TheVariants as end
 use Rattle.dc_run.specs.declared.outcome.Outcome.{Outcome}
 use Rattle.dc_run.specs.declared.outcome.ToolAnswer.{ToolAnswer}
+use Rattle.dc_run.specs.declared.settings.Settings.{Settings}
 use Rattle.dc_run.specs.declared.starting.Roots.{Roots}
 use Rattle.dc_run.specs.declared.tool.Tool.{Tool}
 use Rattle.dc_run.specs.declared.tool.Tool.TheVariants.{Communicate, LoadTemplate}
@@ -22,11 +23,11 @@ use Rattle.dc_run.specs.World.{LinkState, Stock, World}
 
 -- ---- the tools
 
--- the commands that came on the link were served: its status is the code of the last reply
+-- the commands that came on the link were served, and the session was finished: its status is the code of the last reply
 pub record HasCommunicated (start : SessionState) (old new : LinkState) (answer : ToolAnswer) (layers : List LayerState) (files : FilesState) : Type 0 where
   pub ended : LinkEnd OutOfMemory
   pub ended_is : answer.ended ≡ tool_end_of ended
-  pub served : IsServed start layers files old.talk new.talk old.input new.input ended answer.last_code
+  pub served : IsServed start layers files old new ended answer.last_code
   pub status_is : answer.status ≡ answer.last_code
 
 -- the template files were loaded, and the link wasn't used
@@ -55,23 +56,23 @@ pub record IsSilent (old new : World) (outcome : Outcome) : Type 0 where
 
 -- The layers were loaded, the tool ran over them, and what it left was saved, or not, by how it ended. The end is told behind what the
 -- tool told.
-pub record HasUsed (tool : Tool) (path lang : List ℕ) (old new : World) (outcome : Outcome) : Type 0 where
+pub record HasUsed (tool : Tool) (settings : Settings) (old new : World) (outcome : Outcome) : Type 0 where
   pub mid : Stock
   pub roots : Roots
-  pub started : HasStarted path old.stock.files mid roots
+  pub started : HasStarted settings.conf_path old.stock.files mid roots
   pub answer : ToolAnswer
   pub told : List ℕ
   pub layers : List LayerState
   pub files : FilesState
-  pub uses : Uses tool (begun mid roots lang (owner_of tool)) old.io new.io answer told layers files
+  pub uses : Uses tool (begun mid roots settings (owner_of tool)) old.io new.io answer told layers files
   pub finishes : Finishes layers new.stock.used answer.ended files new.stock.files outcome.end
   pub said : HasSaidOn (told ++ end_line outcome.end) old.err new.err
   pub code_is : outcome.last_code ≡ answer.last_code
   pub status_is : outcome.status ≡ status_of outcome.end answer.status
 
--- a run of a tool over the configuration at the path
-abbrev pub HasRunTool : Tool → List ℕ → List ℕ → World → World → Outcome → Type 0
-HasRunTool tool path lang old new outcome = (EndsBefore path old.stock.files new.stock outcome.end × IsSilent old new outcome) ⊎ HasUsed tool path lang old new outcome
+-- a run of a tool under these settings
+abbrev pub HasRunTool : Tool → Settings → World → World → Outcome → Type 0
+HasRunTool tool settings old new outcome = (EndsBefore settings.conf_path old.stock.files new.stock outcome.end × IsSilent old new outcome) ⊎ HasUsed tool settings old new outcome
 
 -- ---- the program
 
@@ -83,8 +84,7 @@ pub record AreRefused (words : List (List ℕ)) (old new : World) (outcome : Out
   pub silent : IsSilent old new outcome
   pub untouched : new.stock ≡ old.stock
 
--- What the program does with its words, over a configuration and for a user of a language: they are refused, or the tool that they name
--- ran.
-abbrev pub HasRunWords : List (List ℕ) → List ℕ → List ℕ → World → World → Outcome → Type 0
-HasRunWords words path lang old new outcome =
-    AreRefused words old new outcome ⊎ ((tool : Tool) × Names words tool × HasRunTool tool path lang old new outcome)
+-- What the program does with its words, under these settings: they are refused, or the tool that they name ran.
+abbrev pub HasRunWords : List (List ℕ) → Settings → World → World → Outcome → Type 0
+HasRunWords words settings old new outcome =
+    AreRefused words old new outcome ⊎ ((tool : Tool) × Names words tool × HasRunTool tool settings old new outcome)

@@ -5,7 +5,7 @@ use Rattle.dc_text.specs.Ascii.{newline}
 use Rattle.dc_outside.specs.Counts.{FaultRose, RefusalRose}
 use Rattle.dc_outside.specs.Told.{Counts}
 use Rattle.dc_layer.specs.State.{LayerState}
-use Rattle.dc_session.specs.Answers.{refusal}
+use Rattle.dc_session.specs.Refusals.{refusal}
 use Rattle.dc_session.specs.SessionState.{FilesState, SessionState}
 use Rattle.dc_session.specs.declared.template_loading.FileEnd.{FileEnd}
 use Rattle.dc_session.specs.declared.template_loading.FileEnd.TheVariants as file
@@ -13,6 +13,7 @@ use Rattle.dc_run.specs.declared.loading_templates.FilesLoaded.{FilesLoaded}
 use Rattle.dc_run.specs.declared.outcome.ToolAnswer.{ToolAnswer}
 use Rattle.dc_run.specs.declared.outcome.ToolEnd.{ToolEnd}
 use Rattle.dc_run.specs.declared.outcome.ToolEnd.TheVariants as tool
+use Rattle.dc_run.specs.declared.settings.Settings.{Settings}
 use Rattle.dc_run.specs.declared.starting.Roots.{Roots}
 use Rattle.dc_run.specs.declared.tool.Tool.{Tool}
 use Rattle.dc_run.specs.EndLines.{HasSaidOn}
@@ -78,14 +79,14 @@ pub record HasLoadedOver (start : SessionState) (paths : List (List ℕ)) (old n
 -- ---- a tool
 
 -- what a tool does, and what it tells
-abbrev pub HasUsedTool : Tool → Stock → Roots → List ℕ → LinkState → LinkState → LinkState → LinkState → ToolAnswer → List LayerState → FilesState → Type 0
-HasUsedTool tool stock roots lang old new err err_new answer layers files =
-    (told : List ℕ) × Uses tool (begun stock roots lang (owner_of tool)) old new answer told layers files × HasSaidOn told err err_new
+abbrev pub HasUsedTool : Tool → Stock → Roots → Settings → LinkState → LinkState → LinkState → LinkState → ToolAnswer → List LayerState → FilesState → Type 0
+HasUsedTool tool stock roots settings old new err err_new answer layers files =
+    (told : List ℕ) × Uses tool (begun stock roots settings (owner_of tool)) old new answer told layers files × HasSaidOn told err err_new
 
--- how the link counts its calls, by the end of the tool
+-- how the link counts its calls, by the end of the tool: where it failed and then no memory was there to finish the session, a fault
 abbrev pub ToolCounts : ToolEnd → Counts → Counts → Type 0
 ToolCounts tool.Done before now = now ≡ before
 ToolCounts tool.LinkFault before now = FaultRose before now
 ToolCounts tool.TooLong before now = now ≡ before
-ToolCounts tool.OutOfMemory before now = (now ≡ before) ⊎ RefusalRose before now
+ToolCounts tool.OutOfMemory before now = (now ≡ before) ⊎ FaultRose before now ⊎ RefusalRose before now
 ToolCounts (tool.FilesFault path) before now = now ≡ before

@@ -1,6 +1,7 @@
 -- What a run does before its tool: the configuration is read, a layer for each database that its roots reach is set up, and each is
 -- loaded.
-use Rattle.std.specs.Prelude.{◌≡◌, ◌⊎◌, ℕ, List, [], ◌∷◌, true, false, Option, Result, Ok, Err}
+use Rattle.std.specs.Prelude.{◌≡◌, ◌⊎◌, ℕ, List, [], ◌∷◌, true, false, Option, option_and_then, Result, Ok, Err}
+use Rattle.std.specs.Option.{option_or}
 use Rattle.dc_outside.specs.Disk.{Disk}
 use Rattle.dc_outside.specs.Counts.{FaultRose, RefusalRose}
 use Rattle.dc_outside.specs.Steps.{after_look}
@@ -9,14 +10,19 @@ use Rattle.dc_outside.specs.declared.files.FilesOp.TheVariants.{Read}
 use Rattle.dc_conf.specs.Configuration.{Configuration, IsAnswer, reached, plan_of}
 use Rattle.dc_conf.specs.declared.faults.ConfError.{ConfError}
 use Rattle.dc_conf.specs.declared.spec.LayerSpec.{LayerSpec}
+use Rattle.dc_proto.specs.Priorities.{priority_of}
+use Rattle.dc_proto.specs.declared.priority.Priority.{Priority}
+use Rattle.dc_question.specs.Questions.{Setting}
 use Rattle.dc_save.specs.Loading.{IsTextAt}
 use Rattle.dc_save.specs.declared.loading.LoadError.{LoadError}
+use Rattle.dc_session.specs.Asking.{nothing_asked, threshold_by}
 use Rattle.dc_session.specs.SessionState.{FilesState, SessionState}
 use Rattle.dc_shelf.specs.Shelves.{all_set_up, IsRefusedAt, LoadsAll}
 use Rattle.dc_shelf.specs.declared.shelf.NotSetUp.{NotSetUp}
 use Rattle.dc_store.specs.Plans.{stored}
 use Rattle.dc_run.specs.declared.outcome.End.{End}
 use Rattle.dc_run.specs.declared.outcome.End.TheVariants as end
+use Rattle.dc_run.specs.declared.settings.Settings.{Settings}
 use Rattle.dc_run.specs.declared.starting.Roots.{Roots}
 use Rattle.dc_run.specs.Ends.{end_of_conf, end_of_patterns, end_of_load}
 use Rattle.dc_run.specs.World.{Stock}
@@ -43,9 +49,25 @@ conf_read files path = after_look files Read path true
 
 -- ---- the start of a session
 
--- the session over these layers and files, by the plans of questions and of templates, for a user of the language and an owner
-abbrev pub begun : Stock → Roots → List ℕ → List ℕ → SessionState
-begun stock roots lang owner = record { store = stored stock.used []; files = stock.files; at = record { config = roots.config; templates = roots.templates; lang = lang }; owner = owner }
+-- the priority that was chosen: the first of the setting's and the configuration's word that is one
+abbrev pub chosen : Settings → Roots → Option Priority
+chosen settings roots = option_or (option_and_then priority_of settings.priority) (option_and_then priority_of roots.priority)
+
+-- where questions and templates stand in the layers, with the user's language
+abbrev pub setting_of : Roots → Settings → Setting
+setting_of roots settings = record { config = roots.config; templates = roots.templates; lang = settings.lang }
+
+-- the session over these layers and files, by the plans of questions and of templates, under these settings and for an owner: nothing is
+-- asked for yet
+abbrev pub begun : Stock → Roots → Settings → List ℕ → SessionState
+begun stock roots settings owner = record {
+  store = stored stock.used [];
+  files = stock.files;
+  at = setting_of roots settings;
+  owner = owner;
+  manner = record { threshold = threshold_by (chosen settings roots) stock.used (setting_of roots settings); nonint_seen = settings.nonint_seen };
+  asking = nothing_asked;
+}
 
 -- ---- the ends of a run before its tool: nothing is written
 
@@ -107,12 +129,13 @@ EndsBefore path old new how =
 
 -- ---- what is done before the tool, by the answer
 
--- all layers were loaded, and these are the plans of questions and of templates
+-- all layers were loaded, and these are the plans of questions and of templates, and the configuration's word for the priority
 pub record HasStarted (path : List ℕ) (old : FilesState) (new : Stock) (roots : Roots) : Type 0 where
   pub conf : Configuration
   pub loaded : HasLoaded path conf old new (Ok tt)
   pub config_is : roots.config ≡ plan_of conf (databases_of conf) conf.config
   pub templates_is : roots.templates ≡ plan_of conf (databases_of conf) conf.templates
+  pub priority_is : roots.priority ≡ conf.priority
 
 abbrev pub Starts : List ℕ → FilesState → Stock → Result Roots End → Type 0
 Starts path old new (Ok roots) = HasStarted path old new roots

@@ -7,8 +7,9 @@ use Rattle.dc_proto.specs.declared.command.Command.TheVariants.{LoadTemplateFile
 use Rattle.dc_store.specs.Plans.{StoreState}
 use Rattle.dc_question.specs.Ownership.{loaded}
 use Rattle.dc_question.specs.declared.errors.QuestionError.{QuestionError}
-use Rattle.dc_session.specs.Answers.{refusal, loading}
+use Rattle.dc_session.specs.Answers.{loading}
 use Rattle.dc_session.specs.Machine.{IsDoneInPart}
+use Rattle.dc_session.specs.Refusals.{refusal}
 use Rattle.dc_session.specs.SessionState.{SessionState}
 use Rattle.dc_session.specs.TemplateFiles.{Finds}
 use Rattle.dc_session.specs.declared.template_files.Found.{Found}

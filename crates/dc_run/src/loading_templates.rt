@@ -2,6 +2,8 @@
 ghost use Rattle.std.specs.Prelude.{◌≡◌, ◌||◌, [], is_some, length, map as each, true};
 ghost use Rattle.dc_conf.specs.Plans.{IsOver, are_disjoint};
 ghost use Rattle.dc_store.specs.Plans.{stored};
+ghost use Rattle.dc_session.specs.declared.asking.Asking.{Asking};
+ghost use Rattle.dc_session.specs.declared.manner.Manner.{Manner};
 ghost use Rattle.dc_run.specs.Inside.{end_text, is_unread, status_by, LoadsOne, LoadsFiles, HasLoadedOver};
 
 use crate::outcome::{ToolAnswer, ToolEnd};
@@ -21,9 +23,11 @@ trait TakesTemplates {
     ghost use Rattle.std.specs.Prelude.{◌≡◌};
     ghost use Rattle.dc_session.specs.SessionState.{SessionState};
     ghost use Rattle.dc_session.specs.FileLoading.{Loads};
+    ghost use Rattle.dc_session.specs.declared.asking.Asking.{Asking};
+    ghost use Rattle.dc_session.specs.declared.manner.Manner.{Manner};
 
-    /// The state that it works on.
-    ghost state_at: { Self → SessionState };
+    /// The state that it works on, of a session that asks so, which templates don't look at.
+    ghost state_at: { Self → Manner → Asking → SessionState };
 
     ghost Kept: { Type 0 };
 
@@ -32,7 +36,7 @@ trait TakesTemplates {
 
     /// Loads the templates of the file at the path for the owner of the state (debconf-loadtemplate(1)): all of them, or none.
     fn load_file(&mut self, path: &Text) -> Mem<FileEnd>
-        ensures loads { Loads path.now (state_at self.old) (state_at self.new) result }
+        ensures loads { (manner : Manner) (asking : Asking) → Loads path.now (state_at self.old manner asking) (state_at self.new manner asking) result }
         ensures kept { kept self.new ≡ kept self.old };
 }
 
@@ -50,11 +54,13 @@ impl<'s, 'f, F: Files> TakesTemplates for Loader<'s, 'f, F> {
     ghost use Rattle.std.specs.Borrow.{GName};
     ghost use Rattle.dc_store.specs.Plans.{stored};
 
-    ghost state_at = { λ s. record {
+    ghost state_at = { λ s manner asking. record {
       store = stored (each (λ b. (Layer-box b).state b.value) s.desk.questions.store.now.layers.items) s.desk.questions.store.now.told;
       files = record { told = F.told s.files.now; counts = F.counts s.files.now };
       at = s.desk.questions.setting;
       owner = s.desk.owner.now;
+      manner = manner;
+      asking = asking;
     } };
 
     ghost Kept = { GName × GName };
@@ -70,7 +76,7 @@ impl<'s, 'f, F: Files> TakesTemplates for Loader<'s, 'f, F> {
 }
 
 /// Loads the template files at the paths, in order, into these layers, by the plans of questions and of templates, for a user of the
-/// language and for an owner (debconf-loadtemplate(1)). A file that is refused is told on `err`, and the status is 1 where there was
+/// language and for an owner, whatever a session asks (debconf-loadtemplate(1)). A file that is refused is told on `err`, and the status is 1 where there was
 /// one. The layers are given back as they are then, in their order.
 pub fn load_template_files<E: Link, F: Files>(
     alloc: Global,
@@ -86,8 +92,8 @@ pub fn load_template_files<E: Link, F: Files>(
     requires config { IsOver config.now (length layers.old.items) }
     requires templates { IsOver templates.now (length layers.old.items) }
     requires disjoint { are_disjoint config.now templates.now ≡ true }
-    ensures { HasLoadedOver
-        (record { store = stored (each state layers.old.items) []; files = record { told = F.told files.old; counts = F.counts files.old }; at = record { config = config.now; templates = templates.now; lang = lang.now }; owner = owner.now }) paths.now
+    ensures { (manner : Manner) (asking : Asking) → HasLoadedOver
+        (record { store = stored (each state layers.old.items) []; files = record { told = F.told files.old; counts = F.counts files.old }; at = record { config = config.now; templates = templates.now; lang = lang.now }; owner = owner.now; manner = manner; asking = asking }) paths.now
         (record { talk = E.talk err.old; input = E.left err.old; counts = record { faults = E.faults err.old; refusals = E.refusals err.old } })
         (record { talk = E.talk err.new; input = E.left err.new; counts = record { faults = E.faults err.new; refusals = E.refusals err.new } })
         result (each state layers.new.items) (record { told = F.told files.new; counts = F.counts files.new }) }
@@ -127,10 +133,10 @@ fn load_files<S: TakesTemplates, E: Link>(
     err: &mut E,
     paths: &[Text],
 ) -> FilesLoaded
-    ensures loads { LoadsFiles (S.state_at session.old) paths.now
+    ensures loads { (manner : Manner) (asking : Asking) → LoadsFiles (S.state_at session.old manner asking) paths.now
         (record { talk = E.talk err.old; input = E.left err.old; counts = record { faults = E.faults err.old; refusals = E.refusals err.old } })
         (record { talk = E.talk err.new; input = E.left err.new; counts = record { faults = E.faults err.new; refusals = E.refusals err.new } })
-        result (S.state_at session.new) }
+        result (S.state_at session.new manner asking) }
     ensures kept { S.kept session.new ≡ S.kept session.old }
 {
     let mut refused = false;
@@ -160,10 +166,10 @@ fn load_one<S: TakesTemplates, E: Link>(
     err: &mut E,
     path: &Text,
 ) -> Result<bool, ToolEnd>
-    ensures loads { LoadsOne (S.state_at session.old) path.now
+    ensures loads { (manner : Manner) (asking : Asking) → LoadsOne (S.state_at session.old manner asking) path.now
         (record { talk = E.talk err.old; input = E.left err.old; counts = record { faults = E.faults err.old; refusals = E.refusals err.old } })
         (record { talk = E.talk err.new; input = E.left err.new; counts = record { faults = E.faults err.new; refusals = E.refusals err.new } })
-        result (S.state_at session.new) }
+        result (S.state_at session.new manner asking) }
     ensures kept { S.kept session.new ≡ S.kept session.old }
 {
     let kept = match path.copy() {

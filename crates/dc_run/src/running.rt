@@ -7,21 +7,22 @@ ghost use Rattle.dc_store.specs.Plans.{stored};
 ghost use Rattle.dc_run.specs.Crashes.{KeepsDatabases};
 ghost use Rattle.dc_run.specs.EndLines.{end_line, HasSaid};
 ghost use Rattle.dc_run.specs.Ends.{status_of, LinkCounts};
-ghost use Rattle.dc_run.specs.Headline.{HasRunWords, HasRunTool};
+ghost use Rattle.dc_run.specs.Headline.{HasRunWords, HasRunTool, HasCommunicated};
 ghost use Rattle.dc_run.specs.Inside.{HasUsedTool, ToolCounts};
+ghost use Rattle.dc_run.specs.Starting.{begun};
 
 use crate::finishing::finish_used;
 use crate::loading_templates::load_template_files;
 use crate::outcome::{End, Outcome, ToolAnswer, outcome_at, tool_end};
 use crate::settings::Settings;
-use crate::starting::{Roots, start};
+use crate::starting::{Roots, chosen, start};
 use crate::telling::tell_end;
 use crate::tool::{Tool, ToolError, read_tool};
 use dc_layer::Layer;
 use dc_outside::{Files, Link};
-use dc_session::serve_layers;
+use dc_session::{SessionSetup, serve_layers};
 use dc_shelf::Shelf;
-use dc_text::{List, Text};
+use dc_text::{List, Name, Text};
 use std::alloc::Global;
 
 /// Runs the tool that the words name, over the link `io` and the databases that the configuration at `settings.conf_path` names
@@ -44,7 +45,7 @@ pub fn run_words<L: Link, E: Link, F: Files>(
     requires used { shelf.old.used.items ≡ [] }
     // What the tool does is what the plain machine does, what was saved and stands in `used` are its layers, by the end, and the end is
     // told on `err`, but for what a write there that failed leaves out.
-    ensures ran { HasRunWords words.now settings.now.conf_path settings.now.lang
+    ensures ran { HasRunWords words.now settings.now
         (record {
           stock = record { files = record { told = F.told files.old; counts = F.counts files.old }; used = each (λ b. state (b.vtable, b.value)) shelf.old.used.items };
           io = record { talk = L.talk io.old; input = L.left io.old; counts = record { faults = L.faults io.old; refusals = L.refusals io.old } };
@@ -83,7 +84,7 @@ fn run_tool<L: Link, E: Link, F: Files>(
     requires blank { AreBlank (each (λ b. state (b.vtable, b.value)) shelf.old.files.items) }
     requires room { 16 ≤ length shelf.old.files.items }
     requires used { shelf.old.used.items ≡ [] }
-    ensures ran { HasRunTool tool.now settings.now.conf_path settings.now.lang
+    ensures ran { HasRunTool tool.now settings.now
         (record {
           stock = record { files = record { told = F.told files.old; counts = F.counts files.old }; used = each (λ b. state (b.vtable, b.value)) shelf.old.used.items };
           io = record { talk = L.talk io.old; input = L.left io.old; counts = record { faults = L.faults io.old; refusals = L.refusals io.old } };
@@ -104,7 +105,7 @@ fn run_tool<L: Link, E: Link, F: Files>(
                 alloc,
                 tool,
                 &roots,
-                &settings.lang,
+                settings,
                 io,
                 err,
                 files,
@@ -126,7 +127,7 @@ fn use_tool<L: Link, E: Link, F: Files>(
     alloc: Global,
     tool: &Tool,
     roots: &Roots,
-    lang: &Text,
+    settings: &Settings,
     io: &mut L,
     err: &mut E,
     files: &mut F,
@@ -136,7 +137,7 @@ fn use_tool<L: Link, E: Link, F: Files>(
     requires templates { IsOver roots.now.templates (length used.old.items) }
     requires disjoint { are_disjoint roots.now.config roots.now.templates ≡ true }
     ensures uses { HasUsedTool tool.now
-        (record { files = record { told = F.told files.old; counts = F.counts files.old }; used = each state used.old.items }) roots.now lang.now
+        (record { files = record { told = F.told files.old; counts = F.counts files.old }; used = each state used.old.items }) roots.now settings.now
         (record { talk = L.talk io.old; input = L.left io.old; counts = record { faults = L.faults io.old; refusals = L.refusals io.old } })
         (record { talk = L.talk io.new; input = L.left io.new; counts = record { faults = L.faults io.new; refusals = L.refusals io.new } })
         (record { talk = E.talk err.old; input = E.left err.old; counts = record { faults = E.faults err.old; refusals = E.refusals err.old } })
@@ -145,23 +146,7 @@ fn use_tool<L: Link, E: Link, F: Files>(
     ensures link_counts { ToolCounts result.ended (record { faults = L.faults io.old; refusals = L.refusals io.old }) (record { faults = L.faults io.new; refusals = L.refusals io.new }) }
 {
     match tool {
-        Tool::Communicate { owner } => {
-            let served = serve_layers(
-                alloc,
-                io,
-                files,
-                used,
-                &roots.config,
-                &roots.templates,
-                lang,
-                owner,
-            );
-            ToolAnswer {
-                ended: tool_end(served.end),
-                last_code: served.last_code,
-                status: served.last_code,
-            }
-        }
+        Tool::Communicate { owner } => communicate(alloc, owner, roots, settings, io, files, used),
         Tool::LoadTemplate { owner, paths } => load_template_files(
             alloc,
             err,
@@ -169,10 +154,52 @@ fn use_tool<L: Link, E: Link, F: Files>(
             used,
             &roots.config,
             &roots.templates,
-            lang,
+            &settings.lang,
             owner,
             paths,
         ),
+    }
+}
+
+// The commands that come on the link are served over the layers, for the owner.
+fn communicate<L: Link, F: Files>(
+    alloc: Global,
+    owner: &Name,
+    roots: &Roots,
+    settings: &Settings,
+    io: &mut L,
+    files: &mut F,
+    used: &mut Vec<Box<dyn Layer>>,
+) -> ToolAnswer
+    requires config { IsOver roots.now.config (length used.old.items) }
+    requires templates { IsOver roots.now.templates (length used.old.items) }
+    requires disjoint { are_disjoint roots.now.config roots.now.templates ≡ true }
+    ensures served { HasCommunicated
+        (begun (record { files = record { told = F.told files.old; counts = F.counts files.old }; used = each state used.old.items }) roots.now settings.now owner.now)
+        (record { talk = L.talk io.old; input = L.left io.old; counts = record { faults = L.faults io.old; refusals = L.refusals io.old } })
+        (record { talk = L.talk io.new; input = L.left io.new; counts = record { faults = L.faults io.new; refusals = L.refusals io.new } })
+        result (each state used.new.items) (record { told = F.told files.new; counts = F.counts files.new }) }
+    ensures link_counts { ToolCounts result.ended (record { faults = L.faults io.old; refusals = L.refusals io.old }) (record { faults = L.faults io.new; refusals = L.refusals io.new }) }
+{
+    let setup = SessionSetup {
+        owner,
+        lang: &settings.lang,
+        threshold: chosen(settings, roots),
+        nonint_seen: settings.nonint_seen,
+    };
+    let served = serve_layers(
+        alloc,
+        io,
+        files,
+        used,
+        &roots.config,
+        &roots.templates,
+        &setup,
+    );
+    ToolAnswer {
+        ended: tool_end(served.end),
+        last_code: served.last_code,
+        status: served.last_code,
     }
 }
 

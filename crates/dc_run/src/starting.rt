@@ -1,28 +1,33 @@
 // What a run does before its tool.
-ghost use Rattle.std.specs.Prelude.{◌≡◌, ◌≤◌, ◌∷◌, [], length, map as each, IfOk, true};
+ghost use Rattle.std.specs.Prelude.{◌≡◌, ◌≤◌, ◌∷◌, [], length, map as each, IfOk, true, option_and_then, option_copied};
 ghost use Rattle.std.specs.List.{AllByRecursion};
 ghost use Rattle.dc_conf.specs.Configuration.{plan_of, IsAnswer, AreDisjoint};
 ghost use Rattle.dc_conf.specs.Plans.{IsOver, are_disjoint};
+ghost use Rattle.dc_proto.specs.Priorities.{priority_of};
 ghost use Rattle.dc_shelf.specs.Shelves.{AreBlank, AreFiles, LoadsAll, all_set_up};
 ghost use Rattle.dc_save.specs.Loading.{text_in};
 ghost use Rattle.dc_run.specs.Ends.{end_of_conf as end_of_conf_by, end_of_patterns as end_of_patterns_by, end_of_load as end_of_load_by};
-ghost use Rattle.dc_run.specs.Starting.{Starts, ReadsConf, IsSomeConfiguration, databases_of};
+ghost use Rattle.dc_run.specs.Starting.{Starts, ReadsConf, IsSomeConfiguration, databases_of, chosen as chosen_of};
 
 use crate::outcome::{End, PatternAt};
+use crate::settings::Settings;
 use dc_conf::spec::LayerSpec;
 use dc_conf::{Conf, ConfError, Plan, ResolveError, Resolved, read_conf};
 use dc_layer::{Layer, PatternError};
 use dc_outside::{Files, FilesError};
+use dc_proto::Priority;
 use dc_save::LoadError;
 use dc_shelf::{NotSetUp, Shelf, load_all, set_up_all};
-use dc_text::{List, Text};
+use dc_text::{List, Mem, Text};
 use std::alloc::Global;
 
-/// The plans of the databases of questions and of templates, over the layers in `used`.
+/// What a tool takes from the configuration: the plans of the databases of questions and of templates, over the layers in `used`, and the
+/// word for the least priority of a question that is shown (debconf.conf(5), `Priority`).
 #[derive(Drop)]
 pub struct Roots {
     pub config: Plan,
     pub templates: Plan,
+    pub priority: Option<Text>,
 }
 
 /// Reads the configuration, and sets up and loads a layer for each database that its roots reach.
@@ -48,13 +53,17 @@ pub fn start<F: Files>(
         // No root is unknown, as a configuration with such a one is refused.
         Err(_) => return Err(End::OutOfMemory),
     };
+    let priority = match copied(conf.priority()) {
+        Ok(priority) => priority,
+        Err(_) => return Err(End::OutOfMemory),
+    };
     let Resolved { specs, plans } = resolved;
     match set_up_all(shelf, specs.as_slice()) {
         Ok(()) => {}
         Err(refused) => return Err(end_of_patterns(refused)),
     }
     match load_used(alloc, files, specs.as_slice(), &mut shelf.used) {
-        Ok(()) => Ok(both(plans)),
+        Ok(()) => Ok(roots_of(plans, priority)),
         Err(error) => Err(end_of_load(error)),
     }
 }
@@ -74,15 +83,49 @@ fn load_used<F: Files>(
     load_all(alloc, files, specs, used.as_mut_slice())
 }
 
-// The two plans of the roots.
-fn both(plans: List<Plan>) -> Roots
+// The two plans of the roots, and the word for the priority.
+fn roots_of(plans: List<Plan>, priority: Option<Text>) -> Roots
     requires { length plans ≡ 2 }
-    ensures { plans ≡ result.config ∷ result.templates ∷ [] }
+    ensures plans { plans ≡ result.config ∷ result.templates ∷ [] }
+    ensures priority { result.priority ≡ priority }
 {
     let mut left = plans;
     match (left.pop(), left.pop()) {
-        (Some(templates), Some(config)) => Roots { config, templates },
+        (Some(templates), Some(config)) => Roots {
+            config,
+            templates,
+            priority,
+        },
         _ => unreachable!(),
+    }
+}
+
+fn copied(text: Option<&Text>) -> Mem<Option<Text>>
+    ensures { IfOk result (λ copy. copy ≡ option_copied text.entry) }
+{
+    match text {
+        None => Ok(None),
+        Some(text) => Ok(Some(text.copy()?)),
+    }
+}
+
+/// The priority that was chosen: the first of the setting's and the configuration's word that is one (debconf(7)).
+pub fn chosen(settings: &Settings, roots: &Roots) -> Option<Priority>
+    ensures { result ≡ chosen_of settings.now roots.now }
+{
+    match priority_in(&settings.priority) {
+        Some(priority) => Some(priority),
+        None => priority_in(&roots.priority),
+    }
+}
+
+// The priority that the word names, where there is one.
+fn priority_in(word: &Option<Text>) -> Option<Priority>
+    ensures { result ≡ option_and_then priority_of word.now }
+{
+    match word {
+        None => None,
+        Some(word) => Priority::read(word.bytes()),
     }
 }
 

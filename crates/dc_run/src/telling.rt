@@ -1,7 +1,7 @@
 // What is told on standard error, in pieces for which no memory is taken.
 ghost use Rattle.std.specs.Prelude.{◌≡◌, ◌∷◌, ◌++◌, [], decimal};
 ghost use Rattle.dc_text.specs.Ascii.{newline};
-ghost use Rattle.dc_session.specs.Answers.{refusal};
+ghost use Rattle.dc_session.specs.Refusals.{refusal};
 ghost use Rattle.dc_run.specs.EndLines.{end_line, place_text, HasSaid};
 ghost use Rattle.dc_run.specs.Inside.{end_text, told_line};
 ghost use Rattle.dc_run.specs.Kinds.{kind_word as kind_word_of};

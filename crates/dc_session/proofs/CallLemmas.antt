@@ -1,6 +1,6 @@
 -- What becomes of a command, from what the call on questions answered and what is said of it.
 use Rattle.std.proofs.Common.{◌≡◌, ℕ, List, [], refl, sym, ap, subst, ◌∙◌, inl, inr}
-use Rattle.std.specs.Prelude.{Bool, true, false, Result, Ok, Err, IfOk}
+use Rattle.std.specs.Prelude.{Result, Ok, Err, IfOk}
 use Rattle.dc_text.specs.declared.memory.OutOfMemory.{OutOfMemory}
 use Rattle.dc_proto.specs.declared.command.Command.{Command}
 use Rattle.dc_proto.specs.declared.reply.Reply.{Reply}
@@ -11,28 +11,30 @@ use Rattle.dc_question.specs.Changes.{Does as DoesChange}
 use Rattle.dc_question.specs.Questions.{Answers}
 use Rattle.dc_question.specs.declared.errors.QuestionError.{QuestionError}
 use Rattle.dc_question.specs.declared.errors.QuestionError.TheVariants as error
-use Rattle.dc_serve.specs.declared.heeds.Heeded.{Heeded}
 use Rattle.dc_session.specs.SessionState.{FilesState, SessionState}
-use Rattle.dc_session.specs.Answers.{Outcome, answer, names_on, refusal, does, says, no_template}
+use Rattle.dc_session.specs.Answers.{Outcome, answer, names_on, does, says}
 use Rattle.dc_session.specs.Inside.{TellsRefusal, Tells, Comes}
-use Rattle.dc_session.specs.Machine.{Gives, HasDone, Does, replied}
+use Rattle.dc_session.specs.Machine.{Gives, Does}
+use Rattle.dc_session.specs.Refusals.{refusal, no_template}
+use Rattle.dc_session.specs.declared.stepped.Stepped.{Stepped}
+use Rattle.dc_session.specs.declared.stepped.Stepped.TheVariants.{Replied}
 use Rattle.dc_session.specs.declared.template_files.Found.{Found}
 
 -- ---- what is said of a refusal
 
-pub no_template_told : (field name : List ℕ) (result : Result Heeded OutOfMemory) → IfOk result (λ did. did ≡ replied (no_template name)) → TellsRefusal field (error.NoTemplate name) result
+pub no_template_told : (field name : List ℕ) (result : Result Stepped OutOfMemory) → IfOk result (λ did. did ≡ Replied (no_template name)) → TellsRefusal field (error.NoTemplate name) result
 no_template_told field name (Ok did) told = told
 no_template_told field name (Err memory) told = tt
 
 -- ---- what a command comes to
 
 module _ (names : List (List ℕ)) (old new : SessionState) (r : Reply) (row : Result StoreState QuestionError) (same : new ≡ record old { store = new.store }) where
-  not_done : (e : QuestionError) → (row ≡ Err e) × (new.store ≡ old.store) → (did : Heeded) → did ≡ replied (refusal [] e) → Comes (does old.store r row) names old new (Ok did)
+  not_done : (e : QuestionError) → (row ≡ Err e) × (new.store ≡ old.store) → (did : Stepped) → did ≡ Replied (refusal [] e) → Comes (does old r row) names old new (Ok did)
   not_done e left did told = rw left.0 (told, same ∙ ap (λ (s : StoreState). record old { store = s }) left.1)
 
   -- a call that writes
-  pub wrote : AreSameButAll names old.store.layers new.store.layers → (call : Result (Unit {0}) QuestionError) → DoesChange call row old.store new.store → (result : Result Heeded OutOfMemory)
-      → Tells [] (λ _. r) call result → Comes (does old.store r row) names old new result
+  pub wrote : AreSameButAll names old.store.layers new.store.layers → (call : Result (Unit {0}) QuestionError) → DoesChange call row old.store new.store → (result : Result Stepped OutOfMemory)
+      → Tells [] (λ _. r) call result → Comes (does old r row) names old new result
   wrote others (Ok unit) left (Ok did) told = rw left (told, same)
   wrote others (Err (error.NoQuestion name)) left (Ok did) told = not_done (error.NoQuestion name) left did told
   wrote others (Err (error.NoTemplate name)) left (Ok did) told = not_done (error.NoTemplate name) left did told
@@ -44,16 +46,16 @@ module _ (names : List (List ℕ)) (old new : SessionState) (r : Reply) (row : R
 
 module _ (names : List (List ℕ)) (old : SessionState) where
   -- a command that writes nothing
-  pub unwritten : (outcome : Outcome) → outcome.store ≡ old.store → (result : Result Heeded OutOfMemory) → IfOk result (λ did. did ≡ replied outcome.reply) → Comes outcome names old old result
-  unwritten outcome same (Ok did) told = (told, ap (λ (s : StoreState). record old { store = s }) (sym same))
-  unwritten outcome same (Err memory) told = (same_all_refl names old.store.layers, refl)
+  pub unwritten : (outcome : Outcome) → outcome.store ≡ old.store → outcome.asking ≡ old.asking → (result : Result Stepped OutOfMemory) → IfOk result (λ did. did ≡ outcome.stepped) → Comes outcome names old old result
+  unwritten outcome same kept (Ok did) told = (told, λ i. record old { store = sym same i; asking = sym kept i })
+  unwritten outcome same kept (Err memory) told = (same_all_refl names old.store.layers, refl)
 
   module _ {A : Type 0} (field : List ℕ) (reply : A → Reply) (reading : Result A QuestionError) where
-    not_read : (e : QuestionError) → reading ≡ Err e → (did : Heeded) → did ≡ replied (refusal field e) → Comes (says old.store field reply reading) names old old (Ok did)
+    not_read : (e : QuestionError) → reading ≡ Err e → (did : Stepped) → did ≡ Replied (refusal field e) → Comes (says old field reply reading) names old old (Ok did)
     not_read e answers did told = rw answers (told, refl)
 
     -- a call that reads
-    pub read : (call : Result A QuestionError) → Answers call reading → (result : Result Heeded OutOfMemory) → Tells field reply call result → Comes (says old.store field reply reading) names old old result
+    pub read : (call : Result A QuestionError) → Answers call reading → (result : Result Stepped OutOfMemory) → Tells field reply call result → Comes (says old field reply reading) names old old result
     read (Ok a) answers (Ok did) told = rw answers (told, refl)
     read (Err (error.NoQuestion name)) answers (Ok did) told = not_read (error.NoQuestion name) answers did told
     read (Err (error.NoTemplate name)) answers (Ok did) told = not_read (error.NoTemplate name) answers did told
@@ -66,7 +68,7 @@ module _ (names : List (List ℕ)) (old : SessionState) where
 -- ---- what the call of the session did
 
 -- what was found, then what the command came to
-pub comes_does : (command : Command) (found : Found) (old new : SessionState) (files : FilesState) (outcome : Outcome) (names : List (List ℕ)) (result : Result Heeded OutOfMemory)
+pub comes_does : (command : Command) (found : Found) (old new : SessionState) (files : FilesState) (outcome : Outcome) (names : List (List ℕ)) (result : Result Stepped OutOfMemory)
     → Gives command old.files found files → outcome ≡ answer old command found → names ≡ names_on old command found
     → Comes outcome names (record old { files = files }) new result → Does command old new result
 comes_does command found old new files outcome names (Ok did) gives alike same comes =
@@ -74,8 +76,8 @@ comes_does command found old new files outcome names (Ok did) gives alike same c
     record {
       found = found;
       gives = subst (Gives command old.files found) kept gives;
-      heeded_is = comes.0 ∙ ap (λ (o : Outcome). replied o.reply) alike;
-      new_is = comes.1 ∙ (λ i. record old { store = (alike i).store; files = kept i });
+      stepped_is = comes.0 ∙ ap (λ (o : Outcome). o.stepped) alike;
+      new_is = comes.1 ∙ (λ i. record old { store = (alike i).store; files = kept i; asking = (alike i).asking });
     }
 comes_does command found old new files outcome names (Err memory) gives alike same comes =
     let kept : files ≡ new.files = ap (λ (s : SessionState). s.files) (sym comes.1) in
@@ -85,4 +87,5 @@ comes_does command found old new files outcome names (Err memory) gives alike sa
       others = subst (λ (ns : List (List ℕ)). AreSameButAll ns old.store.layers new.store.layers) same comes.0;
       at = ap (λ (s : SessionState). s.at) comes.1;
       owner = ap (λ (s : SessionState). s.owner) comes.1;
+      manner = ap (λ (s : SessionState). s.manner) comes.1;
     }

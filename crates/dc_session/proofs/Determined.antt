@@ -1,6 +1,6 @@
 -- Where the files tell of the disk and of their calls, a session is a function of its state, a line and the files that are left.
 use Rattle.std.proofs.Common.{◌≡◌, ℕ, Bool, true, false, List, [], ◌∷◌, ◌++◌, Option, None, Some, refl, ap, sym, subst, ◌∙◌}
-use Rattle.std.specs.Prelude.{Ok, Err, IfSome, map as each}
+use Rattle.std.specs.Prelude.{IfSome, map as each}
 use Rattle.std.specs.List.{list_any}
 use Rattle.std.proofs.lemmas.List.{append_cancel_left}
 use Rattle.dc_words.specs.declared.stream.Line.{Line}
@@ -9,11 +9,9 @@ use Rattle.dc_outside.specs.Disk.{Disk, bytes_at}
 use Rattle.dc_outside.specs.Steps.{after_look}
 use Rattle.dc_outside.specs.Told.{Told}
 use Rattle.dc_outside.specs.declared.files.FilesCall.{FilesCall}
-use Rattle.dc_outside.specs.declared.files.FilesOp.{FilesOp}
 use Rattle.dc_outside.specs.declared.files.FilesOp.TheVariants.{Read}
 use Rattle.dc_proto.specs.Commands.{heard}
 use Rattle.dc_proto.specs.declared.command.Command.{Command}
-use Rattle.dc_proto.specs.declared.command.Command.TheVariants.{Get, Set, Reset, Subst, Fget, Fset, Metaget, Register, Unregister, Purge, LoadTemplateFile}
 use Rattle.dc_proto.specs.declared.command.Heard.{Heard}
 use Rattle.dc_proto.specs.declared.command.Heard.TheVariants.{Nothing, Known, Refused}
 use Rattle.dc_serve.specs.declared.heeds.Heeded.{Heeded}
@@ -22,9 +20,10 @@ use Rattle.dc_template.specs.Reading.{Reads, IsBad}
 use Rattle.dc_template.specs.Stanzas.{Stanza}
 use Rattle.dc_template.proofs.FaultLaws.{one_fault, not_both}
 use Rattle.dc_session.specs.Answers.{answer, after_command}
-use Rattle.dc_session.specs.Machine.{Heeds, HeedsHeard, HasDone, Gives, replied}
+use Rattle.dc_session.specs.Machine.{Heeds, Steps, StepsHeard, HasDone, Gives, Looks, file_of, sent_in}
 use Rattle.dc_session.specs.SessionState.{FilesState, SessionState}
 use Rattle.dc_session.specs.TemplateFiles.{Finds, HasRead}
+use Rattle.dc_session.specs.declared.stepped.Stepped.{Stepped}
 use Rattle.dc_session.specs.declared.template_files.Found.{Found}
 use Rattle.dc_session.specs.declared.template_files.Found.TheVariants.{Unreadable, Missing, Faulty, Templates}
 
@@ -94,67 +93,58 @@ module _ (disk : Disk) (path : List ℕ) (old new : FilesState) (told : IsTold d
   finds_told (Templates templates) finds = looked true finds.1.told_is
 
 module _ (disk : Disk) (old new : FilesState) (told : IsTold disk old.told) where
-  one_given : (command : Command) (found other : Found) → Gives command old found new → Gives command old other new → found ≡ other
-  one_given (Get word) found other first second = first.0 ∙ sym second.0
-  one_given (Set word text) found other first second = first.0 ∙ sym second.0
-  one_given (Reset word) found other first second = first.0 ∙ sym second.0
-  one_given (Subst word key text) found other first second = first.0 ∙ sym second.0
-  one_given (Fget word key) found other first second = first.0 ∙ sym second.0
-  one_given (Fset word key text) found other first second = first.0 ∙ sym second.0
-  one_given (Metaget word field) found other first second = first.0 ∙ sym second.0
-  one_given (Register template name) found other first second = first.0 ∙ sym second.0
-  one_given (Unregister word) found other first second = first.0 ∙ sym second.0
-  one_given Purge found other first second = first.0 ∙ sym second.0
-  one_given (LoadTemplateFile path owner) found other first second = one_found disk path old new told found other first second
+  one_looked : (path : Option (List ℕ)) (found other : Found) → Looks path old found new → Looks path old other new → found ≡ other
+  one_looked None found other first second = first.0 ∙ sym second.0
+  one_looked (Some path) found other first second = one_found disk path old new told found other first second
 
   same_told : new ≡ old → IsTold disk new.told
   same_told same = subst (λ (f : FilesState). IsTold disk f.told) (sym same) told
 
-  gives_told : (command : Command) (found : Found) → Gives command old found new → IsTold disk new.told
-  gives_told (Get word) found gives = same_told gives.1
-  gives_told (Set word text) found gives = same_told gives.1
-  gives_told (Reset word) found gives = same_told gives.1
-  gives_told (Subst word key text) found gives = same_told gives.1
-  gives_told (Fget word key) found gives = same_told gives.1
-  gives_told (Fset word key text) found gives = same_told gives.1
-  gives_told (Metaget word field) found gives = same_told gives.1
-  gives_told (Register template name) found gives = same_told gives.1
-  gives_told (Unregister word) found gives = same_told gives.1
-  gives_told Purge found gives = same_told gives.1
-  gives_told (LoadTemplateFile path owner) found gives = finds_told disk path old new told found gives
+  looks_told : (path : Option (List ℕ)) (found : Found) → Looks path old found new → IsTold disk new.told
+  looks_told None found looks = same_told looks.1
+  looks_told (Some path) found looks = finds_told disk path old new told found looks
 
 -- ---- one line
 
-module _ (disk : Disk) (old : SessionState) (told : IsTold disk old.files.told) (did other : Heeded) (new left : SessionState) (files : new.files ≡ left.files) where
-  done_once : (command : Command) → HasDone command old did new → HasDone command old other left → (did ≡ other) × (new ≡ left)
+module _ (disk : Disk) (old : SessionState) (told : IsTold disk old.files.told) (one other : Stepped) (new left : SessionState) (files : new.files ≡ left.files) where
+  done_once : (command : Command) → HasDone command old one new → HasDone command old other left → (one ≡ other) × (new ≡ left)
   done_once command first second =
       let same : first.found ≡ second.found
-      = one_given disk old.files left.files told command first.found second.found (subst (λ (f : FilesState). Gives command old.files first.found f) files first.gives) second.gives in (
-        first.heeded_is ∙ ap (λ (f : Found). replied (answer old command f).reply) same ∙ sym second.heeded_is,
+      = one_looked disk old.files left.files told (file_of command) first.found second.found (subst (λ (f : FilesState). Gives command old.files first.found f) files first.gives) second.gives in (
+        first.stepped_is ∙ ap (λ (f : Found). (answer old command f).stepped) same ∙ sym second.stepped_is,
         first.new_is ∙ (λ i. after_command old command (same i) (files i)) ∙ sym second.new_is,
       )
 
-  heard_once : (said : Heard) → HeedsHeard said old did new → HeedsHeard said old other left → (did ≡ other) × (new ≡ left)
+  heard_once : (said : Heard) → StepsHeard said old one new → StepsHeard said old other left → (one ≡ other) × (new ≡ left)
   heard_once Nothing first second = (first.0 ∙ sym second.0, first.1 ∙ sym second.1)
   heard_once (Known command) first second = done_once command first second
   heard_once (Refused reply) first second = (first.0 ∙ sym second.0, first.1 ∙ sym second.1)
 
-  heeds_once : (line : Line) → Heeds old line did new → Heeds old line other left → (did ≡ other) × (new ≡ left)
-  heeds_once TooLong first second = (first.0 ∙ sym second.0, first.1 ∙ sym second.1)
-  heeds_once (Whole line) first second = heard_once (heard false line) first second
+  steps_once : (line : Line) → Steps old line one new → Steps old line other left → (one ≡ other) × (new ≡ left)
+  steps_once TooLong first second = (first.0 ∙ sym second.0, first.1 ∙ sym second.1)
+  steps_once (Whole line) first second = heard_once (heard old.asking.escape line) first second
 
-module _ (disk : Disk) (old : SessionState) (told : IsTold disk old.files.told) (did : Heeded) (new : SessionState) where
+heeds_once : (disk : Disk) (old : SessionState) → IsTold disk old.files.told → (did other : Heeded) (new left : SessionState) → new.files ≡ left.files → (line : Line)
+    → Heeds old line did new → Heeds old line other left → (did ≡ other) × (new ≡ left)
+heeds_once disk old told did other new left files line first second =
+    let same = steps_once disk old told first.stepped second.stepped new left files line first.steps second.steps in
+    (first.did_is ∙ ap (sent_in old.asking.escape) same.0 ∙ sym second.did_is, same.1)
+
+module _ (disk : Disk) (old : SessionState) (told : IsTold disk old.files.told) (did : Stepped) (new : SessionState) where
   state_told : new ≡ old → IsTold disk new.files.told
   state_told same = same_told disk old.files new.files told (ap (λ (s : SessionState). s.files) same)
 
-  heard_told : (said : Heard) → HeedsHeard said old did new → IsTold disk new.files.told
-  heard_told Nothing heeds = state_told heeds.1
-  heard_told (Known command) heeds = gives_told disk old.files new.files told command heeds.found heeds.gives
-  heard_told (Refused reply) heeds = state_told heeds.1
+  heard_told : (said : Heard) → StepsHeard said old did new → IsTold disk new.files.told
+  heard_told Nothing steps = state_told steps.1
+  heard_told (Known command) steps = looks_told disk old.files new.files told (file_of command) steps.found steps.gives
+  heard_told (Refused reply) steps = state_told steps.1
 
-  heeds_told : (line : Line) → Heeds old line did new → IsTold disk new.files.told
-  heeds_told TooLong heeds = state_told heeds.1
-  heeds_told (Whole line) heeds = heard_told (heard false line) heeds
+  steps_told : (line : Line) → Steps old line did new → IsTold disk new.files.told
+  steps_told TooLong steps = state_told steps.1
+  steps_told (Whole line) steps = heard_told (heard old.asking.escape line) steps
+
+heeds_told : (disk : Disk) (old : SessionState) → IsTold disk old.files.told → (did : Heeded) (new : SessionState) (line : Line) → Heeds old line did new → IsTold disk new.files.told
+heeds_told disk old told did new line heeds = steps_told disk old told heeds.stepped new line heeds.steps
 
 -- ---- courses
 

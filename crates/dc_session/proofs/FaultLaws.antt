@@ -1,89 +1,157 @@
 -- A read fault is told exactly where the read of a template file failed.
-use Rattle.std.proofs.Common.{◌≡◌, ◌⊎◌, inl, inr, ℕ, Bool, true, false, List, [], Option, Result, Ok, Err, refl, sym, ap, ◌∙◌, arith}
-use Rattle.std.specs.Prelude.{unwrap_or}
+use Rattle.std.proofs.Common.{◌≡◌, ◌⊎◌, inl, inr, ℕ, Bool, true, false, List, [], ◌∷◌, Option, None, Some, Result, Ok, Err, refl, sym, ap, subst, ◌∙◌, arith}
+use Rattle.std.specs.Prelude.{◌+◌, ⊤, codes}
+use Rattle.std.specs.Option.{option_map_or}
 use Rattle.dc_outside.specs.Counts.{FaultRose}
 use Rattle.dc_outside.specs.Told.{Counts}
 use Rattle.dc_proto.specs.declared.command.Command.{Command}
-use Rattle.dc_proto.specs.declared.command.Command.TheVariants.{Get, Set, Reset, Subst, Fget, Fset, Metaget, Register, Unregister, Purge, LoadTemplateFile}
+use Rattle.dc_proto.specs.declared.command.Command.TheVariants.{Version, Capb, SetTitle, Title, Input, BeginBlock, EndBlock, Go, Clear, Stop, Get, Set, Reset, Subst, Fget, Fset, Metaget, Register, Unregister, Purge, ProgressStart, ProgressSet, ProgressStep, ProgressInfo, ProgressStop, LoadTemplateFile}
 use Rattle.dc_proto.specs.declared.reply.Reply.{Reply}
+use Rattle.dc_proto.specs.Replies.{reply}
+use Rattle.dc_question.specs.Ownership.{unregistered, purged}
 use Rattle.dc_question.specs.declared.errors.QuestionError.{QuestionError}
 use Rattle.dc_question.specs.declared.errors.QuestionError.TheVariants as error
-use Rattle.dc_serve.specs.declared.heeds.Heeded.TheVariants.{Replied}
-use Rattle.dc_store.specs.Plans.{StoreState}
-use Rattle.dc_session.specs.Answers.{refusal, says, does, is_truth, loading, answer}
+use Rattle.dc_store.specs.Plans.{StoreState, owned}
+use Rattle.dc_session.specs.Asking.{description, is_to_be_shown, prepared_if, first_busy, bar_at}
+use Rattle.dc_session.specs.Answers.{Outcome, says, does, by, on, there, asks, titled, with_bar, unless_busy, gone, tells, told_code, is_supported, is_truth, answer}
 use Rattle.dc_session.specs.Machine.{Gives, HasDone}
+use Rattle.dc_session.specs.Refusals.{refusal, is_busy, no_progress_bar}
 use Rattle.dc_session.specs.SessionState.{FilesState, SessionState}
+use Rattle.dc_session.specs.declared.asking.Bar.{Bar}
+use Rattle.dc_session.specs.declared.stepped.Stepped.{Stepped}
+use Rattle.dc_session.specs.declared.stepped.Stepped.TheVariants.{Silent, Replied, Stopped}
 use Rattle.dc_session.specs.declared.template_files.Found.{Found}
 use Rattle.dc_session.specs.declared.template_files.Found.TheVariants.{Unreadable, Missing, Faulty, Templates}
 
 -- a code that tells of no fault
-abbrev IsSound : Reply → Type 0
-IsSound reply = (reply.code ≡ 0) ⊎ (reply.code ≡ 10)
+abbrev IsSoundCode : ℕ → Type 0
+IsSoundCode code = (code ≡ 0) ⊎ (code ≡ 1) ⊎ (code ≡ 10) ⊎ (code ≡ 30)
 
-refusal_sound : (field : List ℕ) (e : QuestionError) → IsSound (refusal field e)
-refusal_sound field (error.NoQuestion name) = inr refl
-refusal_sound field (error.NoTemplate name) = inr refl
-refusal_sound field error.NoField = inr refl
-refusal_sound field (error.CantChange name) = inr refl
-refusal_sound field (error.Twice name) = inr refl
-refusal_sound field error.OutOfMemory = inr refl
+-- what tells of no fault
+abbrev IsSound : Stepped → Type 0
+IsSound Silent = ⊤
+IsSound (Replied reply) = IsSoundCode reply.code
+IsSound Stopped = ⊤
 
-says_sound : {A : Type 0} (store : StoreState) (field : List ℕ) (reply : A → Reply) (result : Result A QuestionError) → ((a : A) → IsSound (reply a)) → IsSound (says store field reply result).reply
-says_sound store field reply (Ok a) sound = sound a
-says_sound store field reply (Err e) sound = refusal_sound field e
+zero : IsSoundCode 0
+zero = inl refl
 
-does_sound : (store : StoreState) (reply : Reply) (result : Result StoreState QuestionError) → IsSound reply → IsSound (does store reply result).reply
-does_sound store reply (Ok new) sound = sound
-does_sound store reply (Err e) sound = refusal_sound [] e
+one : IsSoundCode 1
+one = inr (inl refl)
 
-fset_sound : (state : SessionState) (word key text : List ℕ) (found : Found) (b : Bool) → is_truth text ≡ b → IsSound (answer state (Fset word key text) found).reply
-fset_sound state word key text found true is = rw is (does_sound state.store _ _ (inl refl))
-fset_sound state word key text found false is = rw is (says_sound state.store [] _ _ (λ a. inr refl))
+ten : IsSoundCode 10
+ten = inr (inr (inl refl))
+
+thirty : IsSoundCode 30
+thirty = inr (inr (inr refl))
+
+refusal_sound : (field : List ℕ) (e : QuestionError) → IsSoundCode (refusal field e).code
+refusal_sound field (error.NoQuestion name) = ten
+refusal_sound field (error.NoTemplate name) = ten
+refusal_sound field error.NoField = ten
+refusal_sound field (error.CantChange name) = ten
+refusal_sound field (error.Twice name) = ten
+refusal_sound field error.OutOfMemory = ten
+
+says_sound : {A : Type 0} (state : SessionState) (field : List ℕ) (reply : A → Reply) (result : Result A QuestionError) → ((a : A) → IsSoundCode (reply a).code) → IsSound (says state field reply result).stepped
+says_sound state field reply (Ok a) sound = sound a
+says_sound state field reply (Err e) sound = refusal_sound field e
+
+does_sound : (state : SessionState) (reply : Reply) (result : Result StoreState QuestionError) → IsSoundCode reply.code → IsSound (does state reply result).stepped
+does_sound state reply (Ok new) sound = sound
+does_sound state reply (Err e) sound = refusal_sound [] e
+
+by_sound : {A : Type 0} (state : SessionState) (outcome : A → Outcome) (result : Result A QuestionError) → ((a : A) → IsSound (outcome a).stepped) → IsSound (by state outcome result).stepped
+by_sound state outcome (Ok a) sound = sound a
+by_sound state outcome (Err e) sound = refusal_sound [] e
+
+busy_sound : (state : SessionState) (busy : Option (List ℕ)) (outcome : Outcome) → IsSound outcome.stepped → IsSound (option_map_or (λ name. tells state (is_busy name)) busy outcome).stepped
+busy_sound state None outcome sound = sound
+busy_sound state (Some name) outcome sound = ten
+
+bar_sound : (bar : Option Bar) (outcome : Bar → Outcome) (none : Outcome) → ((b : Bar) → IsSound (outcome b).stepped) → IsSound none.stepped → IsSound (option_map_or outcome bar none).stepped
+bar_sound None outcome none sound nothing = nothing
+bar_sound (Some bar) outcome none sound nothing = sound bar
+
+gone_sound : (state : SessionState) (row : Result StoreState QuestionError) → IsSound (gone state row).stepped
+gone_sound state (Ok store) = zero
+gone_sound state (Err e) = refusal_sound [] e
+
+text_sound : (escape : Bool) → IsSoundCode (told_code escape)
+text_sound true = one
+text_sound false = zero
+
+fset_sound : (state : SessionState) (word key text : List ℕ) (found : Found) (b : Bool) → is_truth text ≡ b → IsSound (answer state (Fset word key text) found).stepped
+fset_sound state word key text found true is = rw is (does_sound state _ _ zero)
+fset_sound state word key text found false is = rw is (says_sound state [] _ _ (λ a. ten))
+
+version_sound : (state : SessionState) (version : Option (List ℕ)) (found : Found) (b : Bool) → is_supported version ≡ b → IsSound (answer state (Version version) found).stepped
+version_sound state version found true is = rw is zero
+version_sound state version found false is = rw is thirty
 
 -- a fault is told and counted, or neither
-abbrev IsToldAsCounted : Reply → Counts → Counts → Type 0
-IsToldAsCounted reply before now = ((reply.code ≡ 100) × FaultRose before now) ⊎ (IsSound reply × (now ≡ before))
+abbrev IsToldAsCounted : Stepped → Counts → Counts → Type 0
+IsToldAsCounted did before now = ((reply : Reply) × (did ≡ Replied reply) × (reply.code ≡ 100) × FaultRose before now) ⊎ (IsSound did × (now ≡ before))
 
 file_told : (state : SessionState) (path : List ℕ) (owner : Option (List ℕ)) (found : Found) (new : FilesState) → Gives (LoadTemplateFile path owner) state.files found new
-    → IsToldAsCounted (answer state (LoadTemplateFile path owner) found).reply state.files.counts new.counts
-file_told state path owner Unreadable new gives = inl (refl, gives.1)
-file_told state path owner Missing new gives = inr (inr refl, gives.counts)
-file_told state path owner (Faulty line) new gives = inr (inr refl, gives.2.counts)
-file_told state path owner (Templates templates) new gives = inr (does_sound state.store _ _ (inl refl), gives.1.counts)
+    → IsToldAsCounted (answer state (LoadTemplateFile path owner) found).stepped state.files.counts new.counts
+file_told state path owner Unreadable new gives = inl (_, refl, refl, gives.1)
+file_told state path owner Missing new gives = inr (ten, gives.counts)
+file_told state path owner (Faulty line) new gives = inr (ten, gives.2.counts)
+file_told state path owner (Templates templates) new gives = inr (does_sound state _ _ zero, gives.1.counts)
 
 told_as_counted : (state : SessionState) (command : Command) (found : Found) (new : FilesState) → Gives command state.files found new
-    → IsToldAsCounted (answer state command found).reply state.files.counts new.counts
-told_as_counted state (Get word) found new gives = inr (says_sound state.store [] _ _ (λ a. inl refl), ap (λ (f : FilesState). f.counts) gives.1)
-told_as_counted state (Set word text) found new gives = inr (does_sound state.store _ _ (inl refl), ap (λ (f : FilesState). f.counts) gives.1)
-told_as_counted state (Reset word) found new gives = inr (does_sound state.store _ _ (inl refl), ap (λ (f : FilesState). f.counts) gives.1)
-told_as_counted state (Subst word key text) found new gives = inr (does_sound state.store _ _ (inl refl), ap (λ (f : FilesState). f.counts) gives.1)
-told_as_counted state (Fget word key) found new gives = inr (says_sound state.store [] _ _ (λ a. inl refl), ap (λ (f : FilesState). f.counts) gives.1)
-told_as_counted state (Fset word key text) found new gives = inr (fset_sound state word key text found (is_truth text) refl, ap (λ (f : FilesState). f.counts) gives.1)
-told_as_counted state (Metaget word field) found new gives = inr (says_sound state.store field _ _ (λ a. inl refl), ap (λ (f : FilesState). f.counts) gives.1)
-told_as_counted state (Register template name) found new gives = inr (does_sound state.store _ _ (inl refl), ap (λ (f : FilesState). f.counts) gives.1)
-told_as_counted state (Unregister word) found new gives = inr (does_sound state.store _ _ (inl refl), ap (λ (f : FilesState). f.counts) gives.1)
-told_as_counted state Purge found new gives = inr (does_sound state.store _ _ (inl refl), ap (λ (f : FilesState). f.counts) gives.1)
+    → IsToldAsCounted (answer state command found).stepped state.files.counts new.counts
 told_as_counted state (LoadTemplateFile path owner) found new gives = file_told state path owner found new gives
+told_as_counted state (Version version) found new gives = inr (version_sound state version found (is_supported version) refl, ap (λ (f : FilesState). f.counts) gives.1)
+told_as_counted state (Capb words) found new gives = inr (zero, ap (λ (f : FilesState). f.counts) gives.1)
+told_as_counted state (SetTitle word) found new gives = inr (by_sound {A = List ℕ} state (λ text. asks state (reply 0 []) (titled state.asking text)) (on word (description state.store.layers state.at)) (λ text. zero), ap (λ (f : FilesState). f.counts) gives.1)
+told_as_counted state (Title text) found new gives = inr (zero, ap (λ (f : FilesState). f.counts) gives.1)
+told_as_counted state (Input priority word) found new gives = inr (by_sound {A = Bool} state (λ shown. asks state (reply 30 (codes "question skipped")) (prepared_if shown state.asking word)) (on word (is_to_be_shown state priority)) (λ shown. thirty), ap (λ (f : FilesState). f.counts) gives.1)
+told_as_counted state BeginBlock found new gives = inr (zero, ap (λ (f : FilesState). f.counts) gives.1)
+told_as_counted state EndBlock found new gives = inr (zero, ap (λ (f : FilesState). f.counts) gives.1)
+told_as_counted state Go found new gives = inr (gone_sound state _, ap (λ (f : FilesState). f.counts) gives.1)
+told_as_counted state Clear found new gives = inr (zero, ap (λ (f : FilesState). f.counts) gives.1)
+told_as_counted state Stop found new gives = inr (tt, ap (λ (f : FilesState). f.counts) gives.1)
+told_as_counted state (Get word) found new gives = inr (says_sound state [] _ _ (λ a. text_sound state.asking.escape), ap (λ (f : FilesState). f.counts) gives.1)
+told_as_counted state (Set word text) found new gives = inr (does_sound state _ _ zero, ap (λ (f : FilesState). f.counts) gives.1)
+told_as_counted state (Reset word) found new gives = inr (does_sound state _ _ zero, ap (λ (f : FilesState). f.counts) gives.1)
+told_as_counted state (Subst word key text) found new gives = inr (does_sound state _ _ zero, ap (λ (f : FilesState). f.counts) gives.1)
+told_as_counted state (Fget word key) found new gives = inr (says_sound state [] _ _ (λ a. zero), ap (λ (f : FilesState). f.counts) gives.1)
+told_as_counted state (Fset word key text) found new gives = inr (fset_sound state word key text found (is_truth text) refl, ap (λ (f : FilesState). f.counts) gives.1)
+told_as_counted state (Metaget word field) found new gives = inr (says_sound state field _ _ (λ a. text_sound state.asking.escape), ap (λ (f : FilesState). f.counts) gives.1)
+told_as_counted state (Register template name) found new gives = inr (does_sound state _ _ zero, ap (λ (f : FilesState). f.counts) gives.1)
+told_as_counted state (Unregister word) found new gives = inr (by_sound {A = List ℕ} state (λ name. unless_busy state (name ∷ []) (does state (reply 0 []) (unregistered state.store state.at name state.owner))) (on word (there state)) (λ name. busy_sound state (first_busy state.asking (name ∷ [])) (does state (reply 0 []) (unregistered state.store state.at name state.owner)) (does_sound state (reply 0 []) (unregistered state.store state.at name state.owner) zero)), ap (λ (f : FilesState). f.counts) gives.1)
+told_as_counted state Purge found new gives = inr (busy_sound state (first_busy state.asking (owned state.store.layers state.at.config state.owner)) (does state (reply 0 []) (purged state.store state.at state.owner)) (does_sound state (reply 0 []) (purged state.store state.at state.owner) zero), ap (λ (f : FilesState). f.counts) gives.1)
+told_as_counted state (ProgressStart low high word) found new gives = inr (by_sound {A = List ℕ} state (λ name. asks state (reply 0 (codes "OK")) (with_bar state.asking (Some (record { min = low; max = high; place = low })))) (on word (there state)) (λ name. zero), ap (λ (f : FilesState). f.counts) gives.1)
+told_as_counted state (ProgressSet number) found new gives = inr (bar_sound state.asking.bar (λ bar. asks state (reply 0 (codes "OK")) (with_bar state.asking (Some (bar_at bar number)))) (tells state no_progress_bar) (λ bar. zero) ten, ap (λ (f : FilesState). f.counts) gives.1)
+told_as_counted state (ProgressStep number) found new gives = inr (bar_sound state.asking.bar (λ bar. asks state (reply 0 (codes "OK")) (with_bar state.asking (Some (bar_at bar (bar.place + number))))) (tells state no_progress_bar) (λ bar. zero) ten, ap (λ (f : FilesState). f.counts) gives.1)
+told_as_counted state (ProgressInfo word) found new gives = inr (bar_sound state.asking.bar (λ bar. by {A = List ℕ} state (λ name. tells state (reply 0 (codes "OK"))) (on word (there state))) (tells state no_progress_bar) (λ bar. by_sound {A = List ℕ} state (λ name. tells state (reply 0 (codes "OK"))) (on word (there state)) (λ name. zero)) ten, ap (λ (f : FilesState). f.counts) gives.1)
+told_as_counted state ProgressStop found new gives = inr (bar_sound state.asking.bar (λ bar. asks state (reply 0 (codes "OK")) (with_bar state.asking None)) (tells state no_progress_bar) (λ bar. zero) ten, ap (λ (f : FilesState). f.counts) gives.1)
 
-no_fault : (reply : Reply) → IsSound reply → reply.code ≡ 100 → ⊥
-no_fault reply (inl none) fault = let e : reply.code ≡ 0 = none in let f : reply.code ≡ 100 = fault in omega arith
-no_fault reply (inr ten) fault = let e : reply.code ≡ 10 = ten in let f : reply.code ≡ 100 = fault in omega arith
+no_fault : (code : ℕ) → IsSoundCode code → code ≡ 100 → ⊥
+no_fault code sound fault = elim sound [
+  | inl none ↦ (let e : code ≡ 0 = none in let f : code ≡ 100 = fault in omega arith)
+  | inr (inl text) ↦ (let e : code ≡ 1 = text in let f : code ≡ 100 = fault in omega arith)
+  | inr (inr (inl refused)) ↦ (let e : code ≡ 10 = refused in let f : code ≡ 100 = fault in omega arith)
+  | inr (inr (inr skipped)) ↦ (let e : code ≡ 30 = skipped in let f : code ≡ 100 = fault in omega arith)
+]
 
-module _ (command : Command) (old new : SessionState) (code : ℕ) (text : List ℕ) (did : HasDone command old (Replied code text) new) where
-  reply : Reply
-  reply = (answer old command did.found).reply
+module _ (command : Command) (old new : SessionState) (reply : Reply) (did : HasDone command old (Replied reply) new) where
+  sound_is : (did : Stepped) → Replied reply ≡ did → IsSound did → IsSoundCode reply.code
+  sound_is did is sound = subst IsSound (sym is) sound
 
-  code_is : code ≡ (answer old command did.found).reply.code
-  code_is = let e = did.heeded_is in cc
+  code_is : (other : Reply) → Replied reply ≡ Replied other → other.code ≡ 100 → reply.code ≡ 100
+  code_is other same fault = let e : reply ≡ other = cc in ap (λ (r : Reply). r.code) e ∙ fault
 
-  pub fault_counted : code ≡ 100 → FaultRose old.files.counts new.files.counts
+  pub fault_counted : reply.code ≡ 100 → FaultRose old.files.counts new.files.counts
   fault_counted fault = elim (told_as_counted old command did.found new.files did.gives) [
-    | inl rose ↦ rose.1
-    | inr none ↦ absurd (no_fault (answer old command did.found).reply none.0 (sym code_is ∙ fault))
+    | inl rose ↦ rose.3
+    | inr none ↦ absurd (no_fault reply.code (sound_is (answer old command did.found).stepped did.stepped_is none.0) fault)
   ]
 
-  pub none_counted : (code ≡ 100 → ⊥) → new.files.counts ≡ old.files.counts
+  pub none_counted : (reply.code ≡ 100 → ⊥) → new.files.counts ≡ old.files.counts
   none_counted other = elim (told_as_counted old command did.found new.files did.gives) [
-    | inl rose ↦ absurd (other (code_is ∙ rose.0))
+    | inl rose ↦ absurd (other (code_is rose.0 (did.stepped_is ∙ rose.1) rose.2))
     | inr none ↦ none.1
   ]

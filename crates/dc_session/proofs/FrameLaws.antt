@@ -1,40 +1,39 @@
 -- Which items a command's writes are on: the others stay.
-use Rattle.std.proofs.Common.{◌≡◌, ◌⊎◌, ℕ, suc, ◌<◌, Bool, true, false, List, [], ◌∷◌, Option, None, Some, refl, sym, ap, subst, ◌∙◌, inl, inr, arith}
-use Rattle.std.specs.Prelude.{codes, Result, Ok, Err, IfOk, unwrap_or, map as each, length, if◌then◌else◌}
+use Rattle.std.proofs.Common.{◌≡◌, ℕ, suc, Bool, true, false, List, [], ◌∷◌, Option, None, Some, refl, sym, ap, subst, ◌∙◌, arith}
+use Rattle.std.specs.Prelude.{codes, Result, Ok, Err, IfOk, unwrap_or, map as each, if◌then◌else◌}
 use Rattle.std.specs.List.{Contains, list_any}
 use Rattle.std.specs.Option.{option_map_or}
 use Rattle.std.specs.Str.{bytes_eq}
 use Rattle.dc_text.specs.Names.{is_name}
 use Rattle.dc_text.specs.Settled.{settled}
-use Rattle.dc_text.specs.declared.memory.OutOfMemory.{OutOfMemory}
-use Rattle.dc_words.specs.declared.stream.Line.{Line}
-use Rattle.dc_words.specs.declared.stream.Line.TheVariants.{Whole, TooLong}
 use Rattle.dc_item.specs.Item.{ItemParts}
 use Rattle.dc_item.specs.declared.op.Op.{Op}
 use Rattle.dc_item.specs.declared.op.Op.TheVariants.{Put, SetField, SetFlag, SetVar}
 use Rattle.dc_proto.specs.Replies.{reply}
 use Rattle.dc_proto.specs.declared.command.Command.{Command}
-use Rattle.dc_proto.specs.declared.command.Command.TheVariants.{Get, Set, Reset, Subst, Fget, Fset, Metaget, Register, Unregister, Purge, LoadTemplateFile}
+use Rattle.dc_proto.specs.declared.command.Command.TheVariants.{Version, Capb, SetTitle, Title, Input, BeginBlock, EndBlock, Go, Clear, Stop, Get, Set, Reset, Subst, Fget, Fset, Metaget, Register, Unregister, Purge, ProgressStart, ProgressSet, ProgressStep, ProgressInfo, ProgressStop, LoadTemplateFile}
 use Rattle.dc_proto.specs.declared.reply.Reply.{Reply}
-use Rattle.dc_serve.specs.declared.heeds.Heeded.{Heeded}
 use Rattle.dc_layer.specs.State.{LayerState}
 use Rattle.dc_store.specs.Plans.{StoreState, write, owned}
 use Rattle.dc_store.specs.Rows.{Write, row_done, all_done, names_of, is_refused, first_held_up}
-use Rattle.dc_store.specs.StoreLaws.{IsSameButAll, AreSameBut, AreSameButAll}
+use Rattle.dc_store.specs.StoreLaws.{AreSameButAll}
 use Rattle.dc_store.proofs.Frames.{plan_keeps}
 use Rattle.dc_store.proofs.RowLemmas.{same_all, same_all_refl, same_all_then}
 use Rattle.dc_template.specs.Stanzas.{Stanza}
-use Rattle.dc_question.specs.Changes.{changed, value_set, value_reset, variable_set, without_answer, flag_set, done_or, told_by, row_for, question_write}
-use Rattle.dc_question.specs.Ownership.{registered, unregistered, purged, loaded, leave_row, load_row, register_row, has_other_template, bound_elsewhere}
+use Rattle.dc_question.specs.Changes.{changed, value_set, value_write, values_set, value_reset, variable_set, without_answer, flag_set, done_or, told_by, row_for, question_write}
+use Rattle.dc_question.specs.Ownership.{registered, unregistered, purged, leave_row, load_row, register_row, has_other_template, bound_elsewhere}
 use Rattle.dc_question.specs.Questions.{Setting, question, flag, named_template, read, read_template}
 use Rattle.dc_question.specs.declared.errors.QuestionError.{QuestionError}
 use Rattle.dc_question.specs.declared.errors.QuestionError.TheVariants as error
 use Rattle.dc_session.specs.SessionState.{SessionState}
-use Rattle.dc_session.specs.Answers.{Outcome, answer, loading, load_names, names_on, on, does, says, is_truth, bad_flag_value}
+use Rattle.dc_session.specs.Answers.{Outcome, answer, loading, load_names, names_on, on, by, tells, does, says, unless_busy, there, gone, is_truth}
+use Rattle.dc_session.specs.Asking.{first_busy, choices_for}
+use Rattle.dc_session.specs.Refusals.{bad_flag_value, is_busy}
+use Rattle.dc_session.specs.declared.asking.Bar.{Bar}
+use Rattle.dc_session.specs.declared.stepped.Stepped.{Stepped}
 use Rattle.dc_session.specs.Machine.{HasDone}
 use Rattle.dc_session.specs.declared.template_files.Found.{Found}
 use Rattle.dc_session.specs.declared.template_files.Found.TheVariants.{Unreadable, Missing, Faulty, Templates}
-use Rattle.dc_session.proofs.CommandLemmas.{says_stays}
 
 -- ---- rows
 
@@ -111,13 +110,46 @@ on_keeps names store word call keeps = by_name (is_name word) refl where
   by_name true is = rw is keeps
   by_name false is = rw is tt
 
-does_keeps : (names : List (List ℕ)) (store : StoreState) (r : Reply) (row : Result StoreState QuestionError) → Keeps names store row → AreSameButAll names store.layers (does store r row).store.layers
-does_keeps names store r (Ok new) keeps = keeps
-does_keeps names store r (Err error) keeps = same_all_refl names store.layers
+-- an outcome differs at most in the items of these names
+abbrev OutcomeKeeps : List (List ℕ) → SessionState → Outcome → Type 0
+OutcomeKeeps names state outcome = AreSameButAll names state.store.layers outcome.store.layers
 
-says_keeps : {A : Type 0} (names : List (List ℕ)) (store : StoreState) (field : List ℕ) (r : A → Reply) (reading : Result A QuestionError)
-    → AreSameButAll names store.layers (says store field r reading).store.layers
-says_keeps names store field r reading = subst (λ (s : StoreState). AreSameButAll names store.layers s.layers) (sym (says_stays store field r reading)) (same_all_refl names store.layers)
+does_keeps : (names : List (List ℕ)) (state : SessionState) (r : Reply) (row : Result StoreState QuestionError) → Keeps names state.store row → OutcomeKeeps names state (does state r row)
+does_keeps names state r (Ok new) keeps = keeps
+does_keeps names state r (Err error) keeps = same_all_refl names state.store.layers
+
+says_keeps : {A : Type 0} (names : List (List ℕ)) (state : SessionState) (field : List ℕ) (r : A → Reply) (reading : Result A QuestionError) → OutcomeKeeps names state (says state field r reading)
+says_keeps names state field r (Ok answer) = same_all_refl names state.store.layers
+says_keeps names state field r (Err error) = same_all_refl names state.store.layers
+
+by_keeps : {A : Type 0} (names : List (List ℕ)) (state : SessionState) (outcome : A → Outcome) (reading : Result A QuestionError) → ((a : A) → reading ≡ Ok a → OutcomeKeeps names state (outcome a))
+    → OutcomeKeeps names state (by state outcome reading)
+by_keeps names state outcome (Ok answer) keeps = keeps answer refl
+by_keeps names state outcome (Err error) keeps = same_all_refl names state.store.layers
+
+busy_keeps : (names : List (List ℕ)) (state : SessionState) (busy : Option (List ℕ)) (outcome : Outcome) → OutcomeKeeps names state outcome
+    → OutcomeKeeps names state (option_map_or (λ name. tells state (is_busy name)) busy outcome)
+busy_keeps names state None outcome keeps = keeps
+busy_keeps names state (Some name) outcome keeps = same_all_refl names state.store.layers
+
+bar_keeps : (names : List (List ℕ)) (state : SessionState) (bar : Option Bar) (outcome : Bar → Outcome) (none : Outcome) → ((b : Bar) → OutcomeKeeps names state (outcome b)) → OutcomeKeeps names state none
+    → OutcomeKeeps names state (option_map_or outcome bar none)
+bar_keeps names state None outcome none keeps nothing = nothing
+bar_keeps names state (Some bar) outcome none keeps nothing = keeps bar
+
+gone_keeps : (names : List (List ℕ)) (state : SessionState) (row : Result StoreState QuestionError) → Keeps names state.store row → OutcomeKeeps names state (gone state row)
+gone_keeps names state (Ok new) keeps = keeps
+gone_keeps names state (Err error) keeps = same_all_refl names state.store.layers
+
+-- the names that values are set on
+names_of_values : (ls : List LayerState) (at : Setting) (answers : List (List ℕ × List ℕ)) → names_of (each (value_write ls at) answers) ≡ each (λ a. a.0) answers
+names_of_values ls at [] = refl
+names_of_values ls at (answer ∷ answers) = ap (λ (ns : List (List ℕ)). answer.0 ∷ ns) (names_of_values ls at answers)
+
+values_keep : (store : StoreState) (at : Setting) (answers : List (List ℕ × List ℕ)) → Keeps (each (λ a. a.0) answers) store (values_set store at answers)
+values_keep store at answers =
+    subst (λ (ns : List (List ℕ)). Keeps ns store (values_set store at answers)) (names_of_values store.layers at answers)
+    (row_for_keeps store (each (λ a. a.0) answers) (each (value_write store.layers at) answers))
 
 module _ (state : SessionState) where
   one : (word : List ℕ) (op : Op) → Keeps (word ∷ []) state.store (changed state.store state.at word op)
@@ -125,9 +157,9 @@ module _ (state : SessionState) where
 
   fset_keeps : (word key text : List ℕ) (found : Found) (b : Bool) → is_truth text ≡ b → AreSameButAll (word ∷ []) state.store.layers (answer state (Fset word key text) found).store.layers
   fset_keeps word key text found true is =
-      rw is (does_keeps (word ∷ []) state.store (reply 0 text) (on word (λ name. flag_set state.store state.at name key (bytes_eq text (codes "true"))))
+      rw is (does_keeps (word ∷ []) state (reply 0 text) (on word (λ name. flag_set state.store state.at name key (bytes_eq text (codes "true"))))
       (on_keeps (word ∷ []) state.store word (λ name. flag_set state.store state.at name key (bytes_eq text (codes "true"))) (one word (SetFlag key (bytes_eq text (codes "true"))))))
-  fset_keeps word key text found false is = rw is (says_keeps (word ∷ []) state.store [] (λ flag. bad_flag_value) (on word (λ name. flag state.store.layers state.at name key)))
+  fset_keeps word key text found false is = rw is (says_keeps (word ∷ []) state [] (λ flag. bad_flag_value) (on word (λ name. flag state.store.layers state.at name key)))
 
   reset_keeps : (word : List ℕ) (item : Option ItemParts) (op : ItemParts → Op) → Keeps (word ∷ []) state.store (read word item (λ i. changed state.store state.at word (op i)))
   reset_keeps word None op = tt
@@ -154,33 +186,69 @@ module _ (state : SessionState) where
   loading_keeps owner Missing = same_all_refl [] state.store.layers
   loading_keeps owner (Faulty line) = same_all_refl [] state.store.layers
   loading_keeps owner (Templates templates) =
-      does_keeps (names_of (load_row state.store.layers state.at owner templates)) state.store _ _ (loaded_keeps owner templates (bound_elsewhere state.store.layers state.at templates))
+      does_keeps (names_of (load_row state.store.layers state.at owner templates)) state _ _ (loaded_keeps owner templates (bound_elsewhere state.store.layers state.at templates))
 
   -- a call on the question of a word that writes
   word_keeps : (names : List (List ℕ)) (word text : List ℕ) (call : List ℕ → Result StoreState QuestionError) → Keeps names state.store (call word)
-      → AreSameButAll names state.store.layers (does state.store (reply 0 text) (on word call)).store.layers
-  word_keeps names word text call keeps = does_keeps names state.store (reply 0 text) (on word call) (on_keeps names state.store word call keeps)
+      → AreSameButAll names state.store.layers (does state (reply 0 text) (on word call)).store.layers
+  word_keeps names word text call keeps = does_keeps names state (reply 0 text) (on word call) (on_keeps names state.store word call keeps)
+
+  -- the name of a question that is there is the word
+  there_is : (word name : List ℕ) → on word (there state) ≡ Ok name → name ≡ word
+  there_is word name is = by_name (is_name word) refl where
+    by_item : (item : Option ItemParts) → read word item (λ i. Ok word) ≡ Ok name → name ≡ word
+    by_item None none = cc
+    by_item (Some item) some = cc
+
+    by_name : (b : Bool) → is_name word ≡ b → name ≡ word
+    by_name true named = by_item (question state.store.layers state.at word) (let here : on word (there state) ≡ there state word = rw named refl in sym here ∙ is)
+    by_name false none = let here : on word (there state) ≡ Err (error.NoQuestion word) = rw none refl in let both : ◌≡◌ {A = Result (List ℕ) QuestionError} (Err (error.NoQuestion word)) (Ok name) = sym here ∙ is in cc
+
+  unregistered_keeps : (word name : List ℕ) → name ≡ word
+      → OutcomeKeeps (names_of (leave_row state.store.layers state.at state.owner (word ∷ []))) state (unless_busy state (name ∷ []) (does state (reply 0 []) (unregistered state.store state.at name state.owner)))
+  unregistered_keeps word name same =
+      subst (λ (n : List ℕ). OutcomeKeeps (names_of (leave_row state.store.layers state.at state.owner (word ∷ []))) state (unless_busy state (n ∷ []) (does state (reply 0 []) (unregistered state.store state.at n state.owner)))) (sym same)
+      (busy_keeps (names_of (leave_row state.store.layers state.at state.owner (word ∷ []))) state (first_busy state.asking (word ∷ [])) (does state (reply 0 []) (unregistered state.store state.at word state.owner))
+      (does_keeps (names_of (leave_row state.store.layers state.at state.owner (word ∷ []))) state (reply 0 []) (unregistered state.store state.at word state.owner) (unregister_keeps word (question state.store.layers state.at word))))
 
   answer_keeps : (command : Command) (found : Found) → AreSameButAll (names_on state command found) state.store.layers (answer state command found).store.layers
-  answer_keeps (Get word) found = says_keeps [] state.store [] _ _
+  answer_keeps (Get word) found = says_keeps [] state [] _ _
   answer_keeps (Set word text) found = word_keeps (word ∷ []) word (codes "value set") (λ name. value_set state.store state.at name text) (one word (SetField (codes "value") (settled text)))
   answer_keeps (Reset word) found =
       word_keeps (word ∷ []) word [] (λ name. value_reset state.store state.at name) (reset_keeps word (question state.store.layers state.at word) (λ item. Put (without_answer item)))
   answer_keeps (Subst word key text) found = word_keeps (word ∷ []) word [] (λ name. variable_set state.store state.at name key text) (one word (SetVar key (settled text)))
-  answer_keeps (Fget word key) found = says_keeps [] state.store [] _ _
+  answer_keeps (Fget word key) found = says_keeps [] state [] _ _
   answer_keeps (Fset word key text) found = fset_keeps word key text found (is_truth text) refl
-  answer_keeps (Metaget word field) found = says_keeps [] state.store field _ _
+  answer_keeps (Metaget word field) found = says_keeps [] state field _ _
   answer_keeps (Register template name) found =
-      does_keeps (template ∷ name ∷ []) state.store (reply 0 []) (registered state.store state.at template name state.owner)
+      does_keeps (template ∷ name ∷ []) state (reply 0 []) (registered state.store state.at template name state.owner)
       (register_keeps template name (named_template state.store.layers state.at template) (has_other_template template (question state.store.layers state.at name)) refl)
   answer_keeps (Unregister word) found =
-      word_keeps (names_of (leave_row state.store.layers state.at state.owner (word ∷ []))) word [] (λ name. unregistered state.store state.at name state.owner) (unregister_keeps word (question state.store.layers state.at word))
+      by_keeps (names_of (leave_row state.store.layers state.at state.owner (word ∷ []))) state
+      (λ name. unless_busy state (name ∷ []) (does state (reply 0 []) (unregistered state.store state.at name state.owner))) (on word (there state)) (λ name is. unregistered_keeps word name (there_is word name is))
   answer_keeps Purge found =
       let names : List (List ℕ) = owned state.store.layers state.at.config state.owner in
-      does_keeps (names_of (leave_row state.store.layers state.at state.owner names)) state.store (reply 0 []) (purged state.store state.at state.owner)
-      (row_for_keeps state.store names (leave_row state.store.layers state.at state.owner names))
+      busy_keeps (names_of (leave_row state.store.layers state.at state.owner names)) state (first_busy state.asking names) (does state (reply 0 []) (purged state.store state.at state.owner))
+      (does_keeps (names_of (leave_row state.store.layers state.at state.owner names)) state (reply 0 []) (purged state.store state.at state.owner)
+      (row_for_keeps state.store names (leave_row state.store.layers state.at state.owner names)))
+  answer_keeps (Version version) found = same_all_refl [] state.store.layers
+  answer_keeps (Capb words) found = same_all_refl [] state.store.layers
+  answer_keeps (SetTitle word) found = by_keeps [] state _ _ (λ text is. same_all_refl [] state.store.layers)
+  answer_keeps (Title text) found = same_all_refl [] state.store.layers
+  answer_keeps (Input priority word) found = by_keeps [] state _ _ (λ shown is. same_all_refl [] state.store.layers)
+  answer_keeps BeginBlock found = same_all_refl [] state.store.layers
+  answer_keeps EndBlock found = same_all_refl [] state.store.layers
+  answer_keeps Go found = gone_keeps (each (λ a. a.0) (choices_for state)) state (values_set state.store state.at (choices_for state)) (values_keep state.store state.at (choices_for state))
+  answer_keeps Clear found = same_all_refl [] state.store.layers
+  answer_keeps Stop found = same_all_refl [] state.store.layers
+  answer_keeps (ProgressStart low high word) found = by_keeps [] state _ _ (λ name is. same_all_refl [] state.store.layers)
+  answer_keeps (ProgressSet number) found = bar_keeps [] state state.asking.bar _ _ (λ bar. same_all_refl [] state.store.layers) (same_all_refl [] state.store.layers)
+  answer_keeps (ProgressStep number) found = bar_keeps [] state state.asking.bar _ _ (λ bar. same_all_refl [] state.store.layers) (same_all_refl [] state.store.layers)
+  answer_keeps (ProgressInfo word) found =
+      bar_keeps [] state state.asking.bar _ _ (λ bar. by_keeps [] state _ _ (λ name is. same_all_refl [] state.store.layers)) (same_all_refl [] state.store.layers)
+  answer_keeps ProgressStop found = bar_keeps [] state state.asking.bar _ _ (λ bar. same_all_refl [] state.store.layers) (same_all_refl [] state.store.layers)
   answer_keeps (LoadTemplateFile path owner) found = loading_keeps (unwrap_or owner state.owner) found
 
 -- a command changes at most the items that its writes are on
-pub others_stay : (command : Command) (old new : SessionState) (did : Heeded) (done : HasDone command old did new) → AreSameButAll (names_on old command done.found) old.store.layers new.store.layers
+pub others_stay : (command : Command) (old new : SessionState) (did : Stepped) (done : HasDone command old did new) → AreSameButAll (names_on old command done.found) old.store.layers new.store.layers
 others_stay command old new did done = rw done.new_is (answer_keeps old command done.found)

@@ -1,10 +1,15 @@
+pub mod AskingLemmas
+pub mod BreakLemmas
 pub mod CallLemmas
 pub mod CommandLemmas
 pub mod Determined
 pub mod DiskLaws
+pub mod EscapeLaws
 pub mod FaultLaws
 pub mod FrameLaws
 pub mod LineLaws
 pub mod LoadLemmas
+pub mod NameLemmas
 pub mod ServeLemmas
+pub mod SetLaws
 pub mod Teeth

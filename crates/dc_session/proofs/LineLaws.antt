@@ -1,99 +1,145 @@
 -- What one line changes.
-use Rattle.std.proofs.Common.{◌≡◌, ◌⊎◌, ℕ, Bool, true, false, List, [], ◌∷◌, Option, None, Some, refl, sym, ap, subst, ◌∙◌, inl, inr}
-use Rattle.std.specs.Prelude.{Result, Ok, Err, unwrap_or, map as each, length, if◌then◌else◌}
-use Rattle.std.specs.List.{Contains, list_any, find}
+use Rattle.std.proofs.Common.{◌≡◌, ◌⊎◌, ℕ, Bool, true, false, List, [], ◌∷◌, Option, None, Some, refl, ap, ◌∙◌, inl, inr}
+use Rattle.std.specs.Prelude.{◌+◌, Result, Ok, Err, unwrap_or, codes}
 use Rattle.std.specs.Option.{option_map_or}
-use Rattle.std.specs.Str.{bytes_eq}
-use Rattle.dc_text.specs.Names.{is_name}
-use Rattle.dc_text.specs.declared.memory.OutOfMemory.{OutOfMemory}
 use Rattle.dc_words.specs.declared.stream.Line.{Line}
 use Rattle.dc_words.specs.declared.stream.Line.TheVariants.{Whole, TooLong}
-use Rattle.dc_item.specs.Item.{ItemParts}
-use Rattle.dc_item.specs.declared.op.Op.{Op}
 use Rattle.dc_proto.specs.Commands.{heard}
 use Rattle.dc_proto.specs.Replies.{reply}
 use Rattle.dc_proto.specs.declared.command.Command.{Command}
-use Rattle.dc_proto.specs.declared.command.Command.TheVariants.{Get, Set, Reset, Subst, Fget, Fset, Metaget, Register, Unregister, Purge, LoadTemplateFile}
+use Rattle.dc_proto.specs.declared.command.Command.TheVariants.{Version, Capb, SetTitle, Title, Input, BeginBlock, EndBlock, Go, Clear, Stop, Get, Set, Reset, Subst, Fget, Fset, Metaget, Register, Unregister, Purge, ProgressStart, ProgressSet, ProgressStep, ProgressInfo, ProgressStop, LoadTemplateFile}
 use Rattle.dc_proto.specs.declared.command.Heard.{Heard}
 use Rattle.dc_proto.specs.declared.command.Heard.TheVariants.{Nothing, Known, Refused}
 use Rattle.dc_proto.specs.declared.reply.Reply.{Reply}
-use Rattle.dc_serve.specs.declared.heeds.Heeded.{Heeded}
-use Rattle.dc_serve.specs.declared.heeds.Heeded.TheVariants.{Replied}
-use Rattle.dc_layer.specs.State.{LayerState}
-use Rattle.dc_store.specs.Plans.{StoreState, write, owned}
-use Rattle.dc_store.specs.Rows.{Write, row_done, all_done, names_of, is_refused, first_held_up}
-use Rattle.dc_store.specs.StoreLaws.{IsSameButAll, AreSameBut, AreSameButAll}
-use Rattle.dc_store.proofs.Frames.{plan_keeps}
-use Rattle.dc_store.proofs.RowLemmas.{same_all, same_all_refl, same_all_then}
-use Rattle.dc_template.specs.Stanzas.{Stanza}
-use Rattle.dc_question.specs.Changes.{changed, done_or, told_by, row_for, question_write}
-use Rattle.dc_question.specs.Ownership.{registered, unregistered, purged, loaded, leave_row, load_row, register_row, has_other_template, bound_elsewhere}
-use Rattle.dc_question.specs.Questions.{Setting, question, named_template, read, read_template}
+use Rattle.dc_question.specs.Ownership.{loaded, unregistered, purged}
 use Rattle.dc_question.specs.declared.errors.QuestionError.{QuestionError}
-use Rattle.dc_question.specs.declared.errors.QuestionError.TheVariants as error
-use Rattle.dc_session.specs.SessionState.{FilesState, SessionState}
-use Rattle.dc_session.specs.Answers.{Outcome, answer, after_command, loading, load_names, names_on, on, does, says, is_truth, refusal}
-use Rattle.dc_session.specs.Machine.{Heeds, HeedsHeard, HasDone, Breaks, BreaksHeard, IsDoneInPart, replied}
+use Rattle.dc_store.specs.Plans.{StoreState, owned}
+use Rattle.dc_session.specs.Asking.{description, is_to_be_shown, prepared_if, first_busy, bar_at}
+use Rattle.dc_session.specs.Answers.{Outcome, answer, loading, by, on, there, asks, titled, with_bar, unless_busy, does, says, gone, tells, is_truth}
+use Rattle.dc_session.specs.Machine.{Steps, StepsHeard, HasDone}
+use Rattle.dc_session.specs.Refusals.{is_busy, no_progress_bar}
+use Rattle.dc_session.specs.SessionState.{SessionState}
+use Rattle.dc_session.specs.declared.asking.Bar.{Bar}
+use Rattle.dc_session.specs.declared.stepped.Stepped.TheVariants.{Replied}
 use Rattle.dc_session.specs.declared.template_files.Found.{Found}
 use Rattle.dc_session.specs.declared.template_files.Found.TheVariants.{Unreadable, Missing, Faulty, Templates}
-use Rattle.dc_session.proofs.CommandLemmas.{says_stays}
 
--- ---- refused lines
+-- ---- what each outcome changes
 
--- an outcome of another code than 0 leaves the store
-abbrev Stays : StoreState → Outcome → Type 0
-Stays store outcome = (outcome.reply.code ≡ 0 → ⊥) → outcome.store ≡ store
+-- the store changes with a reply of code 0 alone, and what is asked for with one of code 0 or 30
+pub record IsMeek (state : SessionState) (outcome : Outcome) : Type 0 where
+  pub store : (outcome.store ≡ state.store) ⊎ ((r : Reply) × (outcome.stepped ≡ Replied r) × (r.code ≡ 0))
+  pub asking : (outcome.asking ≡ state.asking) ⊎ ((r : Reply) × (outcome.stepped ≡ Replied r) × ((r.code ≡ 0) ⊎ (r.code ≡ 30)))
 
-says_same : {A : Type 0} (store : StoreState) (field : List ℕ) (said : A → Reply) (reading : Result A QuestionError) → Stays store (says store field said reading)
-says_same store field said reading other = says_stays store field said reading
+tells_meek : (state : SessionState) (r : Reply) → IsMeek state (tells state r)
+tells_meek state r = record { store = inl refl; asking = inl refl }
 
-does_same : (store : StoreState) (text : List ℕ) (row : Result StoreState QuestionError) → Stays store (does store (reply 0 text) row)
-does_same store text (Ok new) other = absurd (other refl)
-does_same store text (Err error) other = refl
+says_meek : {A : Type 0} (state : SessionState) (field : List ℕ) (said : A → Reply) (reading : Result A QuestionError) → IsMeek state (says state field said reading)
+says_meek state field said (Ok answer) = record { store = inl refl; asking = inl refl }
+says_meek state field said (Err error) = record { store = inl refl; asking = inl refl }
 
-loading_same : (state : SessionState) (owner : List ℕ) (found : Found) → Stays state.store (loading state owner found)
-loading_same state owner Unreadable other = refl
-loading_same state owner Missing other = refl
-loading_same state owner (Faulty line) other = refl
-loading_same state owner (Templates templates) other = does_same state.store [] (loaded state.store state.at owner templates) other
+does_meek : (state : SessionState) (text : List ℕ) (row : Result StoreState QuestionError) → IsMeek state (does state (reply 0 text) row)
+does_meek state text (Ok new) = record { store = inr (_, refl, refl); asking = inl refl }
+does_meek state text (Err error) = record { store = inl refl; asking = inl refl }
 
-fset_same : (state : SessionState) (word key text : List ℕ) (found : Found) (b : Bool) → is_truth text ≡ b → Stays state.store (answer state (Fset word key text) found)
-fset_same state word key text found true is = rw is (does_same state.store text _)
-fset_same state word key text found false is = rw is (says_same state.store [] _ _)
+by_meek : {A : Type 0} (state : SessionState) (outcome : A → Outcome) (reading : Result A QuestionError) → ((a : A) → IsMeek state (outcome a)) → IsMeek state (by state outcome reading)
+by_meek state outcome (Ok answer) meek = meek answer
+by_meek state outcome (Err error) meek = record { store = inl refl; asking = inl refl }
 
-answer_same : (state : SessionState) (command : Command) (found : Found) → Stays state.store (answer state command found)
-answer_same state (Get word) found = says_same state.store [] _ _
-answer_same state (Set word text) found = does_same state.store _ _
-answer_same state (Reset word) found = does_same state.store _ _
-answer_same state (Subst word key text) found = does_same state.store _ _
-answer_same state (Fget word key) found = says_same state.store [] _ _
-answer_same state (Fset word key text) found = fset_same state word key text found (is_truth text) refl
-answer_same state (Metaget word field) found = says_same state.store field _ _
-answer_same state (Register template name) found = does_same state.store _ _
-answer_same state (Unregister word) found = does_same state.store _ _
-answer_same state Purge found = does_same state.store _ _
-answer_same state (LoadTemplateFile path owner) found = loading_same state (unwrap_or owner state.owner) found
+busy_meek : (state : SessionState) (busy : Option (List ℕ)) (outcome : Outcome) → IsMeek state outcome → IsMeek state (option_map_or (λ name. tells state (is_busy name)) busy outcome)
+busy_meek state None outcome meek = meek
+busy_meek state (Some name) outcome meek = tells_meek state (is_busy name)
 
--- all but the files is as it was
-abbrev pub IsKept : SessionState → SessionState → Type 0
-IsKept old new = (new.store ≡ old.store) × (new.at ≡ old.at) × (new.owner ≡ old.owner)
+bar_meek : (state : SessionState) (bar : Option Bar) (outcome : Bar → Outcome) (none : Outcome) → ((b : Bar) → IsMeek state (outcome b)) → IsMeek state none → IsMeek state (option_map_or outcome bar none)
+bar_meek state None outcome none meek nothing = nothing
+bar_meek state (Some bar) outcome none meek nothing = meek bar
 
-kept_state : (old new : SessionState) → new ≡ old → IsKept old new
-kept_state old new same = (ap (λ (s : SessionState). s.store) same, ap (λ (s : SessionState). s.at) same, ap (λ (s : SessionState). s.owner) same)
+gone_meek : (state : SessionState) (row : Result StoreState QuestionError) → IsMeek state (gone state row)
+gone_meek state (Ok store) = record { store = inr (_, refl, refl); asking = inr (_, refl, inl refl) }
+gone_meek state (Err error) = record { store = inl refl; asking = inl refl }
 
-refused_command : (old new : SessionState) (command : Command) (code : ℕ) (text : List ℕ) → HasDone command old (Replied code text) new → (code ≡ 0 → ⊥) → IsKept old new
-refused_command old new command code text done other =
-    let same : code ≡ (answer old command done.found).reply.code = let is = done.heeded_is in cc in (
-      ap (λ (s : SessionState). s.store) done.new_is ∙ answer_same old command done.found (λ zero. other (same ∙ zero)),
-      ap (λ (s : SessionState). s.at) done.new_is,
-      ap (λ (s : SessionState). s.owner) done.new_is,
-    )
+loading_meek : (state : SessionState) (owner : List ℕ) (found : Found) → IsMeek state (loading state owner found)
+loading_meek state owner Unreadable = record { store = inl refl; asking = inl refl }
+loading_meek state owner Missing = record { store = inl refl; asking = inl refl }
+loading_meek state owner (Faulty line) = record { store = inl refl; asking = inl refl }
+loading_meek state owner (Templates templates) = does_meek state [] (loaded state.store state.at owner templates)
 
-refused_heard : (old new : SessionState) (said : Heard) (code : ℕ) (text : List ℕ) → HeedsHeard said old (Replied code text) new → (code ≡ 0 → ⊥) → IsKept old new
-refused_heard old new Nothing code text heeds other = kept_state old new heeds.1
-refused_heard old new (Known command) code text heeds other = refused_command old new command code text heeds other
-refused_heard old new (Refused reply) code text heeds other = kept_state old new heeds.1
+fset_meek : (state : SessionState) (word key text : List ℕ) (found : Found) (b : Bool) → is_truth text ≡ b → IsMeek state (answer state (Fset word key text) found)
+fset_meek state word key text found true is = rw is (does_meek state text _)
+fset_meek state word key text found false is = rw is (says_meek state [] _ _)
 
-pub refused_stays : (old new : SessionState) (line : Line) (code : ℕ) (text : List ℕ) → Heeds old line (Replied code text) new → (code ≡ 0 → ⊥) → IsKept old new
-refused_stays old new TooLong code text heeds other = kept_state old new heeds.1
-refused_stays old new (Whole line) code text heeds other = refused_heard old new (heard false line) code text heeds other
+answer_meek : (state : SessionState) (command : Command) (found : Found) → IsMeek state (answer state command found)
+answer_meek state (Version version) found = record { store = inl refl; asking = inl refl }
+answer_meek state (Capb words) found = record { store = inl refl; asking = inr (_, refl, inl refl) }
+answer_meek state (SetTitle word) found = by_meek {A = List ℕ} state (λ text. asks state (reply 0 []) (titled state.asking text)) (on word (description state.store.layers state.at)) (λ text. record { store = inl refl; asking = inr (_, refl, inl refl) })
+answer_meek state (Title text) found = record { store = inl refl; asking = inr (_, refl, inl refl) }
+answer_meek state (Input priority word) found = by_meek {A = Bool} state (λ shown. asks state (reply 30 (codes "question skipped")) (prepared_if shown state.asking word)) (on word (is_to_be_shown state priority)) (λ shown. record { store = inl refl; asking = inr (_, refl, inr refl) })
+answer_meek state BeginBlock found = record { store = inl refl; asking = inl refl }
+answer_meek state EndBlock found = record { store = inl refl; asking = inl refl }
+answer_meek state Go found = gone_meek state _
+answer_meek state Clear found = record { store = inl refl; asking = inr (_, refl, inl refl) }
+answer_meek state Stop found = record { store = inl refl; asking = inl refl }
+answer_meek state (Get word) found = says_meek state [] _ _
+answer_meek state (Set word text) found = does_meek state _ _
+answer_meek state (Reset word) found = does_meek state _ _
+answer_meek state (Subst word key text) found = does_meek state _ _
+answer_meek state (Fget word key) found = says_meek state [] _ _
+answer_meek state (Fset word key text) found = fset_meek state word key text found (is_truth text) refl
+answer_meek state (Metaget word field) found = says_meek state field _ _
+answer_meek state (Register template name) found = does_meek state _ _
+answer_meek state (Unregister word) found = by_meek {A = List ℕ} state (λ name. unless_busy state (name ∷ []) (does state (reply 0 []) (unregistered state.store state.at name state.owner))) (on word (there state)) (λ name. busy_meek state (first_busy state.asking (name ∷ [])) (does state (reply 0 []) (unregistered state.store state.at name state.owner)) (does_meek state [] (unregistered state.store state.at name state.owner)))
+answer_meek state Purge found = busy_meek state (first_busy state.asking (owned state.store.layers state.at.config state.owner)) (does state (reply 0 []) (purged state.store state.at state.owner)) (does_meek state [] (purged state.store state.at state.owner))
+answer_meek state (ProgressStart low high word) found = by_meek {A = List ℕ} state (λ name. asks state (reply 0 (codes "OK")) (with_bar state.asking (Some (record { min = low; max = high; place = low })))) (on word (there state)) (λ name. record { store = inl refl; asking = inr (_, refl, inl refl) })
+answer_meek state (ProgressSet number) found = bar_meek state state.asking.bar (λ bar. asks state (reply 0 (codes "OK")) (with_bar state.asking (Some (bar_at bar number)))) (tells state no_progress_bar) (λ bar. record { store = inl refl; asking = inr (_, refl, inl refl) }) (record { store = inl refl; asking = inl refl })
+answer_meek state (ProgressStep number) found = bar_meek state state.asking.bar (λ bar. asks state (reply 0 (codes "OK")) (with_bar state.asking (Some (bar_at bar (bar.place + number))))) (tells state no_progress_bar) (λ bar. record { store = inl refl; asking = inr (_, refl, inl refl) }) (record { store = inl refl; asking = inl refl })
+answer_meek state (ProgressInfo word) found = bar_meek state state.asking.bar (λ bar. by {A = List ℕ} state (λ name. tells state (reply 0 (codes "OK"))) (on word (there state))) (tells state no_progress_bar) (λ bar. by_meek {A = List ℕ} state (λ name. tells state (reply 0 (codes "OK"))) (on word (there state)) (λ name. record { store = inl refl; asking = inl refl })) (record { store = inl refl; asking = inl refl })
+answer_meek state ProgressStop found = bar_meek state state.asking.bar (λ bar. asks state (reply 0 (codes "OK")) (with_bar state.asking None)) (tells state no_progress_bar) (λ bar. record { store = inl refl; asking = inr (_, refl, inl refl) }) (record { store = inl refl; asking = inl refl })
+answer_meek state (LoadTemplateFile path owner) found = loading_meek state (unwrap_or owner state.owner) found
+
+-- ---- lines
+
+-- a step that is replied to by a code: the store changes with code 0 alone, and what is asked for with 0 or 30
+pub record IsMeekAt (old new : SessionState) (r : Reply) : Type 0 where
+  pub store : (r.code ≡ 0 → ⊥) → new.store ≡ old.store
+  pub asking : (r.code ≡ 0 → ⊥) → (r.code ≡ 30 → ⊥) → new.asking ≡ old.asking
+  pub at : new.at ≡ old.at
+  pub owner : new.owner ≡ old.owner
+  pub manner : new.manner ≡ old.manner
+
+kept_meek : (old new : SessionState) (r : Reply) → new ≡ old → IsMeekAt old new r
+kept_meek old new r same = record {
+  store = λ _. ap (λ (s : SessionState). s.store) same;
+  asking = λ _ _. ap (λ (s : SessionState). s.asking) same;
+  at = ap (λ (s : SessionState). s.at) same;
+  owner = ap (λ (s : SessionState). s.owner) same;
+  manner = ap (λ (s : SessionState). s.manner) same;
+}
+
+module _ (old new : SessionState) (r : Reply) where
+  one_reply : (other : Reply) → Replied r ≡ Replied other → r ≡ other
+  one_reply other same = cc
+
+  command_meek : (command : Command) → HasDone command old (Replied r) new → IsMeekAt old new r
+  command_meek command done = record {
+    store = λ other. elim (answer_meek old command done.found).store [
+      | inl same ↦ ap (λ (s : SessionState). s.store) done.new_is ∙ same
+      | inr zero ↦ absurd (other (ap (λ (x : Reply). x.code) (one_reply zero.0 (done.stepped_is ∙ zero.1)) ∙ zero.2))
+    ];
+    asking = λ other skipped. elim (answer_meek old command done.found).asking [
+      | inl same ↦ ap (λ (s : SessionState). s.asking) done.new_is ∙ same
+      | inr (r2, is, inl zero) ↦ absurd (other (ap (λ (x : Reply). x.code) (one_reply r2 (done.stepped_is ∙ is)) ∙ zero))
+      | inr (r2, is, inr thirty) ↦ absurd (skipped (ap (λ (x : Reply). x.code) (one_reply r2 (done.stepped_is ∙ is)) ∙ thirty))
+    ];
+    at = ap (λ (s : SessionState). s.at) done.new_is;
+    owner = ap (λ (s : SessionState). s.owner) done.new_is;
+    manner = ap (λ (s : SessionState). s.manner) done.new_is;
+  }
+
+  heard_meek : (said : Heard) → StepsHeard said old (Replied r) new → IsMeekAt old new r
+  heard_meek Nothing steps = kept_meek old new r steps.1
+  heard_meek (Known command) steps = command_meek command steps
+  heard_meek (Refused refusal) steps = kept_meek old new r steps.1
+
+  pub line_meek : (line : Line) → Steps old line (Replied r) new → IsMeekAt old new r
+  line_meek TooLong steps = kept_meek old new r steps.1
+  line_meek (Whole line) steps = heard_meek (heard old.asking.escape line) steps

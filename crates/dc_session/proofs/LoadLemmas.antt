@@ -1,8 +1,7 @@
 -- What becomes of a template file.
 use Rattle.std.proofs.Common.{◌≡◌, ℕ, List, refl, sym, ap, subst, ◌∙◌, inl, inr}
-use Rattle.std.specs.Prelude.{None, Result, Ok, Err}
+use Rattle.std.specs.Prelude.{Result, Ok, Err}
 use Rattle.dc_text.specs.declared.memory.OutOfMemory.{OutOfMemory}
-use Rattle.dc_proto.specs.declared.command.Command.TheVariants.{LoadTemplateFile}
 use Rattle.dc_store.specs.Plans.{StoreState}
 use Rattle.dc_store.specs.Rows.{names_of}
 use Rattle.dc_store.specs.StoreLaws.{AreSameButAll}
@@ -10,8 +9,8 @@ use Rattle.dc_template.specs.Stanzas.{Stanza}
 use Rattle.dc_question.specs.Ownership.{loaded, load_row}
 use Rattle.dc_question.specs.Questions.{Setting}
 use Rattle.dc_question.specs.declared.errors.QuestionError.{QuestionError}
-use Rattle.dc_session.specs.Answers.{loading, load_names}
-use Rattle.dc_session.specs.FileLoading.{end_by, file_end, Loads, Takes}
+use Rattle.dc_session.specs.Answers.{loading}
+use Rattle.dc_session.specs.FileLoading.{Loads, Takes}
 use Rattle.dc_session.specs.SessionState.{FilesState, SessionState}
 use Rattle.dc_session.specs.TemplateFiles.{Finds}
 use Rattle.dc_session.specs.declared.template_files.Found.{Found}
@@ -45,4 +44,5 @@ taken_loads path what old new files (Err error) finds takes =
       others = takes.0;
       at = ap (λ (s : SessionState). s.at) takes.1;
       owner = ap (λ (s : SessionState). s.owner) takes.1;
+      manner = ap (λ (s : SessionState). s.manner) takes.1;
     })

@@ -1,94 +1,110 @@
--- What a command comes to (debconf-devel(7)): its reply, and the store that it leaves. The calls on questions say what each reads and writes,
--- and in which order it is refused.
-use Rattle.std.specs.Prelude.{ℕ, List, [], ◌∷◌, ◌++◌, map as each, Bool, ◌||◌, Option, unwrap_or, Result, Ok, Err, if◌then◌else◌, codes, decimal}
+-- The table of commands (debconf-devel(7)): what each comes to, that is its reply, the store that it leaves, and what is asked for then. Its
+-- words, and what they alone refuse, are in `dc_proto`, Commands.antt. The calls on questions say what each reads and writes, and in which
+-- order it is refused.
+use Rattle.std.specs.Prelude.{ℕ, ◌+◌, List, [], ◌∷◌, map as each, Bool, true, ◌||◌, Option, Some, None, unwrap_or, Result, Ok, Err, if◌then◌else◌, codes}
+use Rattle.std.specs.List.{starts_with}
+use Rattle.std.specs.Bool.{nat_eq}
+use Rattle.std.specs.Option.{option_map_or}
 use Rattle.std.specs.Str.{bytes_eq}
 use Rattle.dc_text.specs.Bytes.{lower}
 use Rattle.dc_text.specs.Names.{is_name, is_field_key}
 use Rattle.dc_proto.specs.Replies.{reply}
 use Rattle.dc_proto.specs.declared.command.Command.{Command}
-use Rattle.dc_proto.specs.declared.command.Command.TheVariants.{Get, Set, Reset, Subst, Fget, Fset, Metaget, Register, Unregister, Purge, LoadTemplateFile}
+use Rattle.dc_proto.specs.declared.command.Command.TheVariants.{Version, Capb, SetTitle, Title, Input, BeginBlock, EndBlock, Go, Clear, Stop, Get, Set, Reset, Subst, Fget, Fset, Metaget, Register, Unregister, Purge, ProgressStart, ProgressSet, ProgressStep, ProgressInfo, ProgressStop, LoadTemplateFile}
 use Rattle.dc_proto.specs.declared.reply.Reply.{Reply}
 use Rattle.dc_store.specs.Plans.{StoreState, owned}
 use Rattle.dc_store.specs.Rows.{names_of}
-use Rattle.dc_question.specs.Changes.{value_set, flag_set, variable_set, value_reset}
+use Rattle.dc_question.specs.Changes.{value_set, values_set, flag_set, variable_set, value_reset}
 use Rattle.dc_question.specs.Ownership.{registered, unregistered, purged, loaded, leave_row, load_row}
 use Rattle.dc_question.specs.Questions.{question, template, read, read_template, value, flag, expanded_field}
 use Rattle.dc_question.specs.declared.errors.QuestionError.{QuestionError}
-use Rattle.dc_question.specs.declared.errors.QuestionError.TheVariants.{NoQuestion, NoTemplate, NoField, CantChange, Twice}
+use Rattle.dc_question.specs.declared.errors.QuestionError.TheVariants.{NoQuestion, NoField}
+use Rattle.dc_session.specs.Asking.{is_among, description, is_to_be_shown, prepared_if, choices_for, skipped, first_busy, bar_at}
+use Rattle.dc_session.specs.Refusals.{refusal, is_busy, bad_flag_value, no_progress_bar, version_not_supported, read_fault, no_template_file, bad_template_file}
 use Rattle.dc_session.specs.SessionState.{FilesState, SessionState}
+use Rattle.dc_session.specs.declared.asking.Asking.{Asking}
+use Rattle.dc_session.specs.declared.asking.Bar.{Bar}
+use Rattle.dc_session.specs.declared.stepped.Stepped.{Stepped}
+use Rattle.dc_session.specs.declared.stepped.Stepped.TheVariants.{Replied, Stopped}
 use Rattle.dc_session.specs.declared.template_files.Found.{Found}
 use Rattle.dc_session.specs.declared.template_files.Found.TheVariants.{Unreadable, Missing, Faulty, Templates}
 
--- a reply, and the store that is left
+-- what a command comes to: its reply, the store that is left, and what is asked for then
 pub record Outcome : Type 0 where
-  pub reply : Reply
+  pub stepped : Stepped
   pub store : StoreState
-
--- ---- refusals
-
--- no question has this name, which is told as it was typed
-abbrev pub no_question : List ℕ → Reply
-no_question word = reply 10 (word ++ codes " doesn't exist")
-
--- the question's template isn't there
-abbrev pub no_template : List ℕ → Reply
-no_template word = reply 10 (codes "no template for " ++ word)
-
--- the template has no such field, which is told as it was typed
-abbrev pub no_field : List ℕ → Reply
-no_field word = reply 10 (word ++ codes " doesn't exist")
-
--- a write to the question or to its template is refused
-abbrev pub cant_change : List ℕ → Reply
-cant_change word = reply 10 (word ++ codes " can't be changed")
-
--- the question is bound to another template
-abbrev pub other_template : List ℕ → Reply
-other_template word = reply 10 (word ++ codes " has another template")
-
-abbrev pub bad_flag_value : Reply
-bad_flag_value = reply 10 (codes "bad flag value")
-
-abbrev pub read_fault : Reply
-read_fault = reply 100 (codes "read fault")
-
-abbrev pub no_template_file : Reply
-no_template_file = reply 10 (codes "no such template file")
-
-abbrev pub bad_template_file : ℕ → Reply
-bad_template_file line = reply 10 (codes "bad template file, line " ++ decimal line)
-
--- the reply to a call that is refused; a field is told as it was typed
-abbrev pub refusal : List ℕ → QuestionError → Reply
-refusal field (NoQuestion name) = no_question name
-refusal field (NoTemplate name) = no_template name
-refusal field (CantChange name) = cant_change name
-refusal field (Twice name) = other_template name
-refusal field _ = no_field field
+  pub asking : Asking
 
 -- ---- calls
+
+-- a reply, and nothing changes
+abbrev pub tells : SessionState → Reply → Outcome
+tells state reply = record { stepped = Replied reply; store = state.store; asking = state.asking }
+
+-- a reply, and this is asked for then
+abbrev pub asks : SessionState → Reply → Asking → Outcome
+asks state reply asking = record { stepped = Replied reply; store = state.store; asking = asking }
 
 -- what a call on the question of a word says; a word that isn't a name names none
 abbrev pub on : {A : Type 0} → List ℕ → (List ℕ → Result A QuestionError) → Result A QuestionError
 on word call = if is_name word then call word else Err (NoQuestion word)
 
+-- what follows from what is read of a question; a refusal changes nothing
+abbrev pub by : {A : Type 0} → SessionState → (A → Outcome) → Result A QuestionError → Outcome
+by state outcome (Ok answer) = outcome answer
+by state outcome (Err error) = tells state (refusal [] error)
+
 -- a call that reads, whose refusal may tell a field
-abbrev pub says : {A : Type 0} → StoreState → List ℕ → (A → Reply) → Result A QuestionError → Outcome
-says store field reply (Ok answer) = record { reply = reply answer; store = store }
-says store field reply (Err error) = record { reply = refusal field error; store = store }
+abbrev pub says : {A : Type 0} → SessionState → List ℕ → (A → Reply) → Result A QuestionError → Outcome
+says state field reply (Ok answer) = tells state (reply answer)
+says state field reply (Err error) = tells state (refusal field error)
 
 -- a call that writes: all that it writes is done, or nothing
-abbrev pub does : StoreState → Reply → Result StoreState QuestionError → Outcome
-does store reply (Ok new) = record { reply = reply; store = new }
-does store reply (Err error) = record { reply = refusal [] error; store = store }
+abbrev pub does : SessionState → Reply → Result StoreState QuestionError → Outcome
+does state reply (Ok new) = record { stepped = Replied reply; store = new; asking = state.asking }
+does state reply (Err error) = tells state (refusal [] error)
 
--- ---- the table of commands
+-- the questions that owners leave, unless one of them is prepared
+abbrev pub unless_busy : SessionState → List (List ℕ) → Outcome → Outcome
+unless_busy state names outcome = option_map_or (λ name. tells state (is_busy name)) (first_busy state.asking names) outcome
+
+-- what is done to the progress bar that is there
+abbrev pub on_bar : SessionState → (Bar → Outcome) → Outcome
+on_bar state outcome = option_map_or outcome state.asking.bar (tells state no_progress_bar)
+
+-- ---- parts of the table
+
+-- the protocol's version is 2: `2` is asked for, or what begins with `2.`, or none
+abbrev pub is_supported : Option (List ℕ) → Bool
+is_supported None = true
+is_supported (Some version) = bytes_eq version (codes "2") || starts_with nat_eq version (codes "2.")
+
+-- the capabilities of the confmodule are these words
+abbrev pub capable : Asking → List (List ℕ) → Asking
+capable asking words = record asking { escape = is_among words (codes "escape"); backup = is_among words (codes "backup") }
+
+abbrev pub titled : Asking → List ℕ → Asking
+titled asking text = record asking { title = text }
+
+abbrev pub with_bar : Asking → Option Bar → Asking
+with_bar asking bar = record asking { bar = bar }
 
 abbrev pub truth : Bool → List ℕ
 truth is = if is then codes "true" else codes "false"
 
 abbrev pub is_truth : List ℕ → Bool
 is_truth value = bytes_eq value (codes "true") || bytes_eq value (codes "false")
+
+-- a text that was asked for has a code of its own in escape mode
+abbrev pub told_code : Bool → ℕ
+told_code escape = if escape then 1 else 0
+
+abbrev pub text_reply : SessionState → List ℕ → Reply
+text_reply state text = reply (told_code state.asking.escape) text
+
+-- the name of a question that is there
+abbrev pub there : SessionState → List ℕ → Result (List ℕ) QuestionError
+there state name = read name (question state.store.layers state.at name) (λ item. Ok name)
 
 -- a field of the question's template, in the user's language and with the question's variables put in; a word that is no key of a field
 -- names none
@@ -97,32 +113,82 @@ field_read state field name =
     if is_field_key (each lower field) then expanded_field state.store.layers state.at name (each lower field)
     else read name (question state.store.layers state.at name) (λ item. read_template name (template state.store.layers state.at item) (λ template. Err NoField))
 
+-- the prepared questions were set to their choices, or one of them can't be changed
+abbrev pub gone : SessionState → Result StoreState QuestionError → Outcome
+gone state (Ok store) = record { stepped = Replied (reply 0 (codes "ok")); store = store; asking = skipped state }
+gone state (Err error) = tells state (refusal [] error)
+
 -- what the templates of a file that was looked for come to, with an owner for their questions
 abbrev pub loading : SessionState → List ℕ → Found → Outcome
-loading state owner Unreadable = record { reply = read_fault; store = state.store }
-loading state owner Missing = record { reply = no_template_file; store = state.store }
-loading state owner (Faulty line) = record { reply = bad_template_file line; store = state.store }
-loading state owner (Templates templates) = does state.store (reply 0 []) (loaded state.store state.at owner templates)
+loading state owner Unreadable = tells state read_fault
+loading state owner Missing = tells state no_template_file
+loading state owner (Faulty line) = tells state (bad_template_file line)
+loading state owner (Templates templates) = does state (reply 0 []) (loaded state.store state.at owner templates)
+
+-- ---- the table of commands
 
 -- What a command comes to, with what was found where it looks for a file.
 abbrev pub answer : SessionState → Command → Found → Outcome
-answer state (Get word) found = says state.store [] (reply 0) (on word (value state.store.layers state.at))
-answer state (Set word text) found = does state.store (reply 0 (codes "value set")) (on word (λ name. value_set state.store state.at name text))
-answer state (Reset word) found = does state.store (reply 0 []) (on word (value_reset state.store state.at))
-answer state (Subst word key text) found = does state.store (reply 0 []) (on word (λ name. variable_set state.store state.at name key text))
-answer state (Fget word key) found = says state.store [] (λ is. reply 0 (truth is)) (on word (λ name. flag state.store.layers state.at name key))
+-- VERSION [version]
+answer state (Version version) found = tells state (if is_supported version then reply 0 (codes "2.0") else version_not_supported)
+-- CAPB capabilities
+answer state (Capb words) found = asks state (reply 0 (codes "multiselect escape")) (capable state.asking words)
+-- SETTITLE question
+answer state (SetTitle word) found = by state (λ text. asks state (reply 0 []) (titled state.asking text)) (on word (description state.store.layers state.at))
+-- TITLE value
+answer state (Title text) found = asks state (reply 0 []) (titled state.asking text)
+-- INPUT priority question: without a user it is skipped, and what is to be shown is prepared
+answer state (Input priority word) found = by state (λ shown. asks state (reply 30 (codes "question skipped")) (prepared_if shown state.asking word)) (on word (is_to_be_shown state priority))
+-- BEGINBLOCK
+answer state BeginBlock found = tells state (reply 0 [])
+-- ENDBLOCK
+answer state EndBlock found = tells state (reply 0 [])
+-- GO
+answer state Go found = gone state (values_set state.store state.at (choices_for state))
+-- CLEAR: nothing is prepared
+answer state Clear found = asks state (reply 0 []) (record state.asking { prepared = [] })
+-- STOP: the session ends, and there is no reply
+answer state Stop found = record { stepped = Stopped; store = state.store; asking = state.asking }
+-- GET question
+answer state (Get word) found = says state [] (text_reply state) (on word (value state.store.layers state.at))
+-- SET question value
+answer state (Set word text) found = does state (reply 0 (codes "value set")) (on word (λ name. value_set state.store state.at name text))
+-- RESET question
+answer state (Reset word) found = does state (reply 0 []) (on word (value_reset state.store state.at))
+-- SUBST question key value
+answer state (Subst word key text) found = does state (reply 0 []) (on word (λ name. variable_set state.store state.at name key text))
+-- FGET question flag
+answer state (Fget word key) found = says state [] (λ is. reply 0 (truth is)) (on word (λ name. flag state.store.layers state.at name key))
+-- FSET question flag value
 answer state (Fset word key text) found =
-    if is_truth text then does state.store (reply 0 text) (on word (λ name. flag_set state.store state.at name key (bytes_eq text (codes "true"))))
-    else says state.store [] (λ is. bad_flag_value) (on word (λ name. flag state.store.layers state.at name key))
-answer state (Metaget word field) found = says state.store field (reply 0) (on word (field_read state field))
-answer state (Register template name) found = does state.store (reply 0 []) (registered state.store state.at template name state.owner)
-answer state (Unregister word) found = does state.store (reply 0 []) (on word (λ name. unregistered state.store state.at name state.owner))
-answer state Purge found = does state.store (reply 0 []) (purged state.store state.at state.owner)
+    if is_truth text then does state (reply 0 text) (on word (λ name. flag_set state.store state.at name key (bytes_eq text (codes "true"))))
+    else says state [] (λ is. bad_flag_value) (on word (λ name. flag state.store.layers state.at name key))
+-- METAGET question field
+answer state (Metaget word field) found = says state field (text_reply state) (on word (field_read state field))
+-- REGISTER template question
+answer state (Register template name) found = does state (reply 0 []) (registered state.store state.at template name state.owner)
+-- UNREGISTER question
+answer state (Unregister word) found =
+    by state (λ name. unless_busy state (name ∷ []) (does state (reply 0 []) (unregistered state.store state.at name state.owner))) (on word (there state))
+-- PURGE
+answer state Purge found = unless_busy state (owned state.store.layers state.at.config state.owner) (does state (reply 0 []) (purged state.store state.at state.owner))
+-- PROGRESS START min max question
+answer state (ProgressStart low high word) found =
+    by state (λ name. asks state (reply 0 (codes "OK")) (with_bar state.asking (Some (record { min = low; max = high; place = low })))) (on word (there state))
+-- PROGRESS SET number
+answer state (ProgressSet number) found = on_bar state (λ bar. asks state (reply 0 (codes "OK")) (with_bar state.asking (Some (bar_at bar number))))
+-- PROGRESS STEP number
+answer state (ProgressStep number) found = on_bar state (λ bar. asks state (reply 0 (codes "OK")) (with_bar state.asking (Some (bar_at bar (bar.place + number)))))
+-- PROGRESS INFO question
+answer state (ProgressInfo word) found = on_bar state (λ bar. by state (λ name. tells state (reply 0 (codes "OK"))) (on word (there state)))
+-- PROGRESS STOP
+answer state ProgressStop found = on_bar state (λ bar. asks state (reply 0 (codes "OK")) (with_bar state.asking None))
+-- X_LOADTEMPLATEFILE path [owner]
 answer state (LoadTemplateFile path owner) found = loading state (unwrap_or owner state.owner) found
 
 -- the state that it leaves, with the files as they are then
 abbrev pub after_command : SessionState → Command → Found → FilesState → SessionState
-after_command state command found files = record state { store = (answer state command found).store; files = files }
+after_command state command found files = record state { store = (answer state command found).store; files = files; asking = (answer state command found).asking }
 
 -- ---- what may change
 
@@ -132,14 +198,13 @@ load_names state owner _ = []
 
 -- the names of the items that a command's writes are on
 abbrev pub names_on : SessionState → Command → Found → List (List ℕ)
-names_on state (Get word) found = []
+names_on state Go found = each (λ answer. answer.0) (choices_for state)
 names_on state (Set word text) found = word ∷ []
 names_on state (Reset word) found = word ∷ []
 names_on state (Subst word key text) found = word ∷ []
-names_on state (Fget word key) found = []
 names_on state (Fset word key text) found = word ∷ []
-names_on state (Metaget word field) found = []
 names_on state (Register template name) found = template ∷ name ∷ []
 names_on state (Unregister word) found = names_of (leave_row state.store.layers state.at state.owner (word ∷ []))
 names_on state Purge found = names_of (leave_row state.store.layers state.at state.owner (owned state.store.layers state.at.config state.owner))
 names_on state (LoadTemplateFile path owner) found = load_names state (unwrap_or owner state.owner) found
+names_on state command found = []

@@ -1,5 +1,5 @@
 -- What the inner functions of a session promise. No public clause cites these.
-use Rattle.std.specs.Prelude.{◌≡◌, ℕ, Bool, true, false, List, map as each, Option, Some, None, Result, Ok, Err, IfOk}
+use Rattle.std.specs.Prelude.{◌≡◌, ℕ, true, false, List, map as each, Option, Some, None, Result, Ok, Err, IfOk}
 use Rattle.dc_text.specs.declared.memory.OutOfMemory.{OutOfMemory}
 use Rattle.dc_text.specs.Maps.{AreDistinct}
 use Rattle.dc_text.specs.Names.{is_name}
@@ -9,13 +9,15 @@ use Rattle.dc_proto.specs.declared.reply.Reply.{Reply}
 use Rattle.dc_store.specs.StoreLaws.{AreSameButAll}
 use Rattle.dc_question.specs.declared.errors.QuestionError.{QuestionError}
 use Rattle.dc_question.specs.declared.errors.QuestionError.TheVariants as error
-use Rattle.dc_serve.specs.declared.heeds.Heeded.{Heeded}
 use Rattle.dc_template.specs.Reading.{IsAnswer}
 use Rattle.dc_template.specs.declared.faults.TemplateKind.{TemplateKind}
 use Rattle.dc_template.specs.declared.faults.TemplateError.TheVariants.{Bad}
-use Rattle.dc_session.specs.Answers.{Outcome, refusal, says, field_read}
-use Rattle.dc_session.specs.Machine.{replied, HeedsHeard, BreaksHeard}
+use Rattle.dc_session.specs.Answers.{Outcome, says, text_reply, field_read}
+use Rattle.dc_session.specs.Machine.{StepsHeard, BreaksHeard}
+use Rattle.dc_session.specs.Refusals.{refusal}
 use Rattle.dc_session.specs.SessionState.{SessionState}
+use Rattle.dc_session.specs.declared.stepped.Stepped.{Stepped}
+use Rattle.dc_session.specs.declared.stepped.Stepped.TheVariants.{Replied}
 use Rattle.dc_session.specs.declared.template_files.Found.{Found}
 use Rattle.dc_session.specs.declared.template_files.Found.TheVariants.{Unreadable, Missing, Faulty, Templates}
 
@@ -41,29 +43,29 @@ HasDistinctNames _ = Unit {0}
 -- ---- replies
 
 -- a call is refused, and this is said of it, unless memory ran out
-abbrev pub TellsRefusal : List ℕ → QuestionError → Result Heeded OutOfMemory → Type 0
-TellsRefusal field error.OutOfMemory (Ok heeded) = ⊥
-TellsRefusal field error (Ok heeded) = heeded ≡ replied (refusal field error)
+abbrev pub TellsRefusal : List ℕ → QuestionError → Result Stepped OutOfMemory → Type 0
+TellsRefusal field error.OutOfMemory (Ok did) = ⊥
+TellsRefusal field error (Ok did) = did ≡ Replied (refusal field error)
 TellsRefusal field error (Err memory) = Unit {0}
 
 -- what a call answered, and this is said of it, unless memory ran out
-abbrev pub Tells : {A : Type 0} → List ℕ → (A → Reply) → Result A QuestionError → Result Heeded OutOfMemory → Type 0
-Tells field reply (Ok answer) (Ok heeded) = heeded ≡ replied (reply answer)
+abbrev pub Tells : {A : Type 0} → List ℕ → (A → Reply) → Result A QuestionError → Result Stepped OutOfMemory → Type 0
+Tells field reply (Ok answer) (Ok did) = did ≡ Replied (reply answer)
 Tells field reply (Ok answer) (Err memory) = Unit {0}
 Tells field reply (Err error) result = TellsRefusal field error result
 
 -- ---- commands
 
 -- A command comes to this, or memory ran out at its calls and at most the items of these names changed.
-abbrev pub Comes : Outcome → List (List ℕ) → SessionState → SessionState → Result Heeded OutOfMemory → Type 0
-Comes outcome names old new (Ok heeded) = (heeded ≡ replied outcome.reply) × (new ≡ record old { store = outcome.store })
+abbrev pub Comes : Outcome → List (List ℕ) → SessionState → SessionState → Result Stepped OutOfMemory → Type 0
+Comes outcome names old new (Ok did) = (did ≡ outcome.stepped) × (new ≡ record old { store = outcome.store; asking = outcome.asking })
 Comes outcome names old new (Err memory) = AreSameButAll names old.store.layers new.store.layers × (new ≡ record old { store = new.store })
 
 -- a field of a question is told, unless memory ran out
-pub record ReadsField (state : SessionState) (field name : List ℕ) (result : Result Heeded OutOfMemory) : Type 0 where
-  pub told : IfOk result (λ heeded. heeded ≡ replied (says state.store field (reply 0) (field_read state field name)).reply)
+pub record ReadsField (state : SessionState) (field name : List ℕ) (result : Result Stepped OutOfMemory) : Type 0 where
+  pub told_is : IfOk result (λ did. did ≡ (says state field (text_reply state) (field_read state field name)).stepped)
 
 -- what a line does, or where memory ran out at it
-abbrev pub DoesHeard : Heard → SessionState → SessionState → Result Heeded OutOfMemory → Type 0
-DoesHeard heard old new (Ok heeded) = HeedsHeard heard old heeded new
+abbrev pub DoesHeard : Heard → SessionState → SessionState → Result Stepped OutOfMemory → Type 0
+DoesHeard heard old new (Ok did) = StepsHeard heard old did new
 DoesHeard heard old new (Err memory) = BreaksHeard heard old new

@@ -1,7 +1,10 @@
 pub mod Answers
+pub mod Asking
+pub mod Escaping
 pub mod FileLoading
 pub mod Inside
 pub mod Machine
+pub mod Refusals
 pub mod Serving
 pub mod SessionState
 pub mod TemplateFiles

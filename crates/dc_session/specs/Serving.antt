@@ -1,16 +1,35 @@
 -- The session behind a link, over the layers of a store.
-use Rattle.std.specs.Prelude.{◌≡◌, ℕ, List, Option}
-use Rattle.dc_outside.specs.declared.link.Piece.{Piece}
+use Rattle.std.specs.Prelude.{◌≡◌, ◌⊎◌, ℕ, List}
 use Rattle.dc_text.specs.declared.memory.OutOfMemory.{OutOfMemory}
 use Rattle.dc_layer.specs.State.{LayerState}
+use Rattle.dc_serve.specs.Ends.{LinkFaults, LinkRefusals}
 use Rattle.dc_serve.specs.Run.{HasRun}
 use Rattle.dc_serve.specs.declared.outcome.LinkEnd.{LinkEnd}
+use Rattle.dc_serve.specs.declared.outcome.LinkEnd.TheVariants as link
+use Rattle.dc_store.specs.StoreLaws.{AreSameButAll}
+use Rattle.dc_session.specs.Asking.{finished}
 use Rattle.dc_session.specs.Machine.{Heeds, Breaks}
-use Rattle.dc_session.specs.SessionState.{FilesState, SessionState}
+use Rattle.dc_session.specs.SessionState.{FilesState, LinkState, SessionState}
 
--- a session that began so was served, and left these layers and files
-pub record IsServed (start : SessionState) (layers : List LayerState) (files : FilesState) (talk new_talk : Option (List Piece)) (input left : Option (List ℕ)) (ended : LinkEnd OutOfMemory) (code : ℕ) : Type 0 where
+-- the session was finished, or memory ran out at that and at most the items of the questions that were asked changed
+abbrev pub IsFinished : SessionState → LinkEnd OutOfMemory → List LayerState → LinkEnd OutOfMemory → Type 0
+IsFinished state served layers ended =
+    ((layers ≡ (finished state).layers) × (ended ≡ served)) ⊎ (AreSameButAll state.asking.asked state.store.layers layers × (ended ≡ link.OutOfMemory))
+
+-- What becomes of a session whose link was served to this end: it is finished, unless memory ran out.
+abbrev pub Finishes : LinkEnd OutOfMemory → SessionState → List LayerState → LinkEnd OutOfMemory → Type 0
+Finishes link.Done state layers ended = IsFinished state link.Done layers ended
+Finishes link.LinkFault state layers ended = IsFinished state link.LinkFault layers ended
+Finishes link.TooLong state layers ended = IsFinished state link.TooLong layers ended
+Finishes link.OutOfMemory state layers ended = (layers ≡ state.store.layers) × (ended ≡ link.OutOfMemory)
+Finishes (link.Broken error) state layers ended = (layers ≡ state.store.layers) × (ended ≡ link.OutOfMemory)
+
+-- a session that began so was served, and finished, and left these layers and files
+pub record IsServed (start : SessionState) (layers : List LayerState) (files : FilesState) (old new : LinkState) (ended : LinkEnd OutOfMemory) (code : ℕ) : Type 0 where
   pub state : SessionState
-  pub layers_are : layers ≡ state.store.layers
+  pub served : LinkEnd OutOfMemory
+  pub ran : HasRun Heeds Breaks old.talk new.talk old.input new.input start served state code
   pub files_are : files ≡ state.files
-  pub ran : HasRun Heeds Breaks talk new_talk input left start ended state code
+  pub finishes : Finishes served state layers ended
+  pub faults : LinkFaults served old.counts.faults new.counts.faults
+  pub refusals : LinkRefusals served old.counts.refusals new.counts.refusals

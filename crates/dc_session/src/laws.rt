@@ -1,5 +1,7 @@
 //! Laws of sessions, over the definitions alone.
-ghost use Rattle.std.specs.Prelude.{◌≡◌, ◌≢◌, List, ℕ, [], ◌∷◌, Some, map as each};
+ghost use Rattle.std.specs.Prelude.{◌≡◌, ◌≢◌, List, ℕ, [], ◌∷◌, Some, None, true, map as each};
+ghost use Rattle.dc_text.specs.Settled.{settled};
+ghost use Rattle.dc_words.specs.Escaped.{escaped};
 ghost use Rattle.dc_words.specs.declared.stream.Line.{Line};
 ghost use Rattle.dc_words.specs.Stream.{whole_lines};
 ghost use Rattle.dc_outside.specs.Counts.{FaultRose};
@@ -7,25 +9,35 @@ ghost use Rattle.dc_outside.specs.Disk.{Disk};
 ghost use Rattle.dc_outside.specs.declared.files.FilesCall.{FilesCall};
 ghost use Rattle.dc_outside.specs.declared.link.Piece.{Piece};
 ghost use Rattle.dc_outside.specs.declared.link.Piece.TheVariants.{Got};
+ghost use Rattle.dc_proto.specs.Commands.{heard};
 ghost use Rattle.dc_proto.specs.declared.command.Command.{Command};
+ghost use Rattle.dc_proto.specs.declared.command.Command.TheVariants.{Get, Set};
+ghost use Rattle.dc_proto.specs.declared.command.Heard.TheVariants.{Known};
+ghost use Rattle.dc_proto.specs.declared.reply.Reply.{Reply};
 ghost use Rattle.dc_store.specs.StoreLaws.{AreSameButAll};
 ghost use Rattle.dc_serve.specs.Course.{Turn, lines_of, state_after, IsCourse};
 ghost use Rattle.dc_serve.specs.Step.{IsRead, InStep};
 ghost use Rattle.dc_serve.specs.declared.heeds.Heeded.{Heeded};
-ghost use Rattle.dc_serve.specs.declared.heeds.Heeded.TheVariants.{Replied};
-ghost use Rattle.dc_session.specs.Answers.{names_on};
-ghost use Rattle.dc_session.specs.Machine.{Heeds, HasDone};
+ghost use Rattle.dc_serve.specs.declared.heeds.Heeded.TheVariants as heeded;
+ghost use Rattle.dc_session.specs.Answers.{answer, names_on, text_reply};
+ghost use Rattle.dc_session.specs.Escaping.{set_line, unescaped};
+ghost use Rattle.dc_session.specs.Machine.{Heeds, Steps, HasDone};
 ghost use Rattle.dc_session.specs.SessionState.{SessionState};
+ghost use Rattle.dc_session.specs.declared.stepped.Stepped.{Stepped};
+ghost use Rattle.dc_session.specs.declared.stepped.Stepped.TheVariants.{Replied};
+ghost use Rattle.dc_session.specs.declared.template_files.Found.TheVariants.{Missing};
 
-/// A line that is refused, by a reply of another code than 0, changes nothing. It may have read a file.
+/// A line that is refused, by a reply of code 10, 20 or 100, changes neither the store nor what was asked for. It may have read a file. One of
+/// code 1 or 30 leaves the store too.
 pub fn refused_commands_change_nothing()
-    ensures { (old new : SessionState) (line : Line) (code : ℕ) (text : List ℕ) → Heeds old line (Replied code text) new → code ≢ 0
-        → (new.store ≡ old.store) × (new.at ≡ old.at) × (new.owner ≡ old.owner) }
+    ensures store { (old new : SessionState) (line : Line) (reply : Reply) → Steps old line (Replied reply) new → reply.code ≢ 0
+        → (new.store ≡ old.store) × (new.at ≡ old.at) × (new.owner ≡ old.owner) × (new.manner ≡ old.manner) }
+    ensures asking { (old new : SessionState) (line : Line) (reply : Reply) → Steps old line (Replied reply) new → reply.code ≢ 0 → reply.code ≢ 30 → new.asking ≡ old.asking }
 {}
 
 /// A command changes at most the items that its writes are on, in whichever layers they stand.
 pub fn other_items_stay()
-    ensures { (old new : SessionState) (command : Command) (did : Heeded) → (done : HasDone command old did new) → AreSameButAll (names_on old command done.found) old.store.layers new.store.layers }
+    ensures { (old new : SessionState) (command : Command) (stepped : Stepped) → (done : HasDone command old stepped new) → AreSameButAll (names_on old command done.found) old.store.layers new.store.layers }
 {}
 
 /// Where the files tell of the disk and of the calls on them, the lines and the files determine what a session says and leaves.
@@ -38,7 +50,7 @@ pub fn lines_and_files_determine_the_course()
 /// step: the line is answered first.
 pub fn lines_are_answered_first()
     ensures { (start : SessionState) (turns : List (Turn SessionState)) (bytes : List ℕ) (line : Line) (piece : Piece) → IsCourse Heeds start turns → whole_lines bytes ≡ line ∷ []
-        → ((did : Heeded) (new : SessionState) → Heeds start line did new → (code : ℕ) × (text : List ℕ) × (did ≡ Replied code text))
+        → ((did : Heeded) (new : SessionState) → Heeds start line did new → (code : ℕ) × (text : List ℕ) × (did ≡ heeded.Replied code text))
         → IsRead piece → InStep turns (Got bytes ∷ piece ∷ []) → ⊥ }
 {}
 
@@ -49,6 +61,15 @@ pub fn reads_leave_the_disk()
 
 /// `read fault` is told exactly where the files' count of faults rose in that command's read, and at every other reply their counts stay.
 pub fn read_faults_are_counted()
-    ensures told { (command : Command) (old new : SessionState) (code : ℕ) (text : List ℕ) → HasDone command old (Replied code text) new → code ≡ 100 → FaultRose old.files.counts new.files.counts }
-    ensures stays { (command : Command) (old new : SessionState) (code : ℕ) (text : List ℕ) → HasDone command old (Replied code text) new → code ≢ 100 → new.files.counts ≡ old.files.counts }
+    ensures told { (command : Command) (old new : SessionState) (reply : Reply) → HasDone command old (Replied reply) new → reply.code ≡ 100 → FaultRose old.files.counts new.files.counts }
+    ensures stays { (command : Command) (old new : SessionState) (reply : Reply) → HasDone command old (Replied reply) new → reply.code ≢ 100 → new.files.counts ≡ old.files.counts }
+{}
+
+/// In escape mode a question can be set to any text, and GET tells the text that it was set to, whatever bytes it has, once its escapes are
+/// put back. Values are settled, so that a pair of a backslash and an n in it is a newline. The plan of questions has no backup here.
+pub fn escaped_values_come_back()
+    ensures heard { (question text : List ℕ) → question ≢ [] → text ≢ [] → heard true (set_line question text) ≡ Known (Set question text) }
+    ensures told { (old mid : SessionState) (question text : List ℕ) (reply : Reply) → old.at.config.backup ≡ None → HasDone (Set question text) old (Replied reply) mid → reply.code ≡ 0
+        → (answer mid (Get question) Missing).stepped ≡ Replied (text_reply mid (settled text)) }
+    ensures sent { (text : List ℕ) → unescaped (escaped text) ≡ text }
 {}

@@ -1,14 +1,28 @@
-//! A session: commands on the questions of a store, line by line (debconf-devel(7)).
+//! A session: commands of a confmodule, line by line (debconf-devel(7)).
 #![tactic(auto)]
 
+pub mod asking;
+pub mod asking_commands;
+pub mod finishing;
 pub mod laws;
+pub mod manner;
+pub mod name_set;
+pub mod progress_commands;
+pub mod question_commands;
 pub mod replies;
 pub mod serving;
 pub mod session;
+pub mod stepped;
 pub mod template_files;
 pub mod template_loading;
 
-pub use serving::serve_layers;
+pub use asking::{Asking, Bar};
+pub use manner::Manner;
+pub use serving::{SessionSetup, serve_layers};
 pub use session::{Desk, Session};
+pub use stepped::Stepped;
 pub use template_files::{Found, find_templates};
 pub use template_loading::FileEnd;
+
+#[cfg(test)]
+mod tests;

@@ -2,38 +2,43 @@
 ghost use Rattle.std.specs.Prelude.{◌≡◌, ◌++◌, IfOk, [], codes};
 ghost use Rattle.dc_text.specs.Names.{is_name};
 ghost use Rattle.dc_proto.specs.Replies.{reply as reply_of};
-ghost use Rattle.dc_session.specs.Answers.{no_question, no_template, no_field, cant_change, other_template, bad_flag_value, bad_template_file, truth, is_truth};
+ghost use Rattle.dc_session.specs.Answers.{truth, is_truth};
 ghost use Rattle.dc_session.specs.Inside.{IsNamed, TellsRefusal, Tells};
-ghost use Rattle.dc_session.specs.Machine.{replied as replied_of};
+ghost use Rattle.dc_session.specs.Machine.{sent_in as sent_as};
+ghost use Rattle.dc_session.specs.Refusals.{no_question, no_template, no_field, cant_change, other_template, is_busy, bad_flag_value, bad_template_file};
+ghost use Rattle.dc_session.specs.declared.stepped.Stepped.TheVariants.{Replied};
 
+use crate::stepped::Stepped;
 use dc_proto::{Reply, print_reply};
 use dc_question::QuestionError;
 use dc_serve::Heeded;
 use dc_text::{Mem, Name, NameRefused, OutOfMemory, Text};
 use std::alloc::Global;
 
-/// A reply is sent as it is printed.
-pub fn replied(alloc: Global, reply: &Reply) -> Mem<Heeded>
-    ensures { IfOk result (λ did. did ≡ replied_of reply.now) }
+/// What a line comes to as it is sent: a reply as it is printed, in escape mode or in plain mode.
+pub fn sent_in(alloc: Global, stepped: Stepped, escape: bool) -> Mem<Heeded>
+    ensures { IfOk result (λ did. did ≡ sent_as escape stepped) }
 {
-    let text = print_reply(alloc, reply, false)?;
-    Ok(Heeded::Replied {
-        code: reply.code,
-        text,
-    })
+    match stepped {
+        Stepped::Silent => Ok(Heeded::Silent),
+        Stepped::Stopped => Ok(Heeded::Stopped),
+        Stepped::Replied(reply) => Ok(Heeded::Replied {
+            code: reply.code,
+            text: print_reply(alloc, &reply, escape)?,
+        }),
+    }
 }
 
-/// This reply is sent.
-pub fn says(alloc: Global, code: u8, text: &[u8]) -> Mem<Heeded>
-    ensures { IfOk result (λ did. did ≡ replied_of (reply_of code text.now)) }
+/// This is replied.
+pub fn says(alloc: Global, code: u8, text: &[u8]) -> Mem<Stepped>
+    ensures { IfOk result (λ stepped. stepped ≡ Replied (reply_of code text.now)) }
 {
-    let reply = Reply::new(alloc, code, text)?;
-    replied(alloc, &reply)
+    Ok(Stepped::Replied(Reply::new(alloc, code, text)?))
 }
 
 // A refusal of code 10 that tells a word, between these texts.
-fn refuses(alloc: Global, before: &[u8], word: &[u8], after: &[u8]) -> Mem<Heeded>
-    ensures { IfOk result (λ did. did ≡ replied_of (reply_of 10 (before.now ++ (word.now ++ after.now)))) }
+fn refuses(alloc: Global, before: &[u8], word: &[u8], after: &[u8]) -> Mem<Stepped>
+    ensures { IfOk result (λ stepped. stepped ≡ Replied (reply_of 10 (before.now ++ (word.now ++ after.now)))) }
 {
     let mut text = Text::from_bytes(alloc, before)?;
     text.append(word)?;
@@ -42,47 +47,54 @@ fn refuses(alloc: Global, before: &[u8], word: &[u8], after: &[u8]) -> Mem<Heede
 }
 
 /// No question has the name.
-pub fn missing(alloc: Global, word: &[u8]) -> Mem<Heeded>
-    ensures { IfOk result (λ did. did ≡ replied_of (no_question word.now)) }
+pub fn missing(alloc: Global, word: &[u8]) -> Mem<Stepped>
+    ensures { IfOk result (λ stepped. stepped ≡ Replied (no_question word.now)) }
 {
     refuses(alloc, b"", word, b" doesn't exist")
 }
 
-fn no_such_template(alloc: Global, word: &[u8]) -> Mem<Heeded>
-    ensures { IfOk result (λ did. did ≡ replied_of (no_template word.now)) }
+fn no_such_template(alloc: Global, word: &[u8]) -> Mem<Stepped>
+    ensures { IfOk result (λ stepped. stepped ≡ Replied (no_template word.now)) }
 {
     refuses(alloc, b"no template for ", word, b"")
 }
 
-fn unchangeable(alloc: Global, word: &[u8]) -> Mem<Heeded>
-    ensures { IfOk result (λ did. did ≡ replied_of (cant_change word.now)) }
+fn unchangeable(alloc: Global, word: &[u8]) -> Mem<Stepped>
+    ensures { IfOk result (λ stepped. stepped ≡ Replied (cant_change word.now)) }
 {
     refuses(alloc, b"", word, b" can't be changed")
 }
 
-fn bound_elsewhere(alloc: Global, word: &[u8]) -> Mem<Heeded>
-    ensures { IfOk result (λ did. did ≡ replied_of (other_template word.now)) }
+fn bound_elsewhere(alloc: Global, word: &[u8]) -> Mem<Stepped>
+    ensures { IfOk result (λ stepped. stepped ≡ Replied (other_template word.now)) }
 {
     refuses(alloc, b"", word, b" has another template")
 }
 
+/// The question is prepared to be asked.
+pub fn busy(alloc: Global, word: &[u8]) -> Mem<Stepped>
+    ensures { IfOk result (λ stepped. stepped ≡ Replied (is_busy word.now)) }
+{
+    refuses(alloc, b"", word, b" is busy")
+}
+
 /// The template has no such field.
-pub fn no_such_field(alloc: Global, field: &[u8]) -> Mem<Heeded>
-    ensures { IfOk result (λ did. did ≡ replied_of (no_field field.now)) }
+pub fn no_such_field(alloc: Global, field: &[u8]) -> Mem<Stepped>
+    ensures { IfOk result (λ stepped. stepped ≡ Replied (no_field field.now)) }
 {
     refuses(alloc, b"", field, b" doesn't exist")
 }
 
 /// The template file has a fault at this line.
-pub fn faulty(alloc: Global, line: u64) -> Mem<Heeded>
-    ensures { IfOk result (λ did. did ≡ replied_of (bad_template_file line)) }
+pub fn faulty(alloc: Global, line: u64) -> Mem<Stepped>
+    ensures { IfOk result (λ stepped. stepped ≡ Replied (bad_template_file line)) }
 {
     let number = line.to_string(alloc)?;
     refuses(alloc, b"bad template file, line ", number.as_bytes(), b"")
 }
 
 /// A call is refused. A field is told as it was typed.
-pub fn refused(alloc: Global, field: &[u8], error: QuestionError) -> Mem<Heeded>
+pub fn refused(alloc: Global, field: &[u8], error: QuestionError) -> Mem<Stepped>
     ensures { TellsRefusal field.now error result }
 {
     match error {
@@ -96,17 +108,22 @@ pub fn refused(alloc: Global, field: &[u8], error: QuestionError) -> Mem<Heeded>
 }
 
 /// What is read is told, or why it isn't.
-pub fn tell(alloc: Global, field: &[u8], said: Result<Text, QuestionError>) -> Mem<Heeded>
-    ensures { Tells field.now (reply_of 0) said result }
+pub fn tell(
+    alloc: Global,
+    code: u8,
+    field: &[u8],
+    said: Result<Text, QuestionError>,
+) -> Mem<Stepped>
+    ensures { Tells field.now (reply_of code) said result }
 {
     match said {
-        Ok(text) => says(alloc, 0, text.bytes()),
+        Ok(text) => says(alloc, code, text.bytes()),
         Err(error) => refused(alloc, field, error),
     }
 }
 
 /// A field that is none is told, unless the question or its template isn't there.
-pub fn tell_no_field(alloc: Global, field: &[u8], said: Result<Text, QuestionError>) -> Mem<Heeded>
+pub fn tell_no_field(alloc: Global, field: &[u8], said: Result<Text, QuestionError>) -> Mem<Stepped>
     ensures { Tells field.now (λ text. no_field field.now) said result }
 {
     match said {
@@ -116,7 +133,7 @@ pub fn tell_no_field(alloc: Global, field: &[u8], said: Result<Text, QuestionErr
 }
 
 /// A flag is told, or why it isn't.
-pub fn tell_flag(alloc: Global, said: Result<bool, QuestionError>) -> Mem<Heeded>
+pub fn tell_flag(alloc: Global, said: Result<bool, QuestionError>) -> Mem<Stepped>
     ensures { Tells [] (λ is. reply_of 0 (truth is)) said result }
 {
     match said {
@@ -126,7 +143,7 @@ pub fn tell_flag(alloc: Global, said: Result<bool, QuestionError>) -> Mem<Heeded
 }
 
 /// A value that no flag gets is told, unless the question isn't there.
-pub fn tell_bad_flag(alloc: Global, said: Result<bool, QuestionError>) -> Mem<Heeded>
+pub fn tell_bad_flag(alloc: Global, said: Result<bool, QuestionError>) -> Mem<Stepped>
     ensures { Tells [] (λ is. bad_flag_value) said result }
 {
     match said {
@@ -136,7 +153,7 @@ pub fn tell_bad_flag(alloc: Global, said: Result<bool, QuestionError>) -> Mem<He
 }
 
 /// A call that writes is confirmed by this text, or it is told why it isn't done.
-pub fn confirm(alloc: Global, text: &[u8], done: Result<(), QuestionError>) -> Mem<Heeded>
+pub fn confirm(alloc: Global, text: &[u8], done: Result<(), QuestionError>) -> Mem<Stepped>
     ensures { Tells [] (λ unit. reply_of 0 text.now) done result }
 {
     match done {

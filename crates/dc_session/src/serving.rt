@@ -1,22 +1,43 @@
 // A session over layers, behind a link.
-ghost use Rattle.std.specs.Prelude.{◌≡◌, [], length, map as each, true};
+ghost use Rattle.std.specs.Prelude.{◌≡◌, ℕ, List, [], None, Result, IfOk, length, map as each, true, unwrap_or, option_and_then};
+ghost use Rattle.std.specs.Result.{result_ok};
 ghost use Rattle.dc_conf.specs.Plans.{IsOver, are_disjoint};
-ghost use Rattle.dc_serve.specs.Ends.{LinkFaults, LinkRefusals};
 ghost use Rattle.dc_store.specs.Plans.{stored};
-ghost use Rattle.dc_session.specs.Serving.{IsServed};
+ghost use Rattle.dc_question.specs.Questions.{IsSetOver, Answers};
+ghost use Rattle.dc_question.specs.declared.errors.QuestionError.{QuestionError as QuestionErrorOf};
+ghost use Rattle.dc_session.specs.Asking.{nothing_asked, threshold_by};
+ghost use Rattle.dc_session.specs.Serving.{IsServed, Finishes};
+ghost use Rattle.dc_proto.specs.Priorities.{priority_of};
+ghost use Rattle.dc_proto.specs.declared.priority.Priority.TheVariants.{High};
 
+use crate::asking::Asking;
+use crate::manner::Manner;
 use crate::session::{Desk, Session};
 use dc_conf::Plan;
 use dc_layer::Layer;
 use dc_outside::{Files, Link};
-use dc_question::Questions;
-use dc_serve::{Conversation, serve_link};
+use dc_proto::Priority;
+use dc_question::{QuestionError, Questions};
+use dc_serve::{Conversation, Heeds, LinkEnd, serve_link};
 use dc_store::Store;
-use dc_text::{Name, OutOfMemory, Text};
+use dc_text::{Mem, Name, OutOfMemory, Text};
 use std::alloc::Global;
 
-/// Serves the commands that come on the link over these layers and files, by the plans of questions and of templates, for a user of the
-/// language and for an owner. The layers are given back as the session left them, in their order.
+/// How a session is set up.
+#[derive(Drop)]
+pub struct SessionSetup<'s> {
+    /// The owner for whom questions are registered.
+    pub owner: &'s Name,
+    /// The user's language.
+    pub lang: &'s Text,
+    /// The least priority of a question that is shown. Where none is chosen, the question `debconf/priority` says which (debconf(7)).
+    pub threshold: Option<Priority>,
+    /// Whether questions that are skipped, as no user is there, become seen.
+    pub nonint_seen: bool,
+}
+
+/// Serves the commands that come on the link over these layers and files, by the plans of questions and of templates, and finishes the
+/// session. The layers are given back as it left them, in their order.
 pub fn serve_layers<L: Link, F: Files>(
     alloc: Global,
     io: &mut L,
@@ -24,26 +45,154 @@ pub fn serve_layers<L: Link, F: Files>(
     layers: &mut Vec<Box<dyn Layer>>,
     config: &Plan,
     templates: &Plan,
-    lang: &Text,
-    owner: &Name,
+    setup: &SessionSetup<'_>,
 ) -> Conversation<OutOfMemory>
     requires config { IsOver config.now (length layers.old.items) }
     requires templates { IsOver templates.now (length layers.old.items) }
     requires disjoint { are_disjoint config.now templates.now ≡ true }
-    ensures served { IsServed (record { store = stored (each state layers.old.items) []; files = record { told = F.told files.old; counts = F.counts files.old }; at = record { config = config.now; templates = templates.now; lang = lang.now }; owner = owner.now }) (each state layers.new.items) (record { told = F.told files.new; counts = F.counts files.new }) (L.talk io.old) (L.talk io.new) (L.left io.old) (L.left io.new) result.end result.last_code }
-    ensures faults { LinkFaults result.end (L.faults io.old) (L.faults io.new) }
-    ensures refusals { LinkRefusals result.end (L.refusals io.old) (L.refusals io.new) }
+    ensures served { IsServed
+        (record {
+          store = stored (each state layers.old.items) [];
+          files = record { told = F.told files.old; counts = F.counts files.old };
+          at = record { config = config.now; templates = templates.now; lang = setup.now.lang.now };
+          owner = setup.now.owner.now;
+          manner = record { threshold = threshold_by setup.now.threshold (each state layers.old.items) (record { config = config.now; templates = templates.now; lang = setup.now.lang.now }); nonint_seen = setup.now.nonint_seen };
+          asking = nothing_asked;
+        })
+        (each state layers.new.items) (record { told = F.told files.new; counts = F.counts files.new })
+        (record { talk = L.talk io.old; input = L.left io.old; counts = record { faults = L.faults io.old; refusals = L.refusals io.old } })
+        (record { talk = L.talk io.new; input = L.left io.new; counts = record { faults = L.faults io.new; refusals = L.refusals io.new } })
+        result.end result.last_code }
 {
     let mut store = Store::new(alloc, std::mem::replace(layers, Vec::new(alloc)));
-    let questions = Questions::new(alloc, &mut store, config, templates, lang);
-    let desk = Desk::new(questions, owner);
-    let mut session = Session { alloc, desk, files };
-    let served = serve_link(alloc, io, &mut session);
+    let questions = Questions::new(alloc, &mut store, config, templates, setup.lang);
+    let desk = Desk::new(questions, setup.owner);
+    match threshold(alloc, &desk.questions, setup.threshold) {
+        Ok(threshold) => {
+            let manner = Manner {
+                threshold,
+                nonint_seen: setup.nonint_seen,
+            };
+            serve_desk(alloc, io, files, layers, desk, manner)
+        }
+        Err(_) => {
+            *layers = desk.into_layers(alloc);
+            Conversation {
+                end: LinkEnd::OutOfMemory,
+                last_code: 0,
+            }
+        }
+    }
+}
+
+// Serves the link at this desk, by a session that asks questions in this manner, and finishes it. The layers are put where they
+// are to stand.
+fn serve_desk<L: Link, F: Files>(
+    alloc: Global,
+    io: &mut L,
+    files: &mut F,
+    layers: &mut Vec<Box<dyn Layer>>,
+    desk: Desk<'_>,
+    manner: Manner,
+) -> Conversation<OutOfMemory>
+    ensures served { IsServed
+        (record {
+          store = stored (each state desk.entry.questions.store.now.layers.items) desk.entry.questions.store.now.told;
+          files = record { told = F.told files.old; counts = F.counts files.old };
+          at = desk.entry.questions.setting;
+          owner = desk.entry.owner.now;
+          manner = manner;
+          asking = nothing_asked;
+        })
+        (each state layers.new.items) (record { told = F.told files.new; counts = F.counts files.new })
+        (record { talk = L.talk io.old; input = L.left io.old; counts = record { faults = L.faults io.old; refusals = L.refusals io.old } })
+        (record { talk = L.talk io.new; input = L.left io.new; counts = record { faults = L.faults io.new; refusals = L.refusals io.new } })
+        result.end result.last_code }
+{
+    let mut asking = Asking::nothing(alloc);
+    let mut session = Session::new(alloc, desk, files, manner, &mut asking);
+    let ended = serve_session(alloc, io, &mut session);
     let Session {
         alloc: _,
         desk,
         files: _kept,
+        manner: _,
+        asking: _,
     } = session;
     *layers = desk.into_layers(alloc);
-    served
+    ended
+}
+
+// Serves the link by this session, and finishes it.
+fn serve_session<'s, 'f, L: Link, F: Files>(
+    alloc: Global,
+    io: &mut L,
+    session: &mut Session<'s, 'f, F>,
+) -> Conversation<OutOfMemory>
+    ensures served { IsServed
+        (⟦<Session<'s, 'f, F> as Heeds>⟧.sight session.old)
+        (⟦<Session<'s, 'f, F> as Heeds>⟧.sight session.new).store.layers
+        (⟦<Session<'s, 'f, F> as Heeds>⟧.sight session.new).files
+        (record { talk = L.talk io.old; input = L.left io.old; counts = record { faults = L.faults io.old; refusals = L.refusals io.old } })
+        (record { talk = L.talk io.new; input = L.left io.new; counts = record { faults = L.faults io.new; refusals = L.refusals io.new } })
+        result.end result.last_code }
+    ensures held { ⟦<Session<'s, 'f, F> as Heeds>⟧.held session.new ≡ ⟦<Session<'s, 'f, F> as Heeds>⟧.held session.old }
+{
+    let served = serve_link(alloc, io, session);
+    finish_served(session, served)
+}
+
+// The least priority of a question that is shown: the one that was chosen, else the one that the value of `debconf/priority` names,
+// else high.
+fn threshold(alloc: Global, questions: &Questions<'_>, chosen: Option<Priority>) -> Mem<Priority>
+    requires { IsSetOver questions.now.setting (length questions.now.store.now.layers.items) }
+    ensures { IfOk result (λ threshold. threshold ≡ threshold_by chosen (each (λ b. state (b.vtable, b.value)) questions.now.store.now.layers.items) questions.now.setting) }
+{
+    match chosen {
+        Some(priority) => Ok(priority),
+        None => said_threshold(alloc, questions),
+    }
+}
+
+// The priority that the value of `debconf/priority` names, else high.
+fn said_threshold(alloc: Global, questions: &Questions<'_>) -> Mem<Priority>
+    requires { IsSetOver questions.now.setting (length questions.now.store.now.layers.items) }
+    ensures { IfOk result (λ threshold. threshold ≡ threshold_by None (each (λ b. state (b.vtable, b.value)) questions.now.store.now.layers.items) questions.now.setting) }
+{
+    let Ok(name) = Name::read(alloc, b"debconf/priority") else {
+        return Err(OutOfMemory);
+    };
+    priority_said(questions.value(&name))
+}
+
+// The priority that the text names that is read, else high.
+fn priority_said(said: Result<Text, QuestionError>) -> Mem<Priority>
+    ensures { (reading : Result (List ℕ) QuestionErrorOf) → Answers said reading → IfOk result (λ priority. priority ≡ unwrap_or (option_and_then priority_of (result_ok reading)) High) }
+{
+    match said {
+        Ok(word) => Ok(Priority::read(word.bytes()).unwrap_or(Priority::High)),
+        Err(QuestionError::OutOfMemory) => Err(OutOfMemory),
+        Err(_) => Ok(Priority::High),
+    }
+}
+
+// Finishes a session whose link was served to this end, unless memory ran out.
+fn finish_served<'s, 'f, F: Files>(
+    session: &mut Session<'s, 'f, F>,
+    served: Conversation<OutOfMemory>,
+) -> Conversation<OutOfMemory>
+    ensures finishes { Finishes served.end (⟦<Session<'s, 'f, F> as Heeds>⟧.sight session.old) (⟦<Session<'s, 'f, F> as Heeds>⟧.sight session.new).store.layers result.end }
+    ensures files { (⟦<Session<'s, 'f, F> as Heeds>⟧.sight session.new).files ≡ (⟦<Session<'s, 'f, F> as Heeds>⟧.sight session.old).files }
+    ensures code { result.last_code ≡ served.last_code }
+    ensures held { ⟦<Session<'s, 'f, F> as Heeds>⟧.held session.new ≡ ⟦<Session<'s, 'f, F> as Heeds>⟧.held session.old }
+{
+    let Conversation { end, last_code } = served;
+    let end = match end {
+        LinkEnd::OutOfMemory | LinkEnd::Broken(_) => LinkEnd::OutOfMemory,
+        ended => match session.finish() {
+            Ok(()) => ended,
+            Err(_) => LinkEnd::OutOfMemory,
+        },
+    };
+    Conversation { end, last_code }
 }

@@ -1,28 +1,24 @@
 // A session over questions and files, and what a line does to them.
-ghost use Rattle.std.specs.Prelude.{◌≡◌, [], IfOk, length, map as each, true};
+ghost use Rattle.std.specs.Prelude.{◌≡◌, IfOk, IfErr, length, map as each, true};
 ghost use Rattle.std.specs.Borrow.{GName};
 ghost use Rattle.std.proofs.Props.{props};
 ghost use Rattle.dc_conf.specs.Plans.{are_disjoint};
-ghost use Rattle.dc_proto.specs.Replies.{line_too_long};
-ghost use Rattle.dc_proto.specs.declared.command.Command.TheVariants as command;
 ghost use Rattle.dc_store.specs.Plans.{stored};
 ghost use Rattle.dc_question.specs.Questions.{IsSetOver};
 ghost use Rattle.dc_session.specs.SessionState.{SessionState};
-ghost use Rattle.dc_session.specs.Answers.{loading, load_names};
-ghost use Rattle.dc_session.specs.Inside.{Comes, DoesHeard, HasDistinctNames, ReadsField};
-ghost use Rattle.dc_session.specs.Machine.{Heeds as HeedsLine, Breaks as BreaksAt, Does};
+ghost use Rattle.dc_session.specs.Inside.{DoesHeard};
+ghost use Rattle.dc_session.specs.Machine.{Heeds as HeedsLine, Breaks as BreaksAt, Steps, Does};
 
-use crate::replies::{
-    confirm, faulty, is_shown_truth, missing, named, replied, says, tell, tell_bad_flag, tell_flag,
-    tell_no_field,
-};
-use crate::template_files::{Found, find_templates};
+use crate::asking::Asking;
+use crate::manner::Manner;
+use crate::replies::{says, sent_in};
+use crate::stepped::Stepped;
 use dc_layer::Layer;
 use dc_outside::Files;
 use dc_proto::{Command, Heard, read_command};
 use dc_question::Questions;
 use dc_serve::{Heeded, Heeds};
-use dc_text::{FieldKey, FlagName, Mem, Name, NameRefused, OutOfMemory, Text, VarKey};
+use dc_text::{Mem, Name, OutOfMemory};
 use dc_words::Line;
 use std::alloc::Global;
 use std::marker::PhantomData;
@@ -38,12 +34,15 @@ pub struct Desk<'s> {
     ghost apart: { are_disjoint questions.setting.config questions.setting.templates ≡ true } by { Prim.hlevel props },
 }
 
-/// A session: the questions that its commands read and change, and the files in which it looks for templates.
+/// A session (debconf-devel(7)): the questions that its commands read and change, the files in which it looks for templates, how
+/// it asks questions, and what was asked for so far.
 #[derive(Drop)]
 pub struct Session<'s, 'f, F: Files> {
-    pub alloc: Global,
-    pub desk: Desk<'s>,
-    pub files: &'f mut F,
+    pub(crate) alloc: Global,
+    pub(crate) desk: Desk<'s>,
+    pub(crate) files: &'f mut F,
+    pub(crate) manner: Manner,
+    pub(crate) asking: &'f mut Asking,
 }
 
 impl<'s> Desk<'s> {
@@ -82,24 +81,86 @@ impl<'s> Desk<'s> {
 }
 
 impl<'s, 'f, F: Files> Session<'s, 'f, F> {
+    /// A session at this desk, that looks for templates in these files and asks questions in this manner. What was asked for so far is
+    /// kept where the caller keeps it.
+    pub fn new(
+        alloc: Global,
+        desk: Desk<'s>,
+        files: &'f mut F,
+        manner: Manner,
+        asking: &'f mut Asking,
+    ) -> Session<'s, 'f, F>
+        ensures sight { ⟦<Session<'s, 'f, F> as Heeds>⟧.sight result ≡ record {
+          store = stored (each (λ b. (Layer-box b).state b.value) desk.entry.questions.store.now.layers.items) desk.entry.questions.store.now.told;
+          files = record { told = F.told files.old; counts = F.counts files.old };
+          at = desk.entry.questions.setting;
+          owner = desk.entry.owner.now;
+          manner = manner;
+          asking = asking.old;
+        } }
+        ensures held { ⟦<Session<'s, 'f, F> as Heeds>⟧.held result ≡ (desk.entry.questions.store.ghost_name, files.entry.ghost_name) }
+    {
+        Session {
+            alloc,
+            desk,
+            files,
+            manner,
+            asking,
+        }
+    }
+
+    /// Whether lines are read and replies are sent escaped now.
+    pub fn escape(&self) -> bool
+        ensures { result ≡ (⟦<Session<'s, 'f, F> as Heeds>⟧.sight self.now).asking.escape }
+    {
+        self.asking.escape
+    }
+
+    #[tactic(auto, using(crate::proofs::BreakLemmas::still_breaks))]
+    /// What a line comes to, and what it leaves. A line is read in the mode that stands before it. After a refusal, of code 10, 20 or
+    /// 100, nothing has changed.
+    pub fn step(&mut self, line: &Line) -> Mem<Stepped>
+        ensures ok { IfOk result (λ stepped. Steps (⟦<Session<'s, 'f, F> as Heeds>⟧.sight self.old) line.now stepped (⟦<Session<'s, 'f, F> as Heeds>⟧.sight self.new)) }
+        ensures err { IfErr result (λ error. BreaksAt (⟦<Session<'s, 'f, F> as Heeds>⟧.sight self.old) line.now error (⟦<Session<'s, 'f, F> as Heeds>⟧.sight self.new)) }
+        ensures held { ⟦<Session<'s, 'f, F> as Heeds>⟧.held self.new ≡ ⟦<Session<'s, 'f, F> as Heeds>⟧.held self.old }
+    {
+        match line {
+            Line::TooLong => says(self.alloc, 20, b"line too long"),
+            Line::Whole(text) => match read_command(self.alloc, text.bytes(), self.asking.escape) {
+                Ok(heard) => self.serve(heard),
+                Err(error) => Err(error),
+            },
+        }
+    }
+
     // What a line that was read does.
-    fn serve(&mut self, heard: &Heard) -> Mem<Heeded>
-        ensures does { DoesHeard heard.now (⟦<Session<'s, 'f, F> as Heeds>⟧.sight self.old) (⟦<Session<'s, 'f, F> as Heeds>⟧.sight self.new) result }
+    fn serve(&mut self, heard: Heard) -> Mem<Stepped>
+        ensures does { DoesHeard heard (⟦<Session<'s, 'f, F> as Heeds>⟧.sight self.old) (⟦<Session<'s, 'f, F> as Heeds>⟧.sight self.new) result }
         ensures held { ⟦<Session<'s, 'f, F> as Heeds>⟧.held self.new ≡ ⟦<Session<'s, 'f, F> as Heeds>⟧.held self.old }
     {
         match heard {
-            Heard::Nothing => Ok(Heeded::Silent),
-            Heard::Refused(reply) => replied(self.alloc, reply),
-            Heard::Known(command) => self.run(command),
+            Heard::Nothing => Ok(Stepped::Silent),
+            Heard::Refused(reply) => Ok(Stepped::Replied(reply)),
+            Heard::Known(command) => self.run(&command),
         }
     }
 
     // What a command is answered, and what it does.
-    fn run(&mut self, command: &Command) -> Mem<Heeded>
+    fn run(&mut self, command: &Command) -> Mem<Stepped>
         ensures does { Does command.now (⟦<Session<'s, 'f, F> as Heeds>⟧.sight self.old) (⟦<Session<'s, 'f, F> as Heeds>⟧.sight self.new) result }
         ensures held { ⟦<Session<'s, 'f, F> as Heeds>⟧.held self.new ≡ ⟦<Session<'s, 'f, F> as Heeds>⟧.held self.old }
     {
         match command {
+            Command::Version(version) => self.version(version),
+            Command::Capb(words) => self.capb(words),
+            Command::SetTitle(word) => self.set_title(word),
+            Command::Title(text) => self.title(text),
+            Command::Input { priority, question } => self.input(*priority, question),
+            Command::BeginBlock => says(self.alloc, 0, b""),
+            Command::EndBlock => says(self.alloc, 0, b""),
+            Command::Go => self.go(),
+            Command::Clear => self.clear(),
+            Command::Stop => Ok(Stepped::Stopped),
             Command::Get(word) => self.get(word),
             Command::Set { question, value } => self.set(question, value),
             Command::Reset(word) => self.reset(word),
@@ -118,171 +179,14 @@ impl<'s, 'f, F: Files> Session<'s, 'f, F> {
             Command::Register { template, question } => self.register(template, question),
             Command::Unregister(word) => self.unregister(word),
             Command::Purge => self.purge(),
+            Command::ProgressStart { min, max, question } => {
+                self.progress_start(*min, *max, question)
+            }
+            Command::ProgressSet(number) => self.progress_set(*number),
+            Command::ProgressStep(number) => self.progress_step(*number),
+            Command::ProgressInfo(word) => self.progress_info(word),
+            Command::ProgressStop => self.progress_stop(),
             Command::LoadTemplateFile { path, owner } => self.load(path, owner),
-        }
-    }
-
-    fn get(&self, word: &Text) -> Mem<Heeded>
-        ensures { Does (command.Get word.now) (⟦<Session<'s, 'f, F> as Heeds>⟧.sight self.now) (⟦<Session<'s, 'f, F> as Heeds>⟧.sight self.now) result }
-    {
-        let Some(name) = named(self.alloc, word)? else {
-            return missing(self.alloc, word.bytes());
-        };
-        tell(self.alloc, b"", self.desk.questions.value(&name))
-    }
-
-    fn fget(&self, word: &Text, flag: &FlagName) -> Mem<Heeded>
-        ensures { Does (command.Fget word.now flag.now) (⟦<Session<'s, 'f, F> as Heeds>⟧.sight self.now) (⟦<Session<'s, 'f, F> as Heeds>⟧.sight self.now) result }
-    {
-        let Some(name) = named(self.alloc, word)? else {
-            return missing(self.alloc, word.bytes());
-        };
-        tell_flag(self.alloc, self.desk.questions.flag(&name, flag))
-    }
-
-    fn metaget(&self, word: &Text, field: &Text) -> Mem<Heeded>
-        ensures { Does (command.Metaget word.now field.now) (⟦<Session<'s, 'f, F> as Heeds>⟧.sight self.now) (⟦<Session<'s, 'f, F> as Heeds>⟧.sight self.now) result }
-    {
-        let Some(name) = named(self.alloc, word)? else {
-            return missing(self.alloc, word.bytes());
-        };
-        self.field(&name, field)
-    }
-
-    // A field of the question's template. The refusal of one that is none comes after those of the question and of its template.
-    fn field(&self, name: &Name, field: &Text) -> Mem<Heeded>
-        ensures { ReadsField (⟦<Session<'s, 'f, F> as Heeds>⟧.sight self.now) field.now name.now result }
-    {
-        match FieldKey::read(self.alloc, field.bytes()) {
-            Ok(key) => tell(
-                self.alloc,
-                field.bytes(),
-                self.desk.questions.expanded(name, &key),
-            ),
-            Err(NameRefused::Bad) => {
-                let key = FieldKey::known(self.alloc, b"type")?;
-                tell_no_field(
-                    self.alloc,
-                    field.bytes(),
-                    self.desk.questions.expanded(name, &key),
-                )
-            }
-            Err(NameRefused::OutOfMemory) => Err(OutOfMemory),
-        }
-    }
-
-    fn set(&mut self, word: &Text, value: &Text) -> Mem<Heeded>
-        ensures does { Does (command.Set word.now value.now) (⟦<Session<'s, 'f, F> as Heeds>⟧.sight self.old) (⟦<Session<'s, 'f, F> as Heeds>⟧.sight self.new) result }
-        ensures held { ⟦<Session<'s, 'f, F> as Heeds>⟧.held self.new ≡ ⟦<Session<'s, 'f, F> as Heeds>⟧.held self.old }
-    {
-        let Some(name) = named(self.alloc, word)? else {
-            return missing(self.alloc, word.bytes());
-        };
-        let desk = &mut self.desk;
-        let done = desk.questions.set(&name, value.bytes());
-        confirm(self.alloc, b"value set", done)
-    }
-
-    fn reset(&mut self, word: &Text) -> Mem<Heeded>
-        ensures does { Does (command.Reset word.now) (⟦<Session<'s, 'f, F> as Heeds>⟧.sight self.old) (⟦<Session<'s, 'f, F> as Heeds>⟧.sight self.new) result }
-        ensures held { ⟦<Session<'s, 'f, F> as Heeds>⟧.held self.new ≡ ⟦<Session<'s, 'f, F> as Heeds>⟧.held self.old }
-    {
-        let Some(name) = named(self.alloc, word)? else {
-            return missing(self.alloc, word.bytes());
-        };
-        let desk = &mut self.desk;
-        let done = desk.questions.reset(&name);
-        confirm(self.alloc, b"", done)
-    }
-
-    fn subst(&mut self, word: &Text, key: &VarKey, value: &Text) -> Mem<Heeded>
-        ensures does { Does (command.Subst word.now key.now value.now) (⟦<Session<'s, 'f, F> as Heeds>⟧.sight self.old) (⟦<Session<'s, 'f, F> as Heeds>⟧.sight self.new) result }
-        ensures held { ⟦<Session<'s, 'f, F> as Heeds>⟧.held self.new ≡ ⟦<Session<'s, 'f, F> as Heeds>⟧.held self.old }
-    {
-        let Some(name) = named(self.alloc, word)? else {
-            return missing(self.alloc, word.bytes());
-        };
-        let desk = &mut self.desk;
-        let done = desk.questions.subst(&name, key, value.bytes());
-        confirm(self.alloc, b"", done)
-    }
-
-    fn fset(&mut self, word: &Text, flag: &FlagName, value: &Text) -> Mem<Heeded>
-        ensures does { Does (command.Fset word.now flag.now value.now) (⟦<Session<'s, 'f, F> as Heeds>⟧.sight self.old) (⟦<Session<'s, 'f, F> as Heeds>⟧.sight self.new) result }
-        ensures held { ⟦<Session<'s, 'f, F> as Heeds>⟧.held self.new ≡ ⟦<Session<'s, 'f, F> as Heeds>⟧.held self.old }
-    {
-        let Some(name) = named(self.alloc, word)? else {
-            return missing(self.alloc, word.bytes());
-        };
-        if !is_shown_truth(value.bytes()) {
-            return tell_bad_flag(self.alloc, self.desk.questions.flag(&name, flag));
-        }
-        let is = value.bytes() == b"true".as_slice();
-        let desk = &mut self.desk;
-        let done = desk.questions.set_flag(&name, flag, is);
-        confirm(self.alloc, value.bytes(), done)
-    }
-
-    fn register(&mut self, template: &Text, name: &Name) -> Mem<Heeded>
-        ensures does { Does (command.Register template.now name.now) (⟦<Session<'s, 'f, F> as Heeds>⟧.sight self.old) (⟦<Session<'s, 'f, F> as Heeds>⟧.sight self.new) result }
-        ensures held { ⟦<Session<'s, 'f, F> as Heeds>⟧.held self.new ≡ ⟦<Session<'s, 'f, F> as Heeds>⟧.held self.old }
-    {
-        let desk = &mut self.desk;
-        let done = desk.questions.register(template.bytes(), name, desk.owner);
-        confirm(self.alloc, b"", done)
-    }
-
-    fn unregister(&mut self, word: &Text) -> Mem<Heeded>
-        ensures does { Does (command.Unregister word.now) (⟦<Session<'s, 'f, F> as Heeds>⟧.sight self.old) (⟦<Session<'s, 'f, F> as Heeds>⟧.sight self.new) result }
-        ensures held { ⟦<Session<'s, 'f, F> as Heeds>⟧.held self.new ≡ ⟦<Session<'s, 'f, F> as Heeds>⟧.held self.old }
-    {
-        let Some(name) = named(self.alloc, word)? else {
-            return missing(self.alloc, word.bytes());
-        };
-        let desk = &mut self.desk;
-        let done = desk.questions.unregister(&name, desk.owner);
-        confirm(self.alloc, b"", done)
-    }
-
-    fn purge(&mut self) -> Mem<Heeded>
-        ensures does { Does (command.Purge) (⟦<Session<'s, 'f, F> as Heeds>⟧.sight self.old) (⟦<Session<'s, 'f, F> as Heeds>⟧.sight self.new) result }
-        ensures held { ⟦<Session<'s, 'f, F> as Heeds>⟧.held self.new ≡ ⟦<Session<'s, 'f, F> as Heeds>⟧.held self.old }
-    {
-        let desk = &mut self.desk;
-        let done = desk.questions.purge(desk.owner);
-        confirm(self.alloc, b"", done)
-    }
-
-    // What a template file holds is loaded, for the owner or for the session's.
-    fn load(&mut self, path: &Text, owner: &Option<Name>) -> Mem<Heeded>
-        ensures does { Does (command.LoadTemplateFile path.now owner.now) (⟦<Session<'s, 'f, F> as Heeds>⟧.sight self.old) (⟦<Session<'s, 'f, F> as Heeds>⟧.sight self.new) result }
-        ensures held { ⟦<Session<'s, 'f, F> as Heeds>⟧.held self.new ≡ ⟦<Session<'s, 'f, F> as Heeds>⟧.held self.old }
-    {
-        let owner = match owner {
-            None => self.desk.owner,
-            Some(owner) => owner,
-        };
-        match find_templates(self.alloc, self.files, path) {
-            Ok(found) => self.take_found(owner, &found),
-            Err(_) => Err(OutOfMemory),
-        }
-    }
-
-    // The templates that were found are loaded, or it is told why there are none.
-    fn take_found(&mut self, owner: &Name, found: &Found) -> Mem<Heeded>
-        requires { HasDistinctNames found.now }
-        ensures comes { Comes (loading (⟦<Session<'s, 'f, F> as Heeds>⟧.sight self.old) owner.now found.now) (load_names (⟦<Session<'s, 'f, F> as Heeds>⟧.sight self.old) owner.now found.now) (⟦<Session<'s, 'f, F> as Heeds>⟧.sight self.old) (⟦<Session<'s, 'f, F> as Heeds>⟧.sight self.new) result }
-        ensures held { ⟦<Session<'s, 'f, F> as Heeds>⟧.held self.new ≡ ⟦<Session<'s, 'f, F> as Heeds>⟧.held self.old }
-    {
-        match found {
-            Found::Unreadable => says(self.alloc, 100, b"read fault"),
-            Found::Missing => says(self.alloc, 10, b"no such template file"),
-            Found::Faulty { line } => faulty(self.alloc, *line),
-            Found::Templates(templates) => {
-                let desk = &mut self.desk;
-                let done = desk.questions.load_templates(owner, templates);
-                confirm(self.alloc, b"", done)
-            }
         }
     }
 }
@@ -297,6 +201,8 @@ impl<'s, 'f, F: Files> Heeds for Session<'s, 'f, F> {
       files = record { told = F.told s.files.now; counts = F.counts s.files.now };
       at = s.desk.questions.setting;
       owner = s.desk.owner.now;
+      manner = s.manner;
+      asking = s.asking.now;
     } };
 
     ghost heeds = { HeedsLine };
@@ -308,12 +214,8 @@ impl<'s, 'f, F: Files> Heeds for Session<'s, 'f, F> {
     ghost held = { λ s. (s.desk.questions.store.ghost_name, s.files.ghost_name) };
 
     fn heed(&mut self, line: &Line) -> Result<Heeded, OutOfMemory> {
-        match line {
-            Line::TooLong => says(self.alloc, 20, b"line too long"),
-            Line::Whole(text) => match read_command(self.alloc, text.bytes(), false) {
-                Ok(heard) => self.serve(&heard),
-                Err(_) => Err(OutOfMemory),
-            },
-        }
+        let escape = self.escape();
+        let stepped = self.step(line)?;
+        sent_in(self.alloc, stepped, escape)
     }
 }

@@ -15,7 +15,7 @@ returns-in-Err-clause-ran g c =
       io = record { talk = g.L.Link.talk c.args.io.now; input = g.L.Link.left c.args.io.now; counts = record { faults = g.L.Link.faults c.args.io.now; refusals = g.L.Link.refusals c.args.io.now } };
       err = record { talk = g.E.Link.talk c.end_run.new.err; input = g.E.Link.left c.end_run.new.err; counts = record { faults = g.E.Link.faults c.end_run.new.err; refusals = g.E.Link.refusals c.end_run.new.err } };
     } in
-    ended_before c.args.tool.now c.args.settings.now.conf_path c.args.settings.now.lang old new c.end_run.result c.in-Err.end c.in-Err.ensures.starts refl c.end_run.ensures.said c.end_run.ensures.outcome
+    ended_before c.args.tool.now c.args.settings.now old new c.end_run.result c.in-Err.end c.in-Err.ensures.starts refl c.end_run.ensures.said c.end_run.ensures.outcome
 
 pub returns-in-Ok-clause-ran : goal.returns-in-Ok-clause-ran
 returns-in-Ok-clause-ran g c =
@@ -30,5 +30,5 @@ returns-in-Ok-clause-ran g c =
       err = record { talk = g.E.Link.talk c.end_run-in-Ok.new.err; input = g.E.Link.left c.end_run-in-Ok.new.err; counts = record { faults = g.E.Link.faults c.end_run-in-Ok.new.err; refusals = g.E.Link.refusals c.end_run-in-Ok.new.err } };
     } in
     let err : LinkState = record { talk = g.E.Link.talk c.use_tool-answer.new.err; input = g.E.Link.left c.use_tool-answer.new.err; counts = record { faults = g.E.Link.faults c.use_tool-answer.new.err; refusals = g.E.Link.refusals c.use_tool-answer.new.err } } in
-    ended_after c.args.tool.now c.args.settings.now.conf_path c.args.settings.now.lang old new c.end_run-in-Ok.result c.finish_used-end.result
+    ended_after c.args.tool.now c.args.settings.now old new c.end_run-in-Ok.result c.finish_used-end.result
     _ c.in-Ok.roots c.use_tool-answer.result _ _ err c.in-Ok.ensures.starts c.use_tool-answer.ensures.uses c.finish_used-end.ensures c.end_run-in-Ok.ensures.said c.end_run-in-Ok.ensures.outcome

@@ -22,4 +22,4 @@ returns-in-Ok-clause-killed g c before after at to settled =
       io = record { talk = g.L.Link.talk c.run_tool.new.io; input = g.L.Link.left c.run_tool.new.io; counts = record { faults = g.L.Link.faults c.run_tool.new.io; refusals = g.L.Link.refusals c.run_tool.new.io } };
       err = record { talk = g.E.Link.talk c.run_tool.new.err; input = g.E.Link.left c.run_tool.new.err; counts = record { faults = g.E.Link.faults c.run_tool.new.err; refusals = g.E.Link.refusals c.run_tool.new.err } };
     } in
-    run_keeps c.in-Ok.tool c.args.settings.now.conf_path c.args.settings.now.lang old new c.run_tool.result before after c.run_tool.ensures.ran at to settled
+    run_keeps c.in-Ok.tool c.args.settings.now old new c.run_tool.result before after c.run_tool.ensures.ran at to settled

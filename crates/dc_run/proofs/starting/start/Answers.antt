@@ -8,13 +8,14 @@ returns-in-Ok-load_used-clause-starts g c =
     let old : FilesState = record { told = g.F.Files.told c.args.files.now; counts = g.F.Files.counts c.args.files.now } in
     let mid : FilesState = record { told = g.F.Files.told c.read_configuration.new.files; counts = g.F.Files.counts c.read_configuration.new.files } in
     let files : FilesState = record { told = g.F.Files.told c.load_used.new.files; counts = g.F.Files.counts c.load_used.new.files } in
-    let plans = both_plans c.in-Ok.conf _ _ _ c.in-Ok-resolve.ensures.plans c.both.ensures in
+    let plans = both_plans c.in-Ok.conf _ _ _ c.in-Ok-resolve.ensures.plans c.roots_of.ensures.plans in
     record {
       conf = c.in-Ok.conf;
       loaded = loaded_by c.args.path.now c.in-Ok.conf old mid files c.as_slice-2.result.now _ _ _ (Ok tt) c.in-Ok.ensures.0 c.in-Ok.ensures.1 (search rules) (search rules) c.in-Ok-load_used.ensures.loads refl;
       config_is = plans.0;
       templates_is = plans.1;
+      priority_is = search rules;
     }
 
 pub returns-in-Ok-load_used-clause-disjoint : goal.returns-in-Ok-load_used-clause-disjoint
-returns-in-Ok-load_used-clause-disjoint g c = both_disjoint _ _ _ c.both.ensures c.in-Ok-resolve.ensures.disjoint
+returns-in-Ok-load_used-clause-disjoint g c = both_disjoint _ _ _ c.roots_of.ensures.plans c.in-Ok-resolve.ensures.disjoint

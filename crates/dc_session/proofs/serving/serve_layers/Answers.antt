@@ -1,6 +1,10 @@
-use Rattle.std.proofs.Common.{rules}
-use Rattle.dc_session.proofs.ServeLemmas.{served_from}
+use Rattle.std.proofs.Common.{rules, refl}
+use Rattle.dc_session.proofs.ServeLemmas.{begun_as, served_as, unserved}
 use Rattle.dc_session.proofs.serving.serve_layers.Goals as goal
 
-pub returns-clause-served : goal.returns-clause-served
-returns-clause-served g c = served_from _ _ _ _ _ _ _ _ _ _ _ c.serve_link-served.ensures.run (search rules) (search rules) (search rules)
+pub returns-in-Ok : goal.returns-in-Ok
+returns-in-Ok g c =
+    record { served = served_as _ _ _ _ _ _ _ _ _ _ c.serve_desk.ensures.served (begun_as _ _ _ _ _ _ _ _ c.in-Ok.threshold c.args.setup.now.threshold _ _ (search rules) (search rules) (search rules) (search rules) (search rules) refl) refl refl }
+
+pub returns : goal.returns
+returns g c = record { served = unserved _ _ _ _ (search rules) (search rules) }

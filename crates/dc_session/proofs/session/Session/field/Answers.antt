@@ -6,7 +6,7 @@ pub returns-in-Ok : goal.returns-in-Ok
 returns-in-Ok g c =
     let value = rw c.bytes.ensures at c.in-Ok.ensures.value in
     let ok = rw c.bytes.ensures at c.in-Ok.ensures.ok in
-    let told = rw c.bytes-in-Ok.ensures at c.tell.ensures in
+    let told = rw (c.bytes-in-Ok.ensures, c.told_code.ensures) at c.tell.ensures in
     key_reads _ _ _ c.in-Ok.key value ok c.expanded.result c.expanded.ensures c.tell.result told
 
 pub returns-in_ok-key-in-Err-Bad : goal.returns-in_ok-key-in-Err-Bad

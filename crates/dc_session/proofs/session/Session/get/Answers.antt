@@ -4,4 +4,5 @@ use Rattle.dc_session.proofs.session.Session.get.Goals as goal
 pub returns : goal.returns
 returns g c =
     let named = rw c.in-Some.is at c.in_ok-name.ensures in
-    get_does _ _ _ named c.value.result c.value.ensures c.tell.result c.tell.ensures
+    let told = rw c.told_code.ensures at c.tell.ensures in
+    get_does _ _ _ named c.value.result c.value.ensures c.tell.result told

@@ -1,0 +1,3 @@
+pub mod Frontends
+pub mod Settling
+pub mod Showing

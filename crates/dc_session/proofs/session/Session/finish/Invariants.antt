@@ -1,0 +1,9 @@
+use Rattle.std.proofs.Common.{◌≡◌}
+use Rattle.dc_session.specs.contracts.session.SessionHeeds.TheImpl.{ghosts}
+use Rattle.dc_session.proofs.AskingLemmas.{IsMarked}
+use Rattle.dc_session.proofs.session.Session.finish.Given as goal
+
+abbrev pub invariant-loop-name : goal.invariant-loop-name
+invariant-loop-name g l =
+    let session = ghosts g.row.F g.F.Files g.F.Files-dict g.dyn-1 in
+    IsMarked (session.sight l.fn.self) l.name-items l.name-index (session.sight l.self) × (session.held l.self ≡ session.held l.fn.self)
