@@ -1,8 +1,7 @@
 // Sessions over the stack of databases, what they say, and what they leave.
 use crate::configured::{as_text, joined, stack};
 use crate::support::{
-    OLD, append_barred, append_texts, blank_shelf, files_of, make_words, settings, shown_end, text,
-    tired_shelf,
+    OLD, append_barred, append_texts, files_of, make_words, settings, shelf_of, shown_end, text,
 };
 use dc_outside::{MemFiles, MemLink};
 use dc_run::{Settings, run_words};
@@ -80,11 +79,7 @@ pub fn shown_over(
     let settings = settings_of(alloc, session)?;
     let mut files = session_files(alloc, session)?;
     let mut err = MemLink::new(alloc, b"", &[], &[]).ok()?;
-    let mut shelf = if is_tired {
-        tired_shelf(alloc)?
-    } else {
-        blank_shelf(alloc)?
-    };
+    let mut shelf = shelf_of(alloc, is_tired)?;
     let outcome = run_words(
         alloc, &words, &settings, io, &mut err, &mut files, &mut shelf,
     );

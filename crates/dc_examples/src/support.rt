@@ -102,6 +102,19 @@ pub fn tired_shelf(alloc: Global) -> Option<Shelf>
     Some(shelf)
 }
 
+/// A shelf of blank layers, each of which takes one change, or any number.
+pub fn shelf_of(alloc: Global, is_tired: bool) -> Option<Shelf>
+    ensures blank { IfSome result (λ shelf. AreBlank (each (λ b. state (b.vtable, b.value)) shelf.files.items)) }
+    ensures room { IfSome result (λ shelf. 16 ≤ length shelf.files.items) }
+    ensures used { IfSome result (λ shelf. shelf.used.items ≡ []) }
+{
+    if is_tired {
+        tired_shelf(alloc)
+    } else {
+        blank_shelf(alloc)
+    }
+}
+
 /// Runs the words for a user of the language.
 pub fn run(
     alloc: Global,
