@@ -1,0 +1,9 @@
+pub mod AskLemmas
+pub mod DialogueLemmas
+pub mod HearLemmas
+pub mod KeyLemmas
+pub mod LineLemmas
+pub mod ReadLemmas
+pub mod ShownLemmas
+pub mod TalkLemmas
+pub mod WordLemmas

@@ -1,0 +1,7 @@
+pub mod Answers
+pub mod Columns
+pub mod Dialogue
+pub mod Inside
+pub mod Keys
+pub mod Prompts
+pub mod TerminalLines
