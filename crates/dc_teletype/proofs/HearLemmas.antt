@@ -10,8 +10,8 @@ use Rattle.dc_outside.specs.declared.link.Piece.TheVariants.{Got, Sent, Cut as C
 use Rattle.dc_outside.specs.Talk.{then_pieces, AddsWrite}
 use Rattle.dc_teletype.specs.Dialogue.{Step, Stage, Waits, Goes, Stops, after_reading, reading_of}
 use Rattle.dc_teletype.specs.Prompts.{prompt}
-use Rattle.dc_teletype.specs.TerminalLines.{Ahead, Reads, ReadsUntil, with_bytes}
-use Rattle.dc_teletype.specs.Inside.{HasRead, HasReplied, HasHeard, answer_of, answered_or_back, is_answered}
+use Rattle.dc_teletype.specs.TerminalLines.{Ahead, Reads, ReadsUntil, with_bytes, HasRead}
+use Rattle.dc_teletype.specs.Inside.{HasReplied, HasHeard, answer_of, answered_or_back, is_answered}
 use Rattle.dc_teletype.specs.declared.answering.Reading.{Reading}
 use Rattle.dc_teletype.specs.declared.answering.Reading.TheVariants as reading
 use Rattle.dc_teletype.specs.declared.teletype.Answer.{Answer}

@@ -6,8 +6,8 @@ use Rattle.dc_outside.specs.declared.link.LinkError.{LinkError}
 use Rattle.dc_outside.specs.declared.link.LinkError.TheVariants.{Failed, OutOfMemory}
 use Rattle.dc_outside.specs.declared.link.Piece.{Piece}
 use Rattle.dc_outside.specs.declared.link.Piece.TheVariants.{Got, Sent, Cut as CutPiece, Lost}
-use Rattle.dc_teletype.specs.TerminalLines.{Ahead, IsOpen, IsFirst, IsLast, Reads, ReadsUntil, ReadsBy, with_bytes, first_line, last_line, longest}
-use Rattle.dc_teletype.specs.Inside.{HasRead, HasBrought, Brings, BringsBy, Takes, EndsWell}
+use Rattle.dc_teletype.specs.TerminalLines.{Ahead, IsOpen, IsFirst, IsLast, Reads, ReadsUntil, ReadsBy, with_bytes, first_line, last_line, longest, HasRead, EndsWell}
+use Rattle.dc_teletype.specs.Inside.{HasBrought, Brings, BringsBy, Takes}
 use Rattle.dc_teletype.specs.declared.terminal.TerminalLine.{TerminalLine}
 use Rattle.dc_teletype.proofs.LineLemmas.{none_short}
 use Rattle.dc_teletype.proofs.TalkLemmas.{Passes, passes_none, passes_then}

@@ -1,6 +1,6 @@
 -- What the inner functions promise. No public clause cites these.
-use Rattle.std.specs.Prelude.{◌≡◌, ◌<◌, ◌⊎◌, ⊤, ℕ, length, Bool, true, nat_le, List, [], ◌∷◌, ◌++◌, Option, Some, None, Result, Ok, Err}
-use Rattle.std.specs.Io.KnownBytes.{prepend_known, IsAtEnd}
+use Rattle.std.specs.Prelude.{◌≡◌, ◌<◌, ⊤, ℕ, length, Bool, true, nat_le, List, [], ◌∷◌, ◌++◌, Option, Some, None, Result, Ok, Err}
+use Rattle.std.specs.Io.KnownBytes.{prepend_known}
 use Rattle.dc_text.specs.Ascii.{newline}
 use Rattle.dc_frontend.specs.declared.shown.Shown.{Shown}
 use Rattle.dc_outside.specs.declared.link.LinkError.{LinkError}
@@ -10,7 +10,7 @@ use Rattle.dc_outside.specs.declared.link.Piece.TheVariants as piece
 use Rattle.dc_outside.specs.Talk.{then_pieces, got}
 use Rattle.dc_teletype.specs.Columns.{filled, paragraph}
 use Rattle.dc_teletype.specs.Dialogue.{Step, Over, Goes, Stops, answered, reading_of, most_unusable}
-use Rattle.dc_teletype.specs.TerminalLines.{Ahead, Reads, ReadsBy, ReadsUntil, first_line, with_bytes}
+use Rattle.dc_teletype.specs.TerminalLines.{Ahead, Reads, ReadsUntil, first_line, with_bytes}
 use Rattle.dc_teletype.specs.declared.answering.Reading.{Reading}
 use Rattle.dc_teletype.specs.declared.answering.Reading.TheVariants as reading
 use Rattle.dc_teletype.specs.declared.teletype.Answer.{Answer}
@@ -27,10 +27,6 @@ begun columns (byte ∷ line) words = filled columns (byte ∷ line) words
 abbrev pub Takes : List ℕ → Option TerminalLine → List ℕ → Type 0
 Takes old None new = (first_line old ≡ None) × (new ≡ old)
 Takes old (Some line) new = first_line old ≡ Some (line, new)
-
--- the input has ended only where it had, or none of it is left
-abbrev pub EndsWell : Ahead → Ahead → Option (List ℕ) → Type 0
-EndsWell old new left = new.has_ended ≡ true → (old.has_ended ≡ true) ⊎ IsAtEnd left
 
 -- a read brought a piece, or the end of the input
 abbrev pub Brings : Ahead → List Piece → Ahead → Type 0
@@ -54,13 +50,6 @@ pub record HasBrought (old new : Ahead) (talk new_talk : Option (List Piece)) (i
   pub told_is : new_talk ≡ then_pieces talk pieces
   pub took : input ≡ prepend_known (got pieces) left
   pub brings : BringsBy result old pieces new
-
--- the next line was read
-pub record HasRead (old new : Ahead) (talk new_talk : Option (List Piece)) (input left : Option (List ℕ)) (result : Result (Option TerminalLine) LinkError) : Type 0 where
-  pub pieces : List Piece
-  pub told_is : new_talk ≡ then_pieces talk pieces
-  pub took : input ≡ prepend_known (got pieces) left
-  pub reads : ReadsBy result old pieces new
 
 -- the step to which the answer of a question leads
 abbrev pub answered_or_back : Option Answer → List Shown → List Answer → Step

@@ -1,6 +1,7 @@
 -- The lines of a terminal, as far as its input came.
 use Rattle.std.specs.Prelude.{◌≡◌, ℕ, Bool, true, false, ◌==◌, ◌⊎◌, ⊤, nat_lt, List, [], ◌∷◌, ◌++◌, Option, Some, None, Result, Ok, Err, length, drop, if◌then◌else◌}
 use Rattle.std.specs.List.{before_first, after_first}
+use Rattle.std.specs.Io.KnownBytes.{prepend_known, IsAtEnd}
 use Rattle.dc_text.specs.Ascii.{newline}
 use Rattle.dc_text.specs.Lines.{has_newline}
 use Rattle.dc_outside.specs.declared.link.Piece.{Piece}
@@ -8,6 +9,7 @@ use Rattle.dc_outside.specs.declared.link.Piece.TheVariants as piece
 use Rattle.dc_outside.specs.declared.link.LinkError.{LinkError}
 use Rattle.dc_outside.specs.declared.link.LinkError.TheVariants.{Failed, OutOfMemory}
 use Rattle.dc_outside.specs.Counts.{Rose}
+use Rattle.dc_outside.specs.Talk.{then_pieces, got}
 use Rattle.dc_teletype.specs.declared.terminal.TerminalLine.{TerminalLine}
 use Rattle.dc_teletype.specs.declared.terminal.TerminalLine.TheVariants.{Whole, Cut}
 
@@ -85,3 +87,14 @@ abbrev pub RefusalsBy : {T : Type 0} → Result T LinkError → ℕ → ℕ → 
 RefusalsBy (Ok value) before now = now ≡ before
 RefusalsBy (Err Failed) before now = now ≡ before
 RefusalsBy (Err OutOfMemory) before now = Rose before now ⊎ (now ≡ before)
+
+-- the next line was read
+pub record HasRead (old new : Ahead) (talk new_talk : Option (List Piece)) (input left : Option (List ℕ)) (result : Result (Option TerminalLine) LinkError) : Type 0 where
+  pub pieces : List Piece
+  pub told_is : new_talk ≡ then_pieces talk pieces
+  pub took : input ≡ prepend_known (got pieces) left
+  pub reads : ReadsBy result old pieces new
+
+-- the input has ended only where it had, or none of it is left
+abbrev pub EndsWell : Ahead → Ahead → Option (List ℕ) → Type 0
+EndsWell old new left = new.has_ended ≡ true → (old.has_ended ≡ true) ⊎ IsAtEnd left

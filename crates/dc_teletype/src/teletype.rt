@@ -6,8 +6,8 @@ ghost use Rattle.dc_text.specs.Ascii.{newline};
 ghost use Rattle.dc_frontend.specs.declared.shown.Shown.{Shown as ShownOf};
 ghost use Rattle.dc_teletype.specs.Dialogue.{opening, Waits, IsHeld};
 ghost use Rattle.dc_teletype.specs.Prompts.{introduction as introduction_of, prompt as prompt_of};
-ghost use Rattle.dc_teletype.specs.TerminalLines.{RefusalsBy};
-ghost use Rattle.dc_teletype.specs.Inside.{EndsWell, HasHeard, HasReplied, answer_of as answer_of_reading, is_answered as is_answered_by};
+ghost use Rattle.dc_teletype.specs.TerminalLines.{RefusalsBy, EndsWell};
+ghost use Rattle.dc_teletype.specs.Inside.{HasHeard, HasReplied, answer_of as answer_of_reading, is_answered as is_answered_by};
 ghost use Rattle.dc_teletype.specs.declared.teletype.Answer.{Answer as AnswerOf};
 
 use crate::answering::{Reading, read_answer};

@@ -1,8 +1,8 @@
 // The lines of a terminal.
 ghost use Rattle.std.specs.Prelude.{◌≡◌, ◌<◌, [], OnErr, IfOk, length, false};
 ghost use Rattle.dc_outside.specs.Counts.{CountsFaults};
-ghost use Rattle.dc_teletype.specs.TerminalLines.{longest as longest_of, front_of, last_line, RefusalsBy};
-ghost use Rattle.dc_teletype.specs.Inside.{HasRead, HasBrought, Takes, EndsWell};
+ghost use Rattle.dc_teletype.specs.TerminalLines.{longest as longest_of, front_of, last_line, RefusalsBy, HasRead, EndsWell};
+ghost use Rattle.dc_teletype.specs.Inside.{HasBrought, Takes};
 
 use dc_outside::{Link, LinkError};
 use dc_text::bytes::split_at_byte;

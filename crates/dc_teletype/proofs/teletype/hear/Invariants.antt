@@ -1,7 +1,7 @@
 use Rattle.std.proofs.Common.{◌≡◌, ◌-◌, ◌<◌, List}
 use Rattle.dc_frontend.specs.declared.shown.Shown.{Shown}
 use Rattle.dc_teletype.specs.Dialogue.{Waits}
-use Rattle.dc_teletype.specs.Inside.{EndsWell}
+use Rattle.dc_teletype.specs.TerminalLines.{EndsWell}
 use Rattle.dc_teletype.specs.declared.teletype.Answer.{Answer}
 use Rattle.dc_teletype.proofs.HearLemmas.{Progress}
 use Rattle.dc_teletype.proofs.teletype.hear.Given as goal

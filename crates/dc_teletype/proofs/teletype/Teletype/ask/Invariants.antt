@@ -1,6 +1,6 @@
 use Rattle.std.proofs.Common.{◌≡◌, length}
 use Rattle.dc_teletype.specs.Dialogue.{opening, puts}
-use Rattle.dc_teletype.specs.Inside.{EndsWell}
+use Rattle.dc_teletype.specs.TerminalLines.{EndsWell}
 use Rattle.dc_teletype.proofs.HearLemmas.{Progress}
 use Rattle.dc_teletype.proofs.teletype.Teletype.ask.Given as goal
 

@@ -1,7 +1,6 @@
 use Rattle.std.proofs.Common.{◌≡◌, ◌+◌, ◌-◌, suc, length, List, if◌then◌else◌}
 use Rattle.dc_outside.specs.declared.link.Piece.{Piece}
-use Rattle.dc_teletype.specs.Inside.{EndsWell}
-use Rattle.dc_teletype.specs.TerminalLines.{longest}
+use Rattle.dc_teletype.specs.TerminalLines.{EndsWell, longest}
 use Rattle.dc_teletype.proofs.TalkLemmas.{Passes}
 use Rattle.dc_teletype.proofs.ReadLemmas.{Reaches}
 use Rattle.dc_teletype.proofs.terminal.TerminalLines.next.Given as goal
