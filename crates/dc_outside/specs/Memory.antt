@@ -1,4 +1,4 @@
--- What a link in memory and files in memory are seen as.
+-- What a link, a program and files in memory are seen as.
 use Rattle.std.specs.Prelude.{◌≡◌, ℕ, ◌+◌, ◌-◌, ◌^◌, min, max, Bool, true, false, List, [], ◌∷◌, ◌++◌, ◌||◌, length, nat_eq, nat_le, ⊤, reverse, map as each, Option, Some, Result, Ok, Err}
 use Rattle.std.specs.List.{list_any}
 use Rattle.std.specs.Option.{option_map_or}
@@ -14,6 +14,7 @@ use Rattle.dc_outside.specs.declared.files.FilesError.TheVariants.{Failed as Fil
 use Rattle.dc_text.specs.Maps.{Texts}
 use Rattle.dc_outside.specs.Disk.{Disk, File}
 use Rattle.dc_outside.specs.Told.{Told, Counts}
+use Rattle.dc_outside.specs.Programs.{Program}
 
 pub record LinkState : Type 0 where
   pub talk : List Piece
@@ -25,6 +26,12 @@ pub record LinkState : Type 0 where
   pub number : ℕ
   pub faults : ℕ
   pub refusals : ℕ
+
+pub record ChildState : Type 0 where
+  pub link : LinkState
+  pub program : Program
+  -- what the program ends with
+  pub status : ℕ
 
 -- whether the number is among these
 abbrev pub is_among : List ℕ → ℕ → Bool

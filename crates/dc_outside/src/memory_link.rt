@@ -1,8 +1,9 @@
 // A link in memory: its input is known, its cuts and faults are chosen, and it keeps its talk.
-ghost use Rattle.std.specs.Prelude.{◌≡◌, ◌≤◌, ◌+◌, ◌<◌, [], ◌∷◌, ◌++◌, length, take, drop, min, IfOk, OnOk, OnErr, Some, Ok, is_ok, if◌then◌else◌};
+ghost use Rattle.std.specs.Prelude.{◌≡◌, ◌≤◌, ◌+◌, ◌-◌, ◌^◌, ◌<◌, [], ◌∷◌, ◌++◌, length, take, drop, min, IfOk, OnOk, OnErr, Some, Ok, is_ok, if◌then◌else◌};
 ghost use Rattle.dc_outside.specs.declared.link.Piece.TheVariants.{Got};
 ghost use Rattle.dc_outside.specs.Talk.{then_pieces, read_pieces, got, sent, AddsWrite, EndsAtNone};
-ghost use Rattle.dc_outside.specs.Counts.{CountsFaults, CountsRefusals};
+ghost use Rattle.dc_outside.specs.Counts.{Rose, CountsFaults, CountsRefusals};
+ghost use Rattle.dc_outside.specs.Programs.{no_program};
 ghost use Rattle.dc_outside.specs.Memory.{is_among, next_cut, write_pieces, FailsWhere, TakesNumber};
 ghost use Rattle.std.specs.Io.KnownBytes.{prepend_known};
 
@@ -84,10 +85,25 @@ impl MemLink {
     }
 
     // Whether the next call is one that fails.
-    fn is_failing(&self) -> bool
+    pub(crate) fn is_failing(&self) -> bool
         ensures { result ≡ is_among self.now.failing self.now.number }
     {
         self.failing.contains(&self.number)
+    }
+
+    // Leaves the number of a call behind.
+    pub(crate) fn pass_number(&mut self)
+        ensures { self.new ≡ record self.old { number = min (self.old.number + 1) (2 ^ 64 - 1) } }
+    {
+        self.number = self.number.saturating_add(1);
+    }
+
+    // Counts a call that is refused for want of memory.
+    pub(crate) fn count_refusal(&mut self)
+        ensures rose { Rose self.old.refusals self.new.refusals }
+        ensures rest { self.new ≡ record self.old { refusals = self.new.refusals } }
+    {
+        self.refusals = self.refusals.saturating_add(1);
     }
 
     // Counts a call by its answer.
@@ -99,12 +115,12 @@ impl MemLink {
         ensures refusals { CountsRefusals self.old.refusals self.new.refusals result }
     {
         match &answer {
-            Ok(_) => self.number = self.number.saturating_add(1),
+            Ok(_) => self.pass_number(),
             Err(LinkError::Failed) => {
-                self.number = self.number.saturating_add(1);
+                self.pass_number();
                 self.faults = self.faults.saturating_add(1);
             }
-            Err(LinkError::OutOfMemory) => self.refusals = self.refusals.saturating_add(1),
+            Err(LinkError::OutOfMemory) => self.count_refusal(),
         }
         answer
     }
@@ -213,6 +229,8 @@ impl Link for MemLink {
     ghost faults = { λ m. m.faults };
 
     ghost refusals = { λ m. m.refusals };
+
+    ghost program = { λ _. no_program };
 
     fn read_some(&mut self, buf: &mut [u8]) -> Result<usize, LinkError>
         requires { 0 < length buf.old }

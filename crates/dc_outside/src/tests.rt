@@ -1,5 +1,11 @@
-// What links and files in memory answer.
-use crate::{Files, FilesError, FilesOp, Link, LinkError, MemFiles, MemLink, Pick, Piece};
+// What links, programs and files in memory answer.
+ghost use Rattle.std.specs.Prelude.{◌≡◌, ◌<◌, length, IfOk};
+ghost use Rattle.dc_outside.specs.Programs.{Unstarted, Starts};
+
+use crate::{
+    Child, Files, FilesError, FilesOp, Link, LinkError, MemChild, MemFiles, MemLink, Pick, Piece,
+    WaitFault,
+};
 use dc_text::{List, Mem, Text};
 use std::alloc::Global;
 
@@ -245,4 +251,62 @@ fn crashes_leave_what_is_not_synced(rt: HostRuntime) {
         let shown = crash_after(alloc, &mut files, *op, path).expect(&rt, "memory");
         assert_eq!(rt; shown.bytes(), left.as_bytes(), "call {number}");
     }
+}
+
+// Words.
+fn list(alloc: Global, words: &[&str]) -> Mem<List<Text>>
+    ensures { IfOk result (λ list. length list ≡ length words.now) }
+{
+    let mut list = List::new(alloc);
+    for word in words {
+        list.push(text(alloc, word)?)?;
+    }
+    Ok(list)
+}
+
+// Starts the program through its bound.
+fn start<C: Child>(child: &mut C, words: &List<Text>) -> Result<(), LinkError>
+    requires some { 0 < length words.now }
+    requires unstarted { (C.program child.old).life ≡ Unstarted }
+    ensures { Starts words.now (C.program child.old) (C.program child.new) result }
+{
+    child.start(words)
+}
+
+#[test]
+fn a_program_is_started_and_waited_for(rt: HostRuntime) {
+    let alloc = rt.alloc();
+    let words = list(alloc, &["/var/lib/mail.config", "configure"]).expect(&rt, "memory");
+    let mut child = MemChild::new(alloc, b"GO\n", &[], &[], 3).expect(&rt, "memory");
+    assert!(rt; child.words().is_none());
+    assert_eq!(rt; start(&mut child, &words), Ok(()));
+    let mut buf = [0u8; 8];
+    assert_eq!(rt; child.read_some(&mut buf), Ok(3));
+    assert_eq!(rt; child.write(b"30\n"), Ok(()));
+    assert_eq!(rt; child.wait(), Ok(3));
+    assert_eq!(rt; child.sent().bytes(), b"30\n".as_slice());
+    let kept = child.words().expect(&rt, "started");
+    assert_eq!(rt;
+        show_paths(alloc, Ok(kept.copy().expect(&rt, "memory")))
+            .expect(&rt, "memory")
+            .bytes(),
+        b"/var/lib/mail.config|configure|".as_slice()
+    );
+}
+
+#[test]
+fn a_start_and_a_wait_fail(rt: HostRuntime) {
+    let alloc = rt.alloc();
+    let words = list(alloc, &["config"]).expect(&rt, "memory");
+    let mut child = MemChild::new(alloc, b"", &[], &[0], 3).expect(&rt, "memory");
+    assert_eq!(rt; start(&mut child, &words), Err(LinkError::Failed));
+    assert!(rt; child.words().is_none());
+    let mut child = MemChild::new(alloc, b"", &[], &[1], 3).expect(&rt, "memory");
+    assert_eq!(rt; start(&mut child, &words), Ok(()));
+    assert_eq!(rt; child.wait(), Err(WaitFault));
+    assert_eq!(rt; child.wait(), Ok(3));
+    assert_eq!(rt;
+        show(alloc, child.talk()).expect(&rt, "memory").bytes(),
+        b"".as_slice()
+    );
 }

@@ -21,6 +21,7 @@ fn send<L: Link, B: Drop>(io: &mut L, code: u8, text: &Text, last_code: &mut u8)
     ensures input { L.left io.new ≡ L.left io.old }
     ensures faults { ServedFaults result (L.faults io.old) (L.faults io.new) }
     ensures refusals { ServedRefusals result (L.refusals io.old) (L.refusals io.new) }
+    ensures program { L.program io.new ≡ L.program io.old }
 {
     match io.write(text.bytes()) {
         Ok(()) => {
@@ -47,6 +48,7 @@ fn serve_line<L: Link, H: Heeds>(
     ensures input { L.left io.new ≡ L.left io.old }
     ensures faults { ServedFaults result (L.faults io.old) (L.faults io.new) }
     ensures refusals { ServedRefusals result (L.refusals io.old) (L.refusals io.new) }
+    ensures program { L.program io.new ≡ L.program io.old }
 {
     match machine.heed(line) {
         Err(error) => Served::Broken(error),
@@ -68,6 +70,7 @@ fn serve_taken<L: Link, H: Heeds>(
     ensures input { L.left io.new ≡ L.left io.old }
     ensures faults { ServedFaults result (L.faults io.old) (L.faults io.new) }
     ensures refusals { ServedRefusals result (L.refusals io.old) (L.refusals io.new) }
+    ensures program { L.program io.new ≡ L.program io.old }
 {
     serve_line(io, machine, &line, last_code)
 }
@@ -84,6 +87,7 @@ fn serve_held<L: Link, H: Heeds>(
     ensures input { L.left io.new ≡ L.left io.old }
     ensures faults { ServedFaults result (L.faults io.old) (L.faults io.new) }
     ensures refusals { ServedRefusals result (L.refusals io.old) (L.refusals io.new) }
+    ensures program { L.program io.new ≡ L.program io.old }
     ensures none_left { result ≡ Served.On → whole_lines lines.new ≡ [] }
     ensures rest { rest_of lines.new ≡ rest_of lines.old }
 {
@@ -113,6 +117,7 @@ fn serve_rest<L: Link, H: Heeds>(
     ensures input { L.left io.new ≡ L.left io.old }
     ensures faults { ServedFaults result (L.faults io.old) (L.faults io.new) }
     ensures refusals { ServedRefusals result (L.refusals io.old) (L.refusals io.new) }
+    ensures program { L.program io.new ≡ L.program io.old }
 {
     match lines.last() {
         None => Served::On,
@@ -133,6 +138,7 @@ fn converse<L: Link, H: Heeds>(
     ensures held { H.held machine.new ≡ H.held machine.old }
     ensures faults { LinkFaults result.end (L.faults io.old) (L.faults io.new) }
     ensures refusals { LinkRefusals result.end (L.refusals io.old) (L.refusals io.new) }
+    ensures program { L.program io.new ≡ L.program io.old }
 {
     let mut lines = Lines::new(alloc);
     let mut last_code: u8 = 0;
@@ -196,6 +202,7 @@ pub fn serve_link<L: Link, H: Heeds>(
     ensures held { H.held machine.new ≡ H.held machine.old }
     ensures faults { LinkFaults result.end (L.faults io.old) (L.faults io.new) }
     ensures refusals { LinkRefusals result.end (L.refusals io.old) (L.refusals io.new) }
+    ensures program { L.program io.new ≡ L.program io.old }
 {
     match buffer(alloc) {
         Ok(mut buf) => converse(alloc, io, machine, buf.as_mut_slice()),

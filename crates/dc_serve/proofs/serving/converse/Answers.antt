@@ -16,6 +16,7 @@ loop-taken-init g c = rw c.new-lines.ensures (record {
   held = refl;
   faults = refl;
   refusals = refl;
+  program = refl;
 })
 
 pub returns-then-count-eq0-clause-run : goal.returns-then-count-eq0-clause-run
@@ -59,6 +60,7 @@ loop-taken-preserved g c =
       held = c.in-On.ensures.held ∙ c.loop-taken.invariant.held;
       faults = c.in-On.ensures.faults ∙ c.in-Ok.ensures.faults ∙ c.loop-taken.invariant.faults;
       refusals = c.in-On.ensures.refusals ∙ c.in-Ok.ensures.refusals ∙ c.loop-taken.invariant.refusals;
+      program = c.in-On.ensures.program ∙ c.in-Ok.ensures.program ∙ c.loop-taken.invariant.program;
     }
 
 pub returns-in_default-clause-run : goal.returns-in_default-clause-run

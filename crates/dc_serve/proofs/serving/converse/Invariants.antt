@@ -8,6 +8,7 @@ invariant-loop-taken g l = record {
   held : g.H.Heeds.held l.machine ≡ g.H.Heeds.held l.fn.machine;
   faults : g.L.Link.faults l.io ≡ g.L.Link.faults l.fn.io;
   refusals : g.L.Link.refusals l.io ≡ g.L.Link.refusals l.fn.io;
+  program : g.L.Link.program l.io ≡ g.L.Link.program l.fn.io;
 }
 
 abbrev pub decreases-loop-taken : goal.decreases-loop-taken

@@ -24,5 +24,6 @@ loop-line-preserved g c =
       input = c.in-On.ensures.input ∙ c.loop-line.invariant.input;
       faults = c.in-On.ensures.faults ∙ c.loop-line.invariant.faults;
       refusals = c.in-On.ensures.refusals ∙ c.loop-line.invariant.refusals;
+      program = c.in-On.ensures.program ∙ c.loop-line.invariant.program;
       rest = c.in-Ok-Some.ensures.rest ∙ c.loop-line.invariant.rest;
     }

@@ -13,6 +13,7 @@ invariant-loop-line g l = record {
   input : g.L.Link.left l.io ≡ g.L.Link.left l.fn.io;
   faults : g.L.Link.faults l.io ≡ g.L.Link.faults l.fn.io;
   refusals : g.L.Link.refusals l.io ≡ g.L.Link.refusals l.fn.io;
+  program : g.L.Link.program l.io ≡ g.L.Link.program l.fn.io;
   rest : rest_of l.lines ≡ rest_of l.fn.lines;
 }
 
