@@ -1,3 +1,4 @@
 pub mod Counting
 pub mod Folders
+pub mod Programs
 pub mod Streams

@@ -1,6 +1,7 @@
 // A link that is only written to, over a writer of the host. It tells no talk: what it takes is said of the writer.
 ghost use Rattle.std.specs.Prelude.{◌≡◌, None, Ok};
 ghost use Rattle.dc_outside.specs.Counts.{CountsFaults, CountsRefusals};
+ghost use Rattle.dc_outside.specs.Programs.{no_program};
 ghost use Rattle.dckit.specs.Streams.{WritesAll};
 
 use crate::host_io;
@@ -32,6 +33,8 @@ impl<W: Write> Link for HostErr<W> {
     ghost faults = { λ h. h.faults };
 
     ghost refusals = { λ _. 0 };
+
+    ghost program = { λ _. no_program };
 
     fn read_some(&mut self, _buf: &mut [u8]) -> Result<usize, LinkError>
         ensures end { result ≡ Ok 0 }

@@ -2,6 +2,7 @@
 ghost use Rattle.std.specs.Prelude.{◌≡◌, ◌≤◌, None, length, IfOk};
 ghost use Rattle.std.specs.Io.KnownBytes.{ReadConsumes};
 ghost use Rattle.dc_outside.specs.Counts.{Rose, CountsFaults, CountsRefusals};
+ghost use Rattle.dc_outside.specs.Programs.{no_program};
 ghost use Rattle.dckit.specs.Streams.{WritesAll};
 
 use crate::host_io;
@@ -50,6 +51,8 @@ impl<R: Read, W: Write> Link for HostLink<R, W> {
     ghost faults = { λ h. h.faults };
 
     ghost refusals = { λ _. 0 };
+
+    ghost program = { λ _. no_program };
 
     fn read_some(&mut self, buf: &mut [u8]) -> Result<usize, LinkError>
         ensures bound { IfOk result (λ count. count ≤ length buf.new) }

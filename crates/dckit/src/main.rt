@@ -1,6 +1,7 @@
 //! The program: the edge to the host, and the call of the run.
 #![tactic(auto)]
 
+mod host_child;
 mod host_counts;
 mod host_err;
 mod host_files;

@@ -1,12 +1,13 @@
-// The links and files of the host, on a pipe and in a folder.
-ghost use Rattle.std.specs.Prelude.{◌≡◌, ◌≤◌, [], length, IfSome, map as each};
+// The links, programs and files of the host, on pipes and in a folder.
+ghost use Rattle.std.specs.Prelude.{◌≡◌, ◌<◌, ◌≤◌, [], length, IfOk, IfSome, map as each};
 ghost use Rattle.dc_shelf.specs.Shelves.{AreBlank};
 
+use crate::host_child::HostChild;
 use crate::host_err::HostErr;
 use crate::host_files::{HostFiles, MAX_FILE};
 use crate::host_link::HostLink;
 use dc_layer::{FileLayer, Layer};
-use dc_outside::{Files, FilesError, FilesOp, Link, LinkError, MemLink};
+use dc_outside::{Child, Files, FilesError, FilesOp, Link, LinkError, MemLink};
 use dc_run::{Settings, Shelf, run_words};
 use dc_text::{List, Mem, Text};
 use std::alloc::Global;
@@ -522,4 +523,57 @@ fn a_run_saves_its_questions(rt: HostRuntime) {
     fs::remove_dir_all(&rt, folder.as_str())
         .ok()
         .expect(&rt, "done");
+}
+
+// The words of a program and its arguments.
+fn words_of(alloc: Global, program: &str, arguments: &[&str]) -> Mem<List<Text>>
+    ensures { IfOk result (λ words. 0 < length words) }
+{
+    let mut words = List::new(alloc);
+    words.push(Text::from_bytes(alloc, program.as_bytes())?)?;
+    for argument in arguments {
+        words.push(Text::from_bytes(alloc, argument.as_bytes())?)?;
+    }
+    Ok(words)
+}
+
+#[test]
+fn a_program_is_answered_and_waited_for(rt: HostRuntime) {
+    let script =
+        "echo GET a/b; read reply; test \"$reply $DEBIAN_HAS_FRONTEND\" = \"0 yes 1\" && exit 3";
+    let words = words_of(rt.alloc(), "sh", &["-c", script])
+        .ok()
+        .expect(&rt, "memory");
+    let mut child = HostChild::new(rt.alloc(), &rt);
+    let mut buf = [0u8; 8];
+    assert_eq!(rt; child.start(&words), Ok(()));
+    assert_eq!(rt; child.read_some(&mut buf), Ok(8));
+    assert_eq!(rt; buf.as_slice(), b"GET a/b\n".as_slice());
+    assert_eq!(rt; child.write(b"0 yes\n"), Ok(()));
+    assert_eq!(rt; child.read_some(&mut buf), Ok(0));
+    assert_eq!(rt; child.wait(), Ok(3));
+}
+
+#[test]
+fn a_program_that_is_not_there_is_not_started(rt: HostRuntime) {
+    let words = words_of(rt.alloc(), "/missing/config", &[])
+        .ok()
+        .expect(&rt, "memory");
+    let mut child = HostChild::new(rt.alloc(), &rt);
+    assert_eq!(rt; child.start(&words), Err(LinkError::Failed));
+    assert_eq!(rt; child.read_some(&mut [0u8; 8]), Err(LinkError::Failed));
+}
+
+// It writes until nobody reads, and then a signal ends it.
+#[test]
+fn a_program_that_reads_nothing_is_not_written_to(rt: HostRuntime) {
+    let script = "exec <&-; echo; while echo; do :; done";
+    let words = words_of(rt.alloc(), "sh", &["-c", script])
+        .ok()
+        .expect(&rt, "memory");
+    let mut child = HostChild::new(rt.alloc(), &rt);
+    assert_eq!(rt; child.start(&words), Ok(()));
+    assert_eq!(rt; child.read_some(&mut [0u8; 1]), Ok(1));
+    assert_eq!(rt; child.write(b"0\n"), Err(LinkError::Failed));
+    assert_eq!(rt; child.wait(), Ok(128));
 }
