@@ -8,7 +8,7 @@ use Rattle.dc_item.specs.Item.{ItemParts}
 use Rattle.dc_template.specs.declared.kinds.Kind.{Kind}
 use Rattle.dc_layer.specs.State.{LayerState}
 use Rattle.dc_conf.specs.Plans.{IsOver}
-use Rattle.dc_store.specs.Plans.{look}
+use Rattle.dc_store.specs.Plans.{look, can_change as can_change_in}
 use Rattle.dc_question.specs.Readings.{template_of, kind_by, localised, field_of, value_of, choices_by}
 use Rattle.dc_question.specs.declared.choices.ChoicePair.{ChoicePair}
 use Rattle.dc_question.specs.declared.errors.QuestionError.{QuestionError}
@@ -45,6 +45,10 @@ named_template layers at name = if is_name name then look layers at.templates na
 -- the kind of a question
 abbrev pub kind : List LayerState → Setting → List ℕ → Option Kind
 kind layers at name = option_and_then (λ item. kind_by (template layers at item)) (question layers at name)
+
+-- whether a change of it is taken
+abbrev pub can_change : List LayerState → Setting → List ℕ → Bool
+can_change layers at name = can_change_in layers at.config name (kind layers at name)
 
 -- ---- what it says, or why it says nothing
 

@@ -1,6 +1,6 @@
 //! Laws of the readings.
 ghost use Rattle.std.specs.Prelude.{◌≡◌, List, ℕ, [], Some, None, Ok, Err, true, false, length, unwrap_or, codes, map as each};
-ghost use Rattle.std.specs.List.{list_any};
+ghost use Rattle.std.specs.List.{All, list_any};
 ghost use Rattle.std.specs.FinMap as map;
 ghost use Rattle.dc_text.specs.Maps.{AreDistinct};
 ghost use Rattle.dc_item.specs.Item.{ItemParts};
@@ -9,9 +9,9 @@ ghost use Rattle.dc_layer.specs.State.{LayerState};
 ghost use Rattle.dc_template.specs.Stanzas.{Stanza};
 ghost use Rattle.dc_store.specs.Plans.{StoreState, look, look_below, is_owned};
 ghost use Rattle.dc_store.specs.Rows.{Write, AllDistinct, is_refused, all_done, first_held_up};
-ghost use Rattle.dc_question.specs.Changes.{row_for};
+ghost use Rattle.dc_question.specs.Changes.{row_for, value_write, values_set};
 ghost use Rattle.dc_question.specs.Ownership.{register_row, leave_row, load_row, purged};
-ghost use Rattle.dc_question.specs.Questions.{Setting};
+ghost use Rattle.dc_question.specs.Questions.{Setting, exists, can_change};
 ghost use Rattle.dc_question.specs.declared.errors.QuestionError.{QuestionError};
 ghost use Rattle.dc_question.specs.declared.errors.QuestionError.TheVariants.{CantChange};
 ghost use Rattle.dc_question.specs.Readings.{choices_by, localised, value_of};
@@ -46,4 +46,11 @@ pub fn refused_rows_change_nothing()
 pub fn purged_questions_lose_the_owner()
     ensures { (store new : StoreState) (at : Setting) (owner name : List ℕ) → are_disjoint at.config at.templates ≡ true → at.config.backup ≡ None → purged store at owner ≡ Ok new
         → is_owned owner (look new.layers at.config name) ≡ true → is_owned owner (look_below store.layers at.config name) ≡ true }
+{}
+
+/// A question that can be changed is there, and where each of some questions can be changed, all of them get their values.
+pub fn changeable_questions_are_set()
+    ensures there { (layers : List LayerState) (at : Setting) (name : List ℕ) → can_change layers at name ≡ true → exists layers at name ≡ true }
+    ensures set { (store : StoreState) (at : Setting) (answers : List (List ℕ × List ℕ)) → All (λ a. can_change store.layers at a.0 ≡ true) answers
+        → values_set store at answers ≡ Ok (all_done store (each (value_write store.layers at) answers)) }
 {}

@@ -4,7 +4,7 @@ ghost use Rattle.std.specs.Option.{option_copied, option_map_or};
 ghost use Rattle.dc_question.specs.declared.errors.QuestionError.TheVariants.{NoQuestion};
 ghost use Rattle.dc_conf.specs.Plans.{IsOver};
 ghost use Rattle.dc_store.specs.Plans.{look};
-ghost use Rattle.dc_question.specs.Questions.{IsSetOver, question as question_of, template as template_of, exists as exists_of, kind as kind_of, value as value_of, field as field_of, expanded_field, choices as choices_of, flag as flag_of, read, read_template, Answers};
+ghost use Rattle.dc_question.specs.Questions.{IsSetOver, question as question_of, template as template_of, exists as exists_of, kind as kind_of, can_change as can_change_of, value as value_of, field as field_of, expanded_field, choices as choices_of, flag as flag_of, read, read_template, Answers};
 
 use crate::choices::{ChoicePair, choice_pair};
 use crate::errors::QuestionError;
@@ -16,7 +16,7 @@ use dc_item::Item;
 use dc_layer::Layer;
 use dc_store::Store;
 use dc_template::Kind;
-use dc_text::{FieldKey, FlagName, Name, Text};
+use dc_text::{FieldKey, FlagName, Mem, Name, Text};
 use std::alloc::Global;
 
 /// Questions and their templates, which stand in two plans of a store (debconf-devel(7)). Each plan speaks of the store's layers.
@@ -67,6 +67,16 @@ impl<'q> Questions<'q> {
         ensures { result ≡ kind_of (each (λ b. state (b.vtable, b.value)) self.now.store.now.layers.items) self.now.setting name.now }
     {
         kind(self.template(self.question(name)?))
+    }
+
+    /// Whether a change of the question is taken: the topmost layer that has it is writable, or one above takes a question of its name
+    /// and kind. It is false where there is no such question.
+    pub fn can_change(&self, name: &Name) -> Mem<bool>
+        requires { IsSetOver self.now.setting (length self.now.store.now.layers.items) }
+        ensures { IfOk result (λ is. is ≡ can_change_of (each (λ b. state (b.vtable, b.value)) self.now.store.now.layers.items) self.now.setting name.now) }
+    {
+        self.store
+            .can_change(self.setting.config, name, self.kind(name))
     }
 
     /// The value of the question: its own, else its template's default in the user's language, else the empty text.

@@ -155,6 +155,9 @@ fn change(alloc: Global, questions: &mut Questions<'_>, name: &Name) -> Option<(
     requires { IsSetOver questions.old.setting (length questions.old.store.now.layers.items) }
     ensures { IsSetOver questions.new.setting (length questions.new.store.now.layers.items) }
 {
+    if !questions.can_change(name).ok()? {
+        return None;
+    }
     set(questions, name)?;
     set_seen(alloc, questions, name)?;
     subst(alloc, questions, name)

@@ -1,5 +1,5 @@
 //! Laws of writes: what "a write changes only the layers that the rules name" means.
-ghost use Rattle.std.specs.Prelude.{◌≡◌, ◌≢◌, ℕ, List, Option, Some, None, true, false, ◌⊎◌};
+ghost use Rattle.std.specs.Prelude.{◌≡◌, ◌≢◌, ℕ, List, Option, Some, None, is_some, true, false, ◌⊎◌};
 ghost use Rattle.std.specs.List.{All, Contains};
 ghost use Rattle.dc_item.specs.Item.{ItemParts};
 ghost use Rattle.dc_item.specs.After.{after_at};
@@ -8,7 +8,7 @@ ghost use Rattle.dc_item.specs.declared.op.After.TheVariants.{Same, Changed, Gon
 ghost use Rattle.dc_template.specs.declared.kinds.Kind.{Kind};
 ghost use Rattle.dc_layer.specs.State.{LayerState};
 ghost use Rattle.dc_store.specs.Holders.{item_at, has_at, holder_of, look_of, above};
-ghost use Rattle.dc_store.specs.Plans.{StoreState, look, look_below, look_after, write};
+ghost use Rattle.dc_store.specs.Plans.{StoreState, look, look_below, look_after, can_change, write, would_take};
 ghost use Rattle.dc_conf.specs.declared.plans.Plan.{Plan};
 ghost use Rattle.dc_store.specs.Rows.{Write, AreDistinct, is_refused};
 ghost use Rattle.dc_store.specs.StoreLaws.{AreSameBut, IsTopmost, ChangesOne, IsRefusal};
@@ -61,4 +61,12 @@ pub fn refusals_have_a_cause()
 /// No write changes whether another is refused, where their names differ or their plans share no layer.
 pub fn tests_are_apart()
     ensures { (store new : StoreState) (v w : Write) → AreDistinct v w → write store v.plan v.name v.kind v.op ≡ Some new → is_refused new.layers w ≡ is_refused store.layers w }
+{}
+
+/// What can be changed is there, and takes every operation that doesn't take it away. What is there and can't be changed takes none
+/// that changes it.
+pub fn changeable_items_take_changes()
+    ensures there { (layers : List LayerState) (plan : Plan) (name : List ℕ) (kind : Option Kind) → can_change layers plan name kind ≡ true → is_some (look layers plan name) ≡ true }
+    ensures taken { (layers : List LayerState) (plan : Plan) (name : List ℕ) (kind : Option Kind) (op : Op) → can_change layers plan name kind ≡ true → after_at op (look layers plan name) ≢ Gone → would_take layers plan name kind op ≡ true }
+    ensures refused { (layers : List LayerState) (plan : Plan) (name : List ℕ) (kind : Option Kind) (op : Op) → is_some (look layers plan name) ≡ true → can_change layers plan name kind ≡ false → after_at op (look layers plan name) ≢ Same → would_take layers plan name kind op ≡ false }
 {}
