@@ -1,7 +1,7 @@
 // Configurations: which databases are read, which one gets a write, and what is told of one that is refused.
 use crate::support::{
-    NEW, OLD, append_barred, blank_shelf, called, files_of, make_words, run, settings, shown_end,
-    text_at, tired_shelf,
+    NEW, OLD, append_barred, blank_shelf, called, files_of, make_words, no_child, run, settings,
+    shown_end, text_at, tired_shelf,
 };
 use dc_outside::{MemFiles, MemLink};
 use dc_run::{Outcome, Shelf, run_words};
@@ -204,7 +204,14 @@ fn told(alloc: Global, conf: &str, beside: &[(&str, &[u8])]) -> Option<Text> {
     let words = make_words(alloc, &["communicate"])?;
     let settings = settings(alloc, "")?;
     let outcome = run_words(
-        alloc, &words, &settings, &mut io, &mut err, &mut files, &mut shelf,
+        alloc,
+        &words,
+        &settings,
+        &mut io,
+        &mut err,
+        &mut no_child(alloc)?,
+        &mut files,
+        &mut shelf,
     );
     let mut shown = io.sent().copy().ok()?;
     shown.append(err.sent().bytes()).ok()?;
@@ -323,7 +330,14 @@ fn tired(alloc: Global, conf: &str, input: &str, place: usize) -> Option<Text> {
     let words = make_words(alloc, &["communicate"])?;
     let settings = settings(alloc, "")?;
     let outcome = run_words(
-        alloc, &words, &settings, &mut io, &mut err, &mut files, &mut shelf,
+        alloc,
+        &words,
+        &settings,
+        &mut io,
+        &mut err,
+        &mut no_child(alloc)?,
+        &mut files,
+        &mut shelf,
     );
     let mut shown = shown_run(alloc, &io, &outcome, &files)?;
     append_barred(&mut shown, value_in(alloc, &shelf, place)?.bytes())?;

@@ -1,7 +1,8 @@
 // Sessions over the stack of databases, what they say, and what they leave.
 use crate::configured::{as_text, joined, stack};
 use crate::support::{
-    OLD, append_barred, append_texts, files_of, make_words, settings, shelf_of, shown_end, text,
+    OLD, append_barred, append_texts, files_of, make_words, no_child, settings, shelf_of,
+    shown_end, text,
 };
 use dc_outside::{MemFiles, MemLink};
 use dc_run::{Settings, run_words};
@@ -81,7 +82,14 @@ pub fn shown_over(
     let mut err = MemLink::new(alloc, b"", &[], &[]).ok()?;
     let mut shelf = shelf_of(alloc, is_tired)?;
     let outcome = run_words(
-        alloc, &words, &settings, io, &mut err, &mut files, &mut shelf,
+        alloc,
+        &words,
+        &settings,
+        io,
+        &mut err,
+        &mut no_child(alloc)?,
+        &mut files,
+        &mut shelf,
     );
     let mut shown = io.sent().copy().ok()?;
     append_barred(&mut shown, shown_end(alloc, &outcome)?.bytes())?;

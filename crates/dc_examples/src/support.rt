@@ -1,9 +1,10 @@
 // A run over a link and files in memory, and what it says and leaves as one text.
 ghost use Rattle.std.specs.Prelude.{◌≡◌, ◌≤◌, [], length, IfSome, map as each};
+ghost use Rattle.dc_outside.specs.Programs.{Unstarted};
 ghost use Rattle.dc_shelf.specs.Shelves.{AreBlank};
 
 use dc_layer::{FileLayer, Layer, TiredLayer};
-use dc_outside::{Files, FilesOp, MemFiles, MemLink};
+use dc_outside::{Files, FilesOp, MemChild, MemFiles, MemLink};
 use dc_run::{End, Outcome, PatternAt, Settings, Shelf, run_words};
 use dc_text::{List, Text};
 use std::alloc::Global;
@@ -115,6 +116,13 @@ pub fn shelf_of(alloc: Global, is_tired: bool) -> Option<Shelf>
     }
 }
 
+/// A program that writes nothing, for a run that starts none.
+pub fn no_child(alloc: Global) -> Option<MemChild>
+    ensures { IfSome result (λ child. child.program.life ≡ Unstarted) }
+{
+    MemChild::new(alloc, b"", &[], &[], 0).ok()
+}
+
 /// Runs the words for a user of the language.
 pub fn run(
     alloc: Global,
@@ -127,7 +135,16 @@ pub fn run(
     let settings = settings(alloc, lang)?;
     let mut err = MemLink::new(alloc, b"", &[], &[]).ok()?;
     let mut shelf = blank_shelf(alloc)?;
-    Some(run_words(alloc, &words, &settings, io, &mut err, files, &mut shelf))
+    Some(run_words(
+        alloc,
+        &words,
+        &settings,
+        io,
+        &mut err,
+        &mut no_child(alloc)?,
+        files,
+        &mut shelf,
+    ))
 }
 
 /// What a run over these files says on the link, on standard error, its end, the calls of the files, and what then stands at
@@ -145,7 +162,14 @@ pub fn shown_run(
     let mut err = MemLink::new(alloc, b"", &[], &[]).ok()?;
     let mut shelf = blank_shelf(alloc)?;
     let outcome = run_words(
-        alloc, &words, &settings, &mut io, &mut err, files, &mut shelf,
+        alloc,
+        &words,
+        &settings,
+        &mut io,
+        &mut err,
+        &mut no_child(alloc)?,
+        files,
+        &mut shelf,
     );
     let mut shown = io.sent().copy().ok()?;
     append_barred(&mut shown, err.sent().bytes())?;
@@ -185,6 +209,8 @@ pub fn end_parts(end: &End) -> (&'static str, u64, &[u8]) {
         End::Damaged { path, line } => ("damaged", *line, path.bytes()),
         End::FilesFault { path } => ("files", 0, path.bytes()),
         End::LinkFault => ("link", 0, b""),
+        End::TermFault => ("terminal", 0, b""),
+        End::ChildFault => ("child", 0, b""),
         End::TooLong => ("too long", 0, b""),
         End::OutOfMemory => ("memory", 0, b""),
     }

@@ -109,8 +109,8 @@ impl<'q> Questions<'q> {
         Ok(goes && !self.has_below(name))
     }
 
-    // The questions that have the owner.
-    pub(crate) fn owned(&self, owner: &Name) -> Mem<List<Name>>
+    /// The questions that have the owner.
+    pub fn owned(&self, owner: &Name) -> Mem<List<Name>>
         requires over { IsSetOver self.now.setting (length self.now.store.now.layers.items) }
         ensures { IfOk result (λ names. names ≡ owned_of (each (λ b. state (b.vtable, b.value)) self.now.store.now.layers.items) self.now.setting.config owner.now) }
     {

@@ -1,8 +1,7 @@
 -- What the parts of a run do to the disk, and to the databases that its layers are of.
-use Rattle.std.proofs.Common.{◌≡◌, ◌⊎◌, ℕ, List, [], ◌∷◌, ◌++◌, Option, Some, None, refl, sym, ap, subst, ◌∙◌, inl, inr, map as each}
-use Rattle.std.specs.Prelude.{codes, fold, true, Result, Ok, Err}
+use Rattle.std.proofs.Common.{◌≡◌, ◌⊎◌, ℕ, Bool, true, false, List, [], ◌∷◌, ◌++◌, Option, Some, None, refl, sym, ap, subst, ◌∙◌, inl, inr, map as each}
+use Rattle.std.specs.Prelude.{codes, fold, Result, Ok, Err}
 use Rattle.std.specs.Result.{result_unwrap_or}
-use Rattle.dc_text.specs.declared.memory.OutOfMemory.{OutOfMemory}
 use Rattle.dc_words.specs.declared.stream.Line.{Line}
 use Rattle.dc_words.specs.declared.stream.Line.TheVariants.{Whole, TooLong}
 use Rattle.dc_outside.specs.Disk.{Disk, IsSettled}
@@ -27,6 +26,7 @@ use Rattle.dc_question.specs.Questions.{Setting, question, read}
 use Rattle.dc_store.specs.Plans.{StoreState}
 use Rattle.dc_store.specs.Rows.{Write, row_done, names_of}
 use Rattle.dc_store.specs.StoreLaws.{AreSameButAll}
+use Rattle.dc_teletype.specs.declared.teletype.Asked.TheVariants.{Answers}
 use Rattle.dc_save.specs.Loading.{with_loaded, LoadsLayer, LoadsFiles}
 use Rattle.dc_save.specs.Saving.{Saves, Ends, MayAddAny, AreApart, StandSaved, all_saved}
 use Rattle.dc_save.specs.declared.loading.Loaded.{Loaded}
@@ -45,24 +45,26 @@ use Rattle.dc_serve.specs.Said.{said, BreaksOff}
 use Rattle.dc_serve.specs.declared.heeds.Heeded.{Heeded}
 use Rattle.dc_serve.specs.declared.outcome.LinkEnd.{LinkEnd}
 use Rattle.dc_serve.specs.declared.outcome.LinkEnd.TheVariants as link
-use Rattle.dc_session.specs.Answers.{answer, after_command, names_on}
+use Rattle.dc_session.specs.Answers.{Given, answer, after_command, names_on}
 use Rattle.dc_session.specs.Asking.{with_seen}
-use Rattle.dc_session.specs.Machine.{Heeds, Steps, StepsHeard, Breaks, HasDone, IsDoneInPart}
-use Rattle.dc_session.specs.Serving.{IsFinished, Finishes as FinishesSession}
+use Rattle.dc_session.specs.Machine.{Heeds, Steps, StepsHeard, Breaks, HasDone, GivesInPart, IsDoneInPart}
+use Rattle.dc_session.specs.declared.stepped.StepError.TheVariants as step
+use Rattle.dc_session.specs.Serving.{IsFinished, Finishes as FinishesSession, IsServed}
 use Rattle.dc_session.specs.SessionState.{FilesState, SessionState}
 use Rattle.dc_session.specs.TemplateFiles.{Finds, FindsNoMemory}
+use Rattle.dc_session.specs.declared.stepped.StepError.{StepError}
 use Rattle.dc_session.specs.declared.stepped.Stepped.{Stepped}
 use Rattle.dc_session.specs.declared.template_files.Found.{Found}
 use Rattle.dc_session.specs.declared.template_files.Found.TheVariants.{Unreadable, Missing, Faulty, Templates}
 use Rattle.dc_session.proofs.DiskLaws.{breaks_reads, course_reads}
 use Rattle.dc_session.proofs.FrameLaws.{row_keeps, others_stay}
-use Rattle.dc_run.specs.Ends.{IsEnded, tool_end_of, end_unsaved}
+use Rattle.dc_run.specs.Ends.{IsEnded, tool_end_of, end_unsaved, end_unwaited}
+use Rattle.dc_run.specs.Running.{Awaits}
 use Rattle.dc_run.specs.Finishing.{images_of, IsSaved, IsUnsaved, IsWithoutMemory, Finishes}
 use Rattle.dc_run.specs.Headline.{Uses, HasUsed, HasRunTool}
 use Rattle.dc_run.specs.Starting.{IsConfiguration, EndsBefore, begun, databases_of, roots}
 use Rattle.dc_run.specs.TemplateLoading.{FileTurn, IsFileTurn, IsFileCourse, state_after as file_state, EndsAt}
-use Rattle.dc_run.specs.Tools.{owner_of}
-use Rattle.dc_run.specs.World.{LinkState, Stock, World}
+use Rattle.dc_run.specs.World.{LinkState, ChildState, Links, Stock, World}
 use Rattle.dc_run.specs.declared.outcome.End.{End}
 use Rattle.dc_run.specs.declared.outcome.End.TheVariants as end
 use Rattle.dc_run.specs.declared.outcome.Outcome.{Outcome}
@@ -70,8 +72,8 @@ use Rattle.dc_run.specs.declared.outcome.ToolAnswer.{ToolAnswer}
 use Rattle.dc_run.specs.declared.outcome.ToolEnd.{ToolEnd}
 use Rattle.dc_run.specs.declared.outcome.ToolEnd.TheVariants as tool
 use Rattle.dc_run.specs.declared.settings.Settings.{Settings}
-use Rattle.dc_run.specs.declared.tool.Tool.{Tool}
-use Rattle.dc_run.specs.declared.tool.Tool.TheVariants.{Communicate, LoadTemplate}
+use Rattle.dc_usage.specs.declared.tool.Tool.{Tool}
+use Rattle.dc_usage.specs.declared.tool.Tool.TheVariants.{Communicate, LoadTemplate, Run}
 use Rattle.dc_run.proofs.RunLemmas.{ends_so}
 use Rattle.dc_run.proofs.StartLemmas.{files_reached}
 use Rattle.dc_run.specs.Crashes.{KeepsDatabases}
@@ -147,14 +149,14 @@ same_specs names (layer ∷ old) (made ∷ new) is = λ i. is.0.spec i ∷ same_
 abbrev specs_of : SessionState → List (Option LayerSpec)
 specs_of state = specs_in state.store.layers
 
-heard_keeps : (said : Heard) (old new : SessionState) (stepped : Stepped) → StepsHeard said old stepped new → specs_of new ≡ specs_of old
-heard_keeps Nothing old new stepped steps = ap specs_of steps.1
-heard_keeps (Known command) old new stepped steps = same_specs (names_on old command steps.found) old.store.layers new.store.layers (others_stay command old new stepped steps)
-heard_keeps (Refused reply) old new stepped steps = ap specs_of steps.1
+heard_keeps : (said : Heard) (old new : SessionState) (did : Stepped) → StepsHeard said old did new → specs_of new ≡ specs_of old
+heard_keeps Nothing old new did steps = ap specs_of steps.1
+heard_keeps (Known command) old new did steps = same_specs (names_on old command steps.given) old.store.layers new.store.layers (others_stay command old new did steps)
+heard_keeps (Refused reply) old new did steps = ap specs_of steps.1
 
-steps_keep : (old new : SessionState) (line : Line) (stepped : Stepped) → Steps old line stepped new → specs_of new ≡ specs_of old
-steps_keep old new TooLong stepped steps = ap specs_of steps.1
-steps_keep old new (Whole line) stepped steps = heard_keeps (heard old.asking.escape line) old new stepped steps
+steps_keep : (old new : SessionState) (line : Line) (did : Stepped) → Steps old line did new → specs_of new ≡ specs_of old
+steps_keep old new TooLong did steps = ap specs_of steps.1
+steps_keep old new (Whole line) did steps = heard_keeps (heard old.asking.escape line) old new did steps
 
 heeds_keep : (old new : SessionState) (line : Line) (did : Heeded) → Heeds old line did new → specs_of new ≡ specs_of old
 heeds_keep old new line did heeds = steps_keep old new line heeds.stepped heeds.steps
@@ -171,24 +173,25 @@ module _ (start new : SessionState) (turns : List (Turn SessionState)) (rest : L
   behind : (gone : List (Turn SessionState)) (last : Turn SessionState) → turns ≡ gone ++ last ∷ [] → new ≡ last.new → new ≡ state_after start turns
   behind gone last are is = is ∙ sym (last_after start gone last) ∙ ap (state_after start) (sym are)
 
-  broken_off : BreaksOff start turns (said talk) 0 new code → new ≡ state_after start turns
+  pub broken_off : BreaksOff start turns (said talk) 0 new code → new ≡ state_after start turns
   broken_off (inl all) = all.1.state_is
   broken_off (inr unsaid) = behind unsaid.gone unsaid.last unsaid.turns_are unsaid.state_is
 
   -- the state is the one that the turns leave, where the layers are saved
-  state_left : (ended : LinkEnd OutOfMemory) → IsEnded (tool_end_of ended) → Answered Breaks ended start turns rest talk input new code → new ≡ state_after start turns
+  pub state_left : (ended : LinkEnd StepError) → IsEnded (tool_end_of ended) → Answered Breaks ended start turns rest talk input new code → new ≡ state_after start turns
   state_left link.Done is answered = answered.are_said.state_is
   state_left link.LinkFault is (inl lost) = lost.answered.are_said.state_is
   state_left link.LinkFault is (inr cut) = behind cut.answered.gone cut.answered.last cut.answered.turns_are cut.answered.state_is
   state_left link.TooLong is answered = answered.answered.are_said.state_is
   state_left link.OutOfMemory is answered = absurd is
-  state_left (link.Broken error) is answered = absurd is
+  state_left (link.Broken step.Term) is answered = absurd is
+  state_left (link.Broken step.OutOfMemory) is answered = absurd is
 
   reads_to : IsCourse Heeds start turns → new ≡ state_after start turns → new.files.told.disk ≡ start.files.told.disk
   reads_to course is = ap (λ (s : SessionState). s.files.told.disk) is ∙ course_reads start turns course
 
   -- at each end the session has only read files
-  session_reads : IsCourse Heeds start turns → (ended : LinkEnd OutOfMemory) → Answered Breaks ended start turns rest talk input new code → new.files.told.disk ≡ start.files.told.disk
+  session_reads : IsCourse Heeds start turns → (ended : LinkEnd StepError) → Answered Breaks ended start turns rest talk input new code → new.files.told.disk ≡ start.files.told.disk
   session_reads course link.Done answered = reads_to course (state_left link.Done tt answered)
   session_reads course link.LinkFault answered = reads_to course (state_left link.LinkFault tt answered)
   session_reads course link.TooLong answered = reads_to course (state_left link.TooLong tt answered)
@@ -217,23 +220,23 @@ all_seen_keep at store [] = refl
 all_seen_keep at store (name ∷ names) = all_seen_keep at (with_seen at store name) names ∙ seen_keeps at store name
 
 module _ (state : SessionState) (layers : List LayerState) where
-  finished_keeps : (served ended : LinkEnd OutOfMemory) → IsFinished state served layers ended → specs_in layers ≡ specs_of state
+  finished_keeps : (served ended : LinkEnd StepError) → IsFinished state served layers ended → specs_in layers ≡ specs_of state
   finished_keeps served ended (inl all) = ap specs_in all.0 ∙ all_seen_keep state.at state.store state.asking.asked
   finished_keeps served ended (inr none) = same_specs state.asking.asked state.store.layers layers none.0
 
-  session_keeps : (served ended : LinkEnd OutOfMemory) → FinishesSession served state layers ended → specs_in layers ≡ specs_of state
+  session_keeps : (served ended : LinkEnd StepError) → FinishesSession served state layers ended → specs_in layers ≡ specs_of state
   session_keeps link.Done ended finishes = finished_keeps link.Done ended finishes
   session_keeps link.LinkFault ended finishes = finished_keeps link.LinkFault ended finishes
   session_keeps link.TooLong ended finishes = finished_keeps link.TooLong ended finishes
   session_keeps link.OutOfMemory ended finishes = ap specs_in finishes.0
   session_keeps (link.Broken error) ended finishes = ap specs_in finishes.0
 
-no_memory_left : (ended : LinkEnd OutOfMemory) → ended ≡ link.OutOfMemory → IsEnded (tool_end_of ended) → ⊥
-no_memory_left ended is done = subst (λ (e : LinkEnd OutOfMemory). IsEnded (tool_end_of e)) is done
+no_memory_left : (ended : LinkEnd StepError) → ended ≡ link.OutOfMemory → IsEnded (tool_end_of ended) → ⊥
+no_memory_left ended is done = subst (λ (e : LinkEnd StepError). IsEnded (tool_end_of e)) is done
 
 -- a session after which the layers are saved was served to such an end
-was_served : (served ended : LinkEnd OutOfMemory) → (ended ≡ served) ⊎ (ended ≡ link.OutOfMemory) → IsEnded (tool_end_of ended) → IsEnded (tool_end_of served)
-was_served served ended (inl same) done = subst (λ (e : LinkEnd OutOfMemory). IsEnded (tool_end_of e)) same done
+was_served : (served ended : LinkEnd StepError) → (ended ≡ served) ⊎ (ended ≡ link.OutOfMemory) → IsEnded (tool_end_of ended) → IsEnded (tool_end_of served)
+was_served served ended (inl same) done = subst (λ (e : LinkEnd StepError). IsEnded (tool_end_of e)) same done
 was_served served ended (inr none) done = absurd (no_memory_left ended none done)
 
 -- ---- template files
@@ -249,10 +252,15 @@ none_reads path old new (inl refused) = ap (λ (t : Told). t.disk) refused.0
 none_reads path old new (inr read) = ap (λ (t : Told). t.disk) read.0
 
 part_reads : (path : List ℕ) (old new : SessionState) → IsDoneInPart (LoadTemplateFile path None) old new → new.files.told.disk ≡ old.files.told.disk
-part_reads path old new part = elim part.gives [
-  | inl finds ↦ finds_reads path old.files new.files part.found finds
-  | inr none ↦ none_reads path old.files new.files none
-]
+part_reads path old new done = elim done.part [
+  | inl given ↦ given_reads given
+  | inr left ↦ finds_reads path old.files new.files left.given.found left.gives.looks
+] where
+  given_reads : GivesInPart (LoadTemplateFile path None) old new → new.files.told.disk ≡ old.files.told.disk
+  given_reads given = elim given.gives [
+    | inl vain ↦ none_reads path old.files new.files vain.0
+    | inr shown ↦ ap (λ (f : FilesState). f.told.disk) shown.1
+  ]
 
 files_read : (start : SessionState) (turns : List FileTurn) → IsFileCourse start turns → (file_state start turns).files.told.disk ≡ start.files.told.disk
 files_read start [] is = refl
@@ -267,13 +275,16 @@ end_reads tool.OutOfMemory state rest new ends = elim ends.3 [
 ]
 end_reads tool.LinkFault state rest new ends = absurd ends
 end_reads tool.TooLong state rest new ends = absurd ends
+end_reads tool.TermFault state rest new ends = absurd ends
+end_reads tool.ChildFault state rest new ends = absurd ends
 
 turn_keeps : (old : SessionState) (turn : FileTurn) → IsFileTurn old turn → specs_of turn.new ≡ specs_of old
 turn_keeps old turn is =
     let command : Command = LoadTemplateFile turn.path None in
-    let left : SessionState = after_command old command turn.found turn.new.files in
-    let done : HasDone command old (answer old command turn.found).stepped left = record { found = turn.found; gives = is.finds; stepped_is = refl; new_is = refl } in
-    ap specs_of is.new_is ∙ same_specs (names_on old command turn.found) old.store.layers left.store.layers (others_stay command old left (answer old command turn.found).stepped done)
+    let given : Given = record { found = turn.found; asked = Answers [] } in
+    let left : SessionState = after_command old command given turn.new.files old.terminal in
+    let done : HasDone command old (answer old command given).stepped left = record { given = given; gives = record { looks = is.finds; shows = (refl, refl) }; stepped_is = refl; new_is = refl } in
+    ap specs_of is.new_is ∙ same_specs (names_on old command given) old.store.layers left.store.layers (others_stay command old left (answer old command given).stepped done)
 
 files_keep : (start : SessionState) (turns : List FileTurn) → IsFileCourse start turns → specs_of (file_state start turns) ≡ specs_of start
 files_keep start [] is = refl
@@ -285,6 +296,8 @@ end_keeps (tool.FilesFault path) is state rest new ends = absurd is
 end_keeps tool.OutOfMemory is state rest new ends = absurd is
 end_keeps tool.LinkFault is state rest new ends = absurd ends
 end_keeps tool.TooLong is state rest new ends = absurd ends
+end_keeps tool.TermFault is state rest new ends = absurd is
+end_keeps tool.ChildFault is state rest new ends = absurd is
 
 -- ---- tools
 
@@ -293,24 +306,31 @@ pub record KeepsAll (start : SessionState) (ended : ToolEnd) (layers : List Laye
   pub disk : files.told.disk ≡ start.files.told.disk
   pub specs : IsEnded ended → specs_in layers ≡ specs_of start
 
-tool_keeps : (used : Tool) (start : SessionState) (old new : LinkState) (given : ToolAnswer) (told : List ℕ) (layers : List LayerState) (files : FilesState) → Uses used start old new given told layers files → KeepsAll start given.ended layers files
-tool_keeps (Communicate owner) start old new given told layers files uses =
-    let served = uses.0.served in
+served_keeps : (start : SessionState) (old new terminal : LinkState) (given : ToolAnswer) (layers : List LayerState) (files : FilesState) (ended : LinkEnd StepError) → given.ended ≡ tool_end_of ended
+    → IsServed start layers files terminal old new ended given.last_code → KeepsAll start given.ended layers files
+served_keeps start old new terminal given layers files ended ended_is served =
     let ran = served.ran in
     record {
       disk = ap (λ (f : FilesState). f.told.disk) served.files_are ∙ session_reads start served.state ran.turns ran.rest ran.pieces old.input given.last_code ran.course served.served ran.answered;
       specs = λ is.
-          let done : IsEnded (tool_end_of served.served) = was_served served.served uses.0.ended (ends_so served.served served.state layers uses.0.ended served.finishes) (subst IsEnded uses.0.ended_is is) in
-          session_keeps served.state layers served.served uses.0.ended served.finishes
+          let done : IsEnded (tool_end_of served.served) = was_served served.served ended (ends_so served.served served.state layers ended served.finishes) (subst IsEnded ended_is is) in
+          session_keeps served.state layers served.served ended served.finishes
           ∙ ap specs_of (state_left start served.state ran.turns ran.rest ran.pieces old.input given.last_code served.served done ran.answered)
           ∙ course_keeps start ran.turns ran.course;
     }
+
+tool_keeps : (used : Tool) (start : SessionState) (old new : Links) (given : ToolAnswer) (told : List ℕ) (layers : List LayerState) (files : FilesState) → Uses used start old new given told layers files → KeepsAll start given.ended layers files
+tool_keeps (Communicate owner) start old new given told layers files uses = served_keeps start old.io new.io uses.0.terminal given layers files uses.0.ended uses.0.ended_is uses.0.served
 tool_keeps (LoadTemplate owner paths) start old new given told layers files uses =
     let loads = uses.loaded in
     record {
       disk = ap (λ (f : FilesState). f.told.disk) uses.files_are ∙ end_reads given.ended (file_state start loads.turns) loads.rest uses.state loads.ends ∙ files_read start loads.turns loads.course;
       specs = λ is. ap specs_in uses.layers_are ∙ end_keeps given.ended is (file_state start loads.turns) loads.rest uses.state loads.ends ∙ files_keep start loads.turns loads.course;
     }
+tool_keeps (Run owner frontend priority command) start old new given told layers files uses = elim uses.0 [
+  | inl none ↦ record { disk = ap (λ (f : FilesState). f.told.disk) none.files_are; specs = λ is. ap specs_in none.layers_are }
+  | inr started ↦ served_keeps start old.child.link new.child.link new.io given layers files started.ended started.ended_is started.served
+]
 
 -- ---- the save
 
@@ -324,6 +344,8 @@ not_done : (ended : ToolEnd) (path : List ℕ) (how : End) (saves : Result (Unit
 not_done tool.Done path how saves is done = cc
 not_done tool.LinkFault path how saves is done = cc
 not_done tool.TooLong path how saves is done = cc
+not_done tool.TermFault path how saves is done = cc
+not_done tool.ChildFault path how saves is done = cc
 not_done tool.OutOfMemory path how saves is done = cc
 not_done (tool.FilesFault fault) path how saves is done = cc
 
@@ -335,6 +357,31 @@ module _ (layers used : List LayerState) (files new : FilesState) (ended : ToolE
   saved_by (inl all) = record { saves = Ok tt; did = all.files_are; all_done = λ done. refl }
   saved_by (inr (inl failed)) = record { saves = Err (save.Failed failed.path); did = failed.failed; all_done = not_done ended failed.path how (Err (save.Failed failed.path)) failed.end_is }
   saved_by (inr (inr memory)) = record { saves = Err save.OutOfMemory; did = memory.ran_out; all_done = no_memory how (Err save.OutOfMemory) memory.end_is }
+
+-- ---- the program is waited for
+
+-- a run that did all had done all before its program was waited for
+waited_done : (how : End) → end_unwaited how ≡ end.Done → how ≡ end.Done
+waited_done end.Done is = refl
+waited_done (end.Usage word) is = is
+waited_done (end.ConfRefused line kind) is = is
+waited_done (end.BadPattern place) is = is
+waited_done (end.PatternTooLarge place) is = is
+waited_done (end.Damaged path line) is = is
+waited_done end.OutOfMemory is = is
+waited_done (end.FilesFault path) is = is
+waited_done end.LinkFault is = is
+waited_done end.TermFault is = is
+waited_done end.ChildFault is = is
+waited_done end.TooLong is = is
+
+done_before : (started : Bool) (mid now : ChildState) (how ended : End) (status left : ℕ) → Awaits started mid now how ended status left → ended ≡ end.Done → how ≡ end.Done
+done_before true mid now how ended status left (inl done) is = sym done.end_is ∙ is
+done_before true mid now how ended status left (inr failed) is = waited_done how (sym failed.end_is ∙ is)
+done_before false mid now how ended status left none is = sym none.end_is ∙ is
+
+saved_before : (images : List Image) (files new : Told) (how ended : End) → (ended ≡ end.Done → how ≡ end.Done) → HasSaved images files new how → HasSaved images files new ended
+saved_before images files new how ended before save = record { saves = save.saves; did = save.did; all_done = λ done. save.all_done (before done) }
 
 -- ---- the whole run
 
@@ -374,8 +421,8 @@ module _ (settings : Settings) (old new : World) (outcome : Outcome) (before aft
   nothing_done same = none_saved settings.conf_path outcome.end before after settled (same_some after before (sym to ∙ same ∙ at))
 
   module _ (used : Tool) (run : HasUsed used settings old new outcome) where
-    keeps : KeepsAll (begun run.mid run.roots settings (owner_of used)) run.answer.ended run.layers run.files
-    keeps = tool_keeps used (begun run.mid run.roots settings (owner_of used)) old.io new.io run.answer run.told run.layers run.files run.uses
+    keeps : KeepsAll (begun used run.mid run.roots settings old.links.io) run.answer.ended run.layers run.files
+    keeps = tool_keeps used (begun used run.mid run.roots settings old.links.io) old.links run.links run.answer run.told run.layers run.files run.uses
 
     files_at : run.files.told.disk ≡ Some before
     files_at = keeps.disk ∙ all_read _ _ _ _ _ _ _ _ run.started.loaded.loads ∙ at
@@ -394,11 +441,20 @@ module _ (settings : Settings) (old new : World) (outcome : Outcome) (before aft
     none_by : new.stock.files ≡ run.files → KeepsDatabases settings.conf_path before after outcome.end
     none_by same = none_saved settings.conf_path outcome.end before after settled (same_some after before (sym to ∙ ap (λ (files : FilesState). files.told.disk) same ∙ files_at))
 
-    finished : (ended : ToolEnd) → (IsEnded ended → specs_in run.layers ≡ each Some (databases_of run.started.conf)) → Finishes run.layers new.stock.used ended run.files new.stock.files outcome.end
+    saved_at : (ended : ToolEnd) → IsSaved run.layers new.stock.used run.files new.stock.files ended run.how ⊎ IsUnsaved run.layers new.stock.used run.files new.stock.files ended run.how ⊎ IsWithoutMemory run.layers new.stock.used run.files new.stock.files run.how
+        → HasSaved (images_of run.layers) run.files.told new.stock.files.told outcome.end
+    saved_at ended does =
+        saved_before (images_of run.layers) run.files.told new.stock.files.told run.how outcome.end
+        (done_before run.answer.is_started run.links.child new.links.child run.how outcome.end run.answer.status run.status run.awaits)
+        (saved_by run.layers new.stock.used run.files new.stock.files ended run.how does)
+
+    finished : (ended : ToolEnd) → (IsEnded ended → specs_in run.layers ≡ each Some (databases_of run.started.conf)) → Finishes run.layers new.stock.used ended run.files new.stock.files run.how
         → KeepsDatabases settings.conf_path before after outcome.end
-    finished tool.Done specs does = kept_by (saved_by run.layers new.stock.used run.files new.stock.files tool.Done outcome.end does) (specs tt)
-    finished tool.LinkFault specs does = kept_by (saved_by run.layers new.stock.used run.files new.stock.files tool.LinkFault outcome.end does) (specs tt)
-    finished tool.TooLong specs does = kept_by (saved_by run.layers new.stock.used run.files new.stock.files tool.TooLong outcome.end does) (specs tt)
+    finished tool.Done specs does = kept_by (saved_at tool.Done does) (specs tt)
+    finished tool.LinkFault specs does = kept_by (saved_at tool.LinkFault does) (specs tt)
+    finished tool.TooLong specs does = kept_by (saved_at tool.TooLong does) (specs tt)
+    finished tool.TermFault specs does = none_by does.files_are
+    finished tool.ChildFault specs does = none_by does.files_are
     finished tool.OutOfMemory specs does = none_by does.files_are
     finished (tool.FilesFault fault) specs does = none_by does.files_are
 

@@ -21,7 +21,7 @@ use Rattle.dc_run.specs.declared.outcome.ToolAnswer.{ToolAnswer}
 use Rattle.dc_run.specs.declared.outcome.ToolEnd.{ToolEnd}
 use Rattle.dc_run.specs.declared.outcome.ToolEnd.TheVariants as tool
 use Rattle.dc_run.proofs.Saying.{said_then, none_said}
-use Rattle.dc_run.proofs.ToolLemmas.{rest_all}
+use Rattle.dc_usage.proofs.ToolLemmas.{rest_all}
 
 -- ---- one file
 
@@ -156,7 +156,7 @@ one_joined start paths old new ended before one later either left is loads =
 
 -- the files were loaded into these layers
 pub loaded_over : (start begun left : SessionState) (slice paths : List (List ℕ)) (old new : LinkState) (loaded : FilesLoaded) (answer : ToolAnswer) (layers : List LayerState) (files : FilesState) → start ≡ begun → slice ≡ paths → LoadsFiles start slice old new loaded left
-    → layers ≡ left.store.layers → files ≡ left.files → answer ≡ record { ended = loaded.ended; last_code = 0; status = status_by loaded.refused } → HasLoadedOver begun paths old new answer layers files
+    → layers ≡ left.store.layers → files ≡ left.files → answer ≡ record { ended = loaded.ended; is_started = false; last_code = 0; status = status_by loaded.refused } → HasLoadedOver begun paths old new answer layers files
 loaded_over start begun left slice paths old new loaded answer layers files same all loads layers_are files_are is =
     subst (λ (a : ToolAnswer). HasLoadedOver begun paths old new a layers files) (sym is) (record {
       said = loads.said;
@@ -165,5 +165,6 @@ loaded_over start begun left slice paths old new loaded answer layers files same
       files_are = files_are;
       loads = subst (λ (s : SessionState). HasLoadedFiles s paths loaded.ended loads.said (status_by loaded.refused) left) same (subst (λ (p : List (List ℕ)). HasLoadedFiles start p loaded.ended loads.said (status_by loaded.refused) left) all loads.loads);
       last_code_is = refl;
+      waits = refl;
       telling = loads.telling;
     })

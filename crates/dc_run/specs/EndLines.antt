@@ -28,6 +28,8 @@ end_line (end.Damaged path at) = codes "dckit: " ++ path ++ codes ": damaged, li
 end_line end.OutOfMemory = codes "dckit: out of memory" ++ newline ∷ []
 end_line (end.FilesFault path) = codes "dckit: " ++ path ++ codes ": read or write failed" ++ newline ∷ []
 end_line end.LinkFault = codes "dckit: link failed" ++ newline ∷ []
+end_line end.TermFault = codes "dckit: terminal failed" ++ newline ∷ []
+end_line end.ChildFault = codes "dckit: child failed" ++ newline ∷ []
 end_line end.TooLong = codes "dckit: input too long" ++ newline ∷ []
 
 -- a call failed or was refused for want of memory, and its count rose

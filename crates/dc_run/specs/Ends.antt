@@ -1,8 +1,7 @@
 -- The ends of a run, their statuses and the counts that go with them.
 use Rattle.std.specs.Prelude.{◌≡◌, ◌⊎◌, ℕ, Result, Ok, Err}
-use Rattle.dc_outside.specs.Counts.{FaultRose, RefusalRose}
+use Rattle.dc_outside.specs.Counts.{Rose, FaultRose, RefusalRose}
 use Rattle.dc_outside.specs.Told.{Counts}
-use Rattle.dc_text.specs.declared.memory.OutOfMemory.{OutOfMemory}
 use Rattle.dc_conf.specs.declared.faults.ConfError.{ConfError}
 use Rattle.dc_conf.specs.declared.faults.ConfError.TheVariants as conf
 use Rattle.dc_layer.specs.declared.pattern.PatternError.{PatternError}
@@ -13,11 +12,14 @@ use Rattle.dc_save.specs.declared.saving.SaveError.{SaveError}
 use Rattle.dc_save.specs.declared.saving.SaveError.TheVariants as save
 use Rattle.dc_serve.specs.declared.outcome.LinkEnd.{LinkEnd}
 use Rattle.dc_serve.specs.declared.outcome.LinkEnd.TheVariants as link
+use Rattle.dc_session.specs.declared.stepped.StepError.{StepError}
+use Rattle.dc_session.specs.declared.stepped.StepError.TheVariants as step
 use Rattle.dc_run.specs.declared.outcome.End.{End}
 use Rattle.dc_run.specs.declared.outcome.End.TheVariants as end
 use Rattle.dc_run.specs.declared.outcome.ToolEnd.{ToolEnd}
 use Rattle.dc_run.specs.declared.outcome.ToolEnd.TheVariants as tool
 use Rattle.dc_run.specs.declared.outcome.PatternAt.TheVariants.{Database}
+use Rattle.dc_run.specs.World.{Links}
 use Rattle.dc_shelf.specs.declared.shelf.NotSetUp.{NotSetUp}
 
 -- the exit status of an end, of a tool that gives this one where it did all that it was to do
@@ -31,6 +33,8 @@ status_of (end.Damaged path line) status = 121
 status_of end.OutOfMemory status = 122
 status_of (end.FilesFault path) status = 123
 status_of end.LinkFault status = 124
+status_of end.TermFault status = 124
+status_of end.ChildFault status = 124
 status_of end.TooLong status = 125
 
 -- the end of a run whose configuration is refused
@@ -54,17 +58,20 @@ end_of_load (load.Damaged path line) = end.Damaged path line
 end_of_load load.OutOfMemory = end.OutOfMemory
 
 -- how a tool ended that serves a link, by the end of the link
-abbrev pub tool_end_of : LinkEnd OutOfMemory → ToolEnd
+abbrev pub tool_end_of : LinkEnd StepError → ToolEnd
 tool_end_of link.Done = tool.Done
 tool_end_of link.LinkFault = tool.LinkFault
 tool_end_of link.TooLong = tool.TooLong
 tool_end_of link.OutOfMemory = tool.OutOfMemory
-tool_end_of (link.Broken error) = tool.OutOfMemory
+tool_end_of (link.Broken step.Term) = tool.TermFault
+tool_end_of (link.Broken step.OutOfMemory) = tool.OutOfMemory
 
 -- the end of a run whose tool ended so
 abbrev pub end_of : ToolEnd → End
 end_of tool.Done = end.Done
 end_of tool.LinkFault = end.LinkFault
+end_of tool.TermFault = end.TermFault
+end_of tool.ChildFault = end.ChildFault
 end_of tool.TooLong = end.TooLong
 end_of tool.OutOfMemory = end.OutOfMemory
 end_of (tool.FilesFault path) = end.FilesFault path
@@ -86,19 +93,40 @@ abbrev pub IsEnded : ToolEnd → Type 0
 IsEnded tool.Done = Unit {0}
 IsEnded tool.LinkFault = Unit {0}
 IsEnded tool.TooLong = Unit {0}
+IsEnded tool.TermFault = ⊥
+IsEnded tool.ChildFault = ⊥
 IsEnded tool.OutOfMemory = ⊥
 IsEnded (tool.FilesFault path) = ⊥
 
--- how the link counts the calls of a run, by its end: a fault where it failed, which the end tells unless what came after it found
--- no memory, and a refusal where it found none itself
-abbrev pub LinkCounts : End → Counts → Counts → Type 0
-LinkCounts end.Done before now = now ≡ before
-LinkCounts (end.Usage word) before now = now ≡ before
-LinkCounts (end.ConfRefused line kind) before now = now ≡ before
-LinkCounts (end.BadPattern place) before now = now ≡ before
-LinkCounts (end.PatternTooLarge place) before now = now ≡ before
-LinkCounts (end.Damaged path line) before now = now ≡ before
-LinkCounts (end.FilesFault path) before now = now ≡ before
-LinkCounts end.LinkFault before now = FaultRose before now
-LinkCounts end.TooLong before now = now ≡ before
-LinkCounts end.OutOfMemory before now = (now ≡ before) ⊎ FaultRose before now ⊎ RefusalRose before now
+-- the end of a run that did all, but for a wait for its program that failed; another end stays
+abbrev pub end_unwaited : End → End
+end_unwaited end.Done = end.ChildFault
+end_unwaited how = how
+
+-- ---- counts
+
+-- how both links counted their calls, of which none failed, or that of one end of the run
+pub record Both (io child : Counts → Counts → Type 0) (before now : Links) : Type 0 where
+  pub on_io : io before.io.counts now.io.counts
+  pub on_child : child before.child.link.counts now.child.link.counts
+
+abbrev pub Stays : Counts → Counts → Type 0
+Stays before now = now ≡ before
+
+-- it may have failed, or found no memory
+abbrev pub MayRise : Counts → Counts → Type 0
+MayRise before now = (now ≡ before) ⊎ FaultRose before now ⊎ RefusalRose before now
+
+-- How the links count the calls of a run, by its end: a fault where the served one failed, which the end tells unless what came after it found
+-- no memory; a fault of the terminal, which is the program's own link; and a refusal where one found no memory itself.
+abbrev pub LinksCount : End → Links → Links → Type 0
+LinksCount end.LinkFault before now = Both FaultRose Stays before now ⊎ Both Stays FaultRose before now
+LinksCount end.TermFault before now = Both FaultRose Stays before now
+LinksCount end.OutOfMemory before now = Both MayRise MayRise before now
+LinksCount how before now = Both Stays Stays before now
+
+-- how often a start of the program or a wait for it failed: never where the run did all, and once where that is its end
+abbrev pub ProgramCounts : End → ℕ → ℕ → Type 0
+ProgramCounts end.Done before now = now ≡ before
+ProgramCounts end.ChildFault before now = Rose before now
+ProgramCounts how before now = (now ≡ before) ⊎ Rose before now

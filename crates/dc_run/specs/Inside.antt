@@ -1,27 +1,28 @@
 -- What the inner functions of a run promise. No public clause cites these.
-use Rattle.std.specs.Prelude.{◌≡◌, ◌⊎◌, ℕ, Bool, true, false, List, [], ◌∷◌, ◌++◌, Option, Some, None, is_some, Result, Ok, Err, codes, decimal, if◌then◌else◌}
+use Rattle.std.specs.Prelude.{◌≡◌, ℕ, Bool, true, false, List, [], ◌∷◌, ◌++◌, ◌<◌, length, Option, Some, None, is_some, Result, Ok, Err, codes, decimal, if◌then◌else◌}
 use Rattle.std.specs.Option.{option_map_or}
 use Rattle.dc_text.specs.Ascii.{newline}
-use Rattle.dc_outside.specs.Counts.{FaultRose, RefusalRose}
-use Rattle.dc_outside.specs.Told.{Counts}
 use Rattle.dc_layer.specs.State.{LayerState}
 use Rattle.dc_session.specs.Refusals.{refusal}
+use Rattle.dc_serve.specs.declared.outcome.LinkEnd.{LinkEnd}
+use Rattle.dc_session.specs.Serving.{IsServed}
 use Rattle.dc_session.specs.SessionState.{FilesState, SessionState}
+use Rattle.dc_session.specs.declared.stepped.StepError.{StepError}
 use Rattle.dc_session.specs.declared.template_loading.FileEnd.{FileEnd}
 use Rattle.dc_session.specs.declared.template_loading.FileEnd.TheVariants as file
 use Rattle.dc_run.specs.declared.loading_templates.FilesLoaded.{FilesLoaded}
 use Rattle.dc_run.specs.declared.outcome.ToolAnswer.{ToolAnswer}
 use Rattle.dc_run.specs.declared.outcome.ToolEnd.{ToolEnd}
-use Rattle.dc_run.specs.declared.outcome.ToolEnd.TheVariants as tool
 use Rattle.dc_run.specs.declared.settings.Settings.{Settings}
 use Rattle.dc_run.specs.declared.starting.Roots.{Roots}
-use Rattle.dc_run.specs.declared.tool.Tool.{Tool}
+use Rattle.dc_usage.specs.declared.tool.Tool.{Tool}
+use Rattle.dc_usage.specs.declared.tool.Tool.TheVariants.{Run}
 use Rattle.dc_run.specs.EndLines.{HasSaidOn}
+use Rattle.dc_run.specs.Ends.{tool_end_of}
 use Rattle.dc_run.specs.Headline.{Uses}
 use Rattle.dc_run.specs.Starting.{begun}
 use Rattle.dc_run.specs.TemplateLoading.{FileTurn, IsFileTurn, refusal_of, EndsAt, HasLoadedFiles}
-use Rattle.dc_run.specs.Tools.{owner_of}
-use Rattle.dc_run.specs.World.{LinkState, Stock}
+use Rattle.dc_run.specs.World.{LinkState, Links, Stock}
 
 -- ---- one template file
 
@@ -74,19 +75,24 @@ pub record HasLoadedOver (start : SessionState) (paths : List (List ℕ)) (old n
   pub files_are : files ≡ state.files
   pub loads : HasLoadedFiles start paths answer.ended said answer.status state
   pub last_code_is : answer.last_code ≡ 0
+  pub waits : answer.is_started ≡ false
   pub telling : HasSaidOn said old new
 
 -- ---- a tool
 
--- what a tool does, and what it tells
-abbrev pub HasUsedTool : Tool → Stock → Roots → Settings → LinkState → LinkState → LinkState → LinkState → ToolAnswer → List LayerState → FilesState → Type 0
-HasUsedTool tool stock roots settings old new err err_new answer layers files =
-    (told : List ℕ) × Uses tool (begun stock roots settings (owner_of tool)) old new answer told layers files × HasSaidOn told err err_new
+-- the commands of a program were served, with the terminal left so
+pub record HasServedProgram (start : SessionState) (terminal old new : LinkState) (answer : ToolAnswer) (layers : List LayerState) (files : FilesState) : Type 0 where
+  pub ended : LinkEnd StepError
+  pub ended_is : answer.ended ≡ tool_end_of ended
+  pub served : IsServed start layers files terminal old new ended answer.last_code
+  pub waits : answer.is_started ≡ true
 
--- how the link counts its calls, by the end of the tool: where it failed and then no memory was there to finish the session, a fault
-abbrev pub ToolCounts : ToolEnd → Counts → Counts → Type 0
-ToolCounts tool.Done before now = now ≡ before
-ToolCounts tool.LinkFault before now = FaultRose before now
-ToolCounts tool.TooLong before now = now ≡ before
-ToolCounts tool.OutOfMemory before now = (now ≡ before) ⊎ FaultRose before now ⊎ RefusalRose before now
-ToolCounts (tool.FilesFault path) before now = now ≡ before
+-- the command of a tool that has one has a word
+abbrev pub HasCommand : Tool → Type 0
+HasCommand (Run owner frontend priority command) = 0 < length command
+HasCommand used = Unit {0}
+
+-- what a tool does, and what it tells
+abbrev pub HasUsedTool : Tool → Stock → Roots → Settings → Links → Links → LinkState → LinkState → ToolAnswer → List LayerState → FilesState → Type 0
+HasUsedTool tool stock roots settings old new err err_new answer layers files =
+    (told : List ℕ) × Uses tool (begun tool stock roots settings old.io) old new answer told layers files × HasSaidOn told err err_new

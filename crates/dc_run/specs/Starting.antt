@@ -1,6 +1,6 @@
 -- What a run does before its tool: the configuration is read, a layer for each database that its roots reach is set up, and each is
 -- loaded.
-use Rattle.std.specs.Prelude.{◌≡◌, ◌⊎◌, ℕ, List, [], ◌∷◌, true, false, Option, option_and_then, Result, Ok, Err}
+use Rattle.std.specs.Prelude.{◌≡◌, ◌⊎◌, ℕ, List, [], ◌∷◌, true, false, Option, Some, option_and_then, Result, Ok, Err}
 use Rattle.std.specs.Option.{option_or}
 use Rattle.dc_outside.specs.Disk.{Disk}
 use Rattle.dc_outside.specs.Counts.{FaultRose, RefusalRose}
@@ -10,13 +10,16 @@ use Rattle.dc_outside.specs.declared.files.FilesOp.TheVariants.{Read}
 use Rattle.dc_conf.specs.Configuration.{Configuration, IsAnswer, reached, plan_of}
 use Rattle.dc_conf.specs.declared.faults.ConfError.{ConfError}
 use Rattle.dc_conf.specs.declared.spec.LayerSpec.{LayerSpec}
+use Rattle.dc_frontend.specs.Frontends.{frontend_of}
+use Rattle.dc_frontend.specs.declared.frontend.Frontend.{Frontend}
+use Rattle.dc_frontend.specs.declared.frontend.Frontend.TheVariants.{Noninteractive}
 use Rattle.dc_proto.specs.Priorities.{priority_of}
 use Rattle.dc_proto.specs.declared.priority.Priority.{Priority}
 use Rattle.dc_question.specs.Questions.{Setting}
 use Rattle.dc_save.specs.Loading.{IsTextAt}
 use Rattle.dc_save.specs.declared.loading.LoadError.{LoadError}
-use Rattle.dc_session.specs.Asking.{nothing_asked, threshold_by}
-use Rattle.dc_session.specs.SessionState.{FilesState, SessionState}
+use Rattle.dc_session.specs.Asking.{nothing_asked, manner_by}
+use Rattle.dc_session.specs.SessionState.{FilesState, TerminalState, SessionState, nothing_typed, no_terminal}
 use Rattle.dc_shelf.specs.Shelves.{all_set_up, IsRefusedAt, LoadsAll}
 use Rattle.dc_shelf.specs.declared.shelf.NotSetUp.{NotSetUp}
 use Rattle.dc_store.specs.Plans.{stored}
@@ -25,7 +28,10 @@ use Rattle.dc_run.specs.declared.outcome.End.TheVariants as end
 use Rattle.dc_run.specs.declared.settings.Settings.{Settings}
 use Rattle.dc_run.specs.declared.starting.Roots.{Roots}
 use Rattle.dc_run.specs.Ends.{end_of_conf, end_of_patterns, end_of_load}
-use Rattle.dc_run.specs.World.{Stock}
+use Rattle.dc_run.specs.World.{LinkState, Stock}
+use Rattle.dc_usage.specs.Tools.{owner_of}
+use Rattle.dc_usage.specs.declared.tool.Tool.{Tool}
+use Rattle.dc_usage.specs.declared.tool.Tool.TheVariants.{Run}
 
 -- ---- the configuration
 
@@ -57,15 +63,33 @@ chosen settings roots = option_or (option_and_then priority_of settings.priority
 abbrev pub setting_of : Roots → Settings → Setting
 setting_of roots settings = record { config = roots.config; templates = roots.templates; lang = settings.lang }
 
--- the session over these layers and files, by the plans of questions and of templates, under these settings and for an owner: nothing is
--- asked for yet
-abbrev pub begun : Stock → Roots → Settings → List ℕ → SessionState
-begun stock roots settings owner = record {
+-- the priority that a tool's words or settings choose
+abbrev pub chosen_priority : Tool → Settings → Roots → Option Priority
+chosen_priority (Run owner frontend priority command) settings roots = option_or priority (chosen settings roots)
+chosen_priority used settings roots = chosen settings roots
+
+-- What asks the user of a tool, where its words or settings choose it. Only `run` asks anyone: by its words, else the setting's, else the
+-- configuration's.
+abbrev pub chosen_frontend : Tool → Settings → Roots → Option Frontend
+chosen_frontend (Run owner frontend priority command) settings roots =
+    option_or frontend (option_or (option_and_then frontend_of settings.frontend) (option_and_then frontend_of roots.frontend))
+chosen_frontend used settings roots = Some Noninteractive
+
+-- the terminal of a tool: `run` asks on the program's own link, and no other tool has one
+abbrev pub terminal_of : Tool → LinkState → TerminalState
+terminal_of (Run owner frontend priority command) io = record { link = io; ahead = nothing_typed }
+terminal_of used io = no_terminal
+
+-- the session of a tool over these layers and files, by the plans of questions and of templates, under these settings: nothing is asked for
+-- yet
+abbrev pub begun : Tool → Stock → Roots → Settings → LinkState → SessionState
+begun used stock roots settings io = record {
   store = stored stock.used [];
   files = stock.files;
+  terminal = terminal_of used io;
   at = setting_of roots settings;
-  owner = owner;
-  manner = record { threshold = threshold_by (chosen settings roots) stock.used (setting_of roots settings); nonint_seen = settings.nonint_seen };
+  owner = owner_of used;
+  manner = manner_by (chosen_frontend used settings roots) (chosen_priority used settings roots) settings.nonint_seen stock.used (setting_of roots settings);
   asking = nothing_asked;
 }
 
@@ -129,12 +153,14 @@ EndsBefore path old new how =
 
 -- ---- what is done before the tool, by the answer
 
--- all layers were loaded, and these are the plans of questions and of templates, and the configuration's word for the priority
+-- all layers were loaded, and these are the plans of questions and of templates, and the configuration's words for the frontend and the
+-- priority
 pub record HasStarted (path : List ℕ) (old : FilesState) (new : Stock) (roots : Roots) : Type 0 where
   pub conf : Configuration
   pub loaded : HasLoaded path conf old new (Ok tt)
   pub config_is : roots.config ≡ plan_of conf (databases_of conf) conf.config
   pub templates_is : roots.templates ≡ plan_of conf (databases_of conf) conf.templates
+  pub frontend_is : roots.frontend ≡ conf.frontend
   pub priority_is : roots.priority ≡ conf.priority
 
 abbrev pub Starts : List ℕ → FilesState → Stock → Result Roots End → Type 0

@@ -34,6 +34,8 @@ fn finish<F: Files>(
 {
     match ended {
         ToolEnd::OutOfMemory => End::OutOfMemory,
+        ToolEnd::TermFault => End::TermFault,
+        ToolEnd::ChildFault => End::ChildFault,
         ToolEnd::FilesFault { path } => End::FilesFault { path },
         ToolEnd::Done | ToolEnd::LinkFault | ToolEnd::TooLong => {
             let saved = save_all(alloc, files, layers);

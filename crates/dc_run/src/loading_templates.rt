@@ -2,6 +2,7 @@
 ghost use Rattle.std.specs.Prelude.{◌≡◌, ◌||◌, [], is_some, length, map as each, true};
 ghost use Rattle.dc_conf.specs.Plans.{IsOver, are_disjoint};
 ghost use Rattle.dc_store.specs.Plans.{stored};
+ghost use Rattle.dc_session.specs.SessionState.{TerminalState};
 ghost use Rattle.dc_session.specs.declared.asking.Asking.{Asking};
 ghost use Rattle.dc_session.specs.declared.manner.Manner.{Manner};
 ghost use Rattle.dc_run.specs.Inside.{end_text, is_unread, status_by, LoadsOne, LoadsFiles, HasLoadedOver};
@@ -21,13 +22,13 @@ use std::marker::PhantomData;
 /// What template files are loaded into.
 trait TakesTemplates {
     ghost use Rattle.std.specs.Prelude.{◌≡◌};
-    ghost use Rattle.dc_session.specs.SessionState.{SessionState};
+    ghost use Rattle.dc_session.specs.SessionState.{SessionState, TerminalState};
     ghost use Rattle.dc_session.specs.FileLoading.{Loads};
     ghost use Rattle.dc_session.specs.declared.asking.Asking.{Asking};
     ghost use Rattle.dc_session.specs.declared.manner.Manner.{Manner};
 
     /// The state that it works on, of a session that asks so, which templates don't look at.
-    ghost state_at: { Self → Manner → Asking → SessionState };
+    ghost state_at: { Self → TerminalState → Manner → Asking → SessionState };
 
     ghost Kept: { Type 0 };
 
@@ -36,7 +37,7 @@ trait TakesTemplates {
 
     /// Loads the templates of the file at the path for the owner of the state (debconf-loadtemplate(1)): all of them, or none.
     fn load_file(&mut self, path: &Text) -> Mem<FileEnd>
-        ensures loads { (manner : Manner) (asking : Asking) → Loads path.now (state_at self.old manner asking) (state_at self.new manner asking) result }
+        ensures loads { (terminal : TerminalState) (manner : Manner) (asking : Asking) → Loads path.now (state_at self.old terminal manner asking) (state_at self.new terminal manner asking) result }
         ensures kept { kept self.new ≡ kept self.old };
 }
 
@@ -54,9 +55,10 @@ impl<'s, 'f, F: Files> TakesTemplates for Loader<'s, 'f, F> {
     ghost use Rattle.std.specs.Borrow.{GName};
     ghost use Rattle.dc_store.specs.Plans.{stored};
 
-    ghost state_at = { λ s manner asking. record {
+    ghost state_at = { λ s terminal manner asking. record {
       store = stored (each (λ b. (Layer-box b).state b.value) s.desk.questions.store.now.layers.items) s.desk.questions.store.now.told;
       files = record { told = F.told s.files.now; counts = F.counts s.files.now };
+      terminal = terminal;
       at = s.desk.questions.setting;
       owner = s.desk.owner.now;
       manner = manner;
@@ -92,8 +94,8 @@ pub fn load_template_files<E: Link, F: Files>(
     requires config { IsOver config.now (length layers.old.items) }
     requires templates { IsOver templates.now (length layers.old.items) }
     requires disjoint { are_disjoint config.now templates.now ≡ true }
-    ensures { (manner : Manner) (asking : Asking) → HasLoadedOver
-        (record { store = stored (each state layers.old.items) []; files = record { told = F.told files.old; counts = F.counts files.old }; at = record { config = config.now; templates = templates.now; lang = lang.now }; owner = owner.now; manner = manner; asking = asking }) paths.now
+    ensures { (terminal : TerminalState) (manner : Manner) (asking : Asking) → HasLoadedOver
+        (record { store = stored (each state layers.old.items) []; files = record { told = F.told files.old; counts = F.counts files.old }; terminal = terminal; at = record { config = config.now; templates = templates.now; lang = lang.now }; owner = owner.now; manner = manner; asking = asking }) paths.now
         (record { talk = E.talk err.old; input = E.left err.old; counts = record { faults = E.faults err.old; refusals = E.refusals err.old } })
         (record { talk = E.talk err.new; input = E.left err.new; counts = record { faults = E.faults err.new; refusals = E.refusals err.new } })
         result (each state layers.new.items) (record { told = F.told files.new; counts = F.counts files.new }) }
@@ -116,6 +118,7 @@ pub fn load_template_files<E: Link, F: Files>(
     *layers = desk.layers_left(alloc);
     ToolAnswer {
         ended: loaded.ended,
+        is_started: false,
         last_code: 0,
         status: status_of_files(loaded.refused),
     }
@@ -133,10 +136,10 @@ fn load_files<S: TakesTemplates, E: Link>(
     err: &mut E,
     paths: &[Text],
 ) -> FilesLoaded
-    ensures loads { (manner : Manner) (asking : Asking) → LoadsFiles (S.state_at session.old manner asking) paths.now
+    ensures loads { (terminal : TerminalState) (manner : Manner) (asking : Asking) → LoadsFiles (S.state_at session.old terminal manner asking) paths.now
         (record { talk = E.talk err.old; input = E.left err.old; counts = record { faults = E.faults err.old; refusals = E.refusals err.old } })
         (record { talk = E.talk err.new; input = E.left err.new; counts = record { faults = E.faults err.new; refusals = E.refusals err.new } })
-        result (S.state_at session.new manner asking) }
+        result (S.state_at session.new terminal manner asking) }
     ensures kept { S.kept session.new ≡ S.kept session.old }
 {
     let mut refused = false;
@@ -166,10 +169,10 @@ fn load_one<S: TakesTemplates, E: Link>(
     err: &mut E,
     path: &Text,
 ) -> Result<bool, ToolEnd>
-    ensures loads { (manner : Manner) (asking : Asking) → LoadsOne (S.state_at session.old manner asking) path.now
+    ensures loads { (terminal : TerminalState) (manner : Manner) (asking : Asking) → LoadsOne (S.state_at session.old terminal manner asking) path.now
         (record { talk = E.talk err.old; input = E.left err.old; counts = record { faults = E.faults err.old; refusals = E.refusals err.old } })
         (record { talk = E.talk err.new; input = E.left err.new; counts = record { faults = E.faults err.new; refusals = E.refusals err.new } })
-        result (S.state_at session.new manner asking) }
+        result (S.state_at session.new terminal manner asking) }
     ensures kept { S.kept session.new ≡ S.kept session.old }
 {
     let kept = match path.copy() {

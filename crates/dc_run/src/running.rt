@@ -3,63 +3,68 @@ ghost use Rattle.std.specs.Prelude.{◌≡◌, ◌≤◌, [], Some, length, map 
 ghost use Rattle.dc_conf.specs.Plans.{IsOver, are_disjoint};
 ghost use Rattle.dc_outside.specs.Disk.{Disk, IsSettled};
 ghost use Rattle.dc_shelf.specs.Shelves.{AreBlank};
-ghost use Rattle.dc_store.specs.Plans.{stored};
 ghost use Rattle.dc_run.specs.Crashes.{KeepsDatabases};
 ghost use Rattle.dc_run.specs.EndLines.{end_line, HasSaid};
-ghost use Rattle.dc_run.specs.Ends.{status_of, LinkCounts};
-ghost use Rattle.dc_run.specs.Headline.{HasRunWords, HasRunTool, HasCommunicated};
-ghost use Rattle.dc_run.specs.Inside.{HasUsedTool, ToolCounts};
-ghost use Rattle.dc_run.specs.Starting.{begun};
+ghost use Rattle.dc_outside.specs.Programs.{Unstarted, IsRunning};
+ghost use Rattle.dc_run.specs.Ends.{status_of, LinksCount, ProgramCounts};
+ghost use Rattle.dc_run.specs.Running.{Awaits};
+ghost use Rattle.dc_run.specs.Headline.{HasRunWords, HasRunTool};
+ghost use Rattle.dc_run.specs.Inside.{HasCommand, HasUsedTool};
 
 use crate::finishing::finish_used;
 use crate::loading_templates::load_template_files;
-use crate::outcome::{End, Outcome, ToolAnswer, outcome_at, tool_end};
+use crate::outcome::{End, Outcome, ToolAnswer, end_unwaited, outcome_at};
+use crate::serving::{RunAsking, communicate, run_program};
 use crate::settings::Settings;
-use crate::starting::{Roots, chosen, start};
+use crate::starting::{Roots, start};
 use crate::telling::tell_end;
-use crate::tool::{Tool, ToolError, read_tool};
 use dc_layer::Layer;
-use dc_outside::{Files, Link};
-use dc_session::{SessionSetup, serve_layers};
+use dc_outside::{Child, Files, Link};
 use dc_shelf::Shelf;
-use dc_text::{List, Name, Text};
+use dc_text::{List, Text};
+use dc_usage::{Tool, ToolError, read_tool};
 use std::alloc::Global;
 
 /// Runs the tool that the words name, over the link `io` and the databases that the configuration at `settings.conf_path` names
 /// (debconf.conf(5)). Blank layers of the shelf are moved to its `used`, in the order of the databases.
 ///
 /// `communicate [OWNER]` serves the commands that come on the link, as debconf-communicate(1) does, and answers each line
-/// before it reads more. `loadtemplate OWNER FILE ...` loads the templates of files, as debconf-loadtemplate(1) does. Then what
-/// changed in the layers is saved. An end other than `Done` is told on `err`.
-pub fn run_words<L: Link, E: Link, F: Files>(
+/// before it reads more. `loadtemplate OWNER FILE ...` loads the templates of files, as debconf-loadtemplate(1) does. `run COMMAND` starts a
+/// program behind the link `child` and serves its commands, as debconf(1) does, with the user asked on `io`. Then what changed in the layers
+/// is saved, and the program waited for. An end other than `Done` is told on `err`.
+pub fn run_words<L: Link, E: Link, C: Child, F: Files>(
     alloc: Global,
     words: &List<Text>,
     settings: &Settings,
     io: &mut L,
     err: &mut E,
+    child: &mut C,
     files: &mut F,
     shelf: &mut Shelf,
 ) -> Outcome
     requires blank { AreBlank (each (λ b. state (b.vtable, b.value)) shelf.old.files.items) }
     requires room { 16 ≤ length shelf.old.files.items }
     requires used { shelf.old.used.items ≡ [] }
+    requires unstarted { (C.program child.old).life ≡ Unstarted }
     // What the tool does is what the plain machine does, what was saved and stands in `used` are its layers, by the end, and the end is
     // told on `err`, but for what a write there that failed leaves out.
     ensures ran { HasRunWords words.now settings.now
         (record {
           stock = record { files = record { told = F.told files.old; counts = F.counts files.old }; used = each (λ b. state (b.vtable, b.value)) shelf.old.used.items };
-          io = record { talk = L.talk io.old; input = L.left io.old; counts = record { faults = L.faults io.old; refusals = L.refusals io.old } };
+          links = record { io = record { talk = L.talk io.old; input = L.left io.old; counts = record { faults = L.faults io.old; refusals = L.refusals io.old } }; child = record { link = record { talk = C.talk child.old; input = C.left child.old; counts = record { faults = C.faults child.old; refusals = C.refusals child.old } }; program = C.program child.old } };
           err = record { talk = E.talk err.old; input = E.left err.old; counts = record { faults = E.faults err.old; refusals = E.refusals err.old } };
         })
         (record {
           stock = record { files = record { told = F.told files.new; counts = F.counts files.new }; used = each (λ b. state (b.vtable, b.value)) shelf.new.used.items };
-          io = record { talk = L.talk io.new; input = L.left io.new; counts = record { faults = L.faults io.new; refusals = L.refusals io.new } };
+          links = record { io = record { talk = L.talk io.new; input = L.left io.new; counts = record { faults = L.faults io.new; refusals = L.refusals io.new } }; child = record { link = record { talk = C.talk child.new; input = C.left child.new; counts = record { faults = C.faults child.new; refusals = C.refusals child.new } }; program = C.program child.new } };
           err = record { talk = E.talk err.new; input = E.left err.new; counts = record { faults = E.faults err.new; refusals = E.refusals err.new } };
         })
         result }
 
-    // A fault of the link has its end, unless what came after it found no memory.
-    ensures link_counts { LinkCounts result.end (record { faults = L.faults io.old; refusals = L.refusals io.old }) (record { faults = L.faults io.new; refusals = L.refusals io.new }) }
+    // A fault of a link has its end, unless what came after it found no memory, and so has a start or a wait that failed, unless another end
+    // came first.
+    ensures link_counts { LinksCount result.end (record { io = record { talk = L.talk io.old; input = L.left io.old; counts = record { faults = L.faults io.old; refusals = L.refusals io.old } }; child = record { link = record { talk = C.talk child.old; input = C.left child.old; counts = record { faults = C.faults child.old; refusals = C.refusals child.old } }; program = C.program child.old } }) (record { io = record { talk = L.talk io.new; input = L.left io.new; counts = record { faults = L.faults io.new; refusals = L.refusals io.new } }; child = record { link = record { talk = C.talk child.new; input = C.left child.new; counts = record { faults = C.faults child.new; refusals = C.refusals child.new } }; program = C.program child.new } }) }
+    ensures program_counts { ProgramCounts result.end (C.program child.old).failures (C.program child.new).failures }
 
     // Killed at any moment, it leaves each database as before or as it is saved, where nothing was pending on the disk when it began.
     ensures killed { (before after : Disk) → (F.told files.old).disk ≡ Some before → (F.told files.new).disk ≡ Some after → IsSettled before.standing → KeepsDatabases settings.now.conf_path before after result.end }
@@ -67,36 +72,38 @@ pub fn run_words<L: Link, E: Link, F: Files>(
     match read_tool(alloc, words) {
         Err(ToolError::Refused { word }) => end_run(err, End::Usage { word }, 0, 0),
         Err(ToolError::OutOfMemory) => end_run(err, End::OutOfMemory, 0, 0),
-        Ok(tool) => run_tool(alloc, &tool, settings, io, err, files, shelf),
+        Ok(tool) => run_tool(alloc, &tool, settings, io, err, child, files, shelf),
     }
 }
 
-// The databases are loaded, the tool works on them, and what it changed is saved.
-fn run_tool<L: Link, E: Link, F: Files>(
+// The databases are loaded, the tool works on them, what it changed is saved, and the program that it started is waited for.
+fn run_tool<L: Link, E: Link, C: Child, F: Files>(
     alloc: Global,
     tool: &Tool,
     settings: &Settings,
     io: &mut L,
     err: &mut E,
+    child: &mut C,
     files: &mut F,
     shelf: &mut Shelf,
 ) -> Outcome
     requires blank { AreBlank (each (λ b. state (b.vtable, b.value)) shelf.old.files.items) }
     requires room { 16 ≤ length shelf.old.files.items }
     requires used { shelf.old.used.items ≡ [] }
+    requires unstarted { (C.program child.old).life ≡ Unstarted }
+    requires command { HasCommand tool.now }
     ensures ran { HasRunTool tool.now settings.now
         (record {
           stock = record { files = record { told = F.told files.old; counts = F.counts files.old }; used = each (λ b. state (b.vtable, b.value)) shelf.old.used.items };
-          io = record { talk = L.talk io.old; input = L.left io.old; counts = record { faults = L.faults io.old; refusals = L.refusals io.old } };
+          links = record { io = record { talk = L.talk io.old; input = L.left io.old; counts = record { faults = L.faults io.old; refusals = L.refusals io.old } }; child = record { link = record { talk = C.talk child.old; input = C.left child.old; counts = record { faults = C.faults child.old; refusals = C.refusals child.old } }; program = C.program child.old } };
           err = record { talk = E.talk err.old; input = E.left err.old; counts = record { faults = E.faults err.old; refusals = E.refusals err.old } };
         })
         (record {
           stock = record { files = record { told = F.told files.new; counts = F.counts files.new }; used = each (λ b. state (b.vtable, b.value)) shelf.new.used.items };
-          io = record { talk = L.talk io.new; input = L.left io.new; counts = record { faults = L.faults io.new; refusals = L.refusals io.new } };
+          links = record { io = record { talk = L.talk io.new; input = L.left io.new; counts = record { faults = L.faults io.new; refusals = L.refusals io.new } }; child = record { link = record { talk = C.talk child.new; input = C.left child.new; counts = record { faults = C.faults child.new; refusals = C.refusals child.new } }; program = C.program child.new } };
           err = record { talk = E.talk err.new; input = E.left err.new; counts = record { faults = E.faults err.new; refusals = E.refusals err.new } };
         })
         result }
-    ensures link_counts { LinkCounts result.end (record { faults = L.faults io.old; refusals = L.refusals io.old }) (record { faults = L.faults io.new; refusals = L.refusals io.new }) }
 {
     match start(alloc, &settings.conf_path, files, shelf) {
         Err(end) => end_run(err, end, 0, 0),
@@ -108,42 +115,48 @@ fn run_tool<L: Link, E: Link, F: Files>(
                 settings,
                 io,
                 err,
+                child,
                 files,
                 &mut shelf.used,
             );
             let ToolAnswer {
                 ended,
+                is_started,
                 last_code,
                 status,
             } = answer;
-            let end = finish_used(alloc, ended, files, &mut shelf.used);
+            let how = finish_used(alloc, ended, files, &mut shelf.used);
+            let (end, status) = await_program(child, is_started, how, status);
             end_run(err, end, last_code, status)
         }
     }
 }
 
 // The tool works on the layers, by the plans of questions and of templates.
-fn use_tool<L: Link, E: Link, F: Files>(
+fn use_tool<L: Link, E: Link, C: Child, F: Files>(
     alloc: Global,
     tool: &Tool,
     roots: &Roots,
     settings: &Settings,
     io: &mut L,
     err: &mut E,
+    child: &mut C,
     files: &mut F,
     used: &mut Vec<Box<dyn Layer>>,
 ) -> ToolAnswer
     requires config { IsOver roots.now.config (length used.old.items) }
     requires templates { IsOver roots.now.templates (length used.old.items) }
     requires disjoint { are_disjoint roots.now.config roots.now.templates ≡ true }
+    requires unstarted { (C.program child.old).life ≡ Unstarted }
+    requires command { HasCommand tool.now }
     ensures uses { HasUsedTool tool.now
         (record { files = record { told = F.told files.old; counts = F.counts files.old }; used = each state used.old.items }) roots.now settings.now
-        (record { talk = L.talk io.old; input = L.left io.old; counts = record { faults = L.faults io.old; refusals = L.refusals io.old } })
-        (record { talk = L.talk io.new; input = L.left io.new; counts = record { faults = L.faults io.new; refusals = L.refusals io.new } })
+        (record { io = record { talk = L.talk io.old; input = L.left io.old; counts = record { faults = L.faults io.old; refusals = L.refusals io.old } }; child = record { link = record { talk = C.talk child.old; input = C.left child.old; counts = record { faults = C.faults child.old; refusals = C.refusals child.old } }; program = C.program child.old } })
+        (record { io = record { talk = L.talk io.new; input = L.left io.new; counts = record { faults = L.faults io.new; refusals = L.refusals io.new } }; child = record { link = record { talk = C.talk child.new; input = C.left child.new; counts = record { faults = C.faults child.new; refusals = C.refusals child.new } }; program = C.program child.new } })
         (record { talk = E.talk err.old; input = E.left err.old; counts = record { faults = E.faults err.old; refusals = E.refusals err.old } })
         (record { talk = E.talk err.new; input = E.left err.new; counts = record { faults = E.faults err.new; refusals = E.refusals err.new } })
         result (each state used.new.items) (record { told = F.told files.new; counts = F.counts files.new }) }
-    ensures link_counts { ToolCounts result.ended (record { faults = L.faults io.old; refusals = L.refusals io.old }) (record { faults = L.faults io.new; refusals = L.refusals io.new }) }
+    ensures running { result.is_started ≡ true → IsRunning (C.program child.new).life }
 {
     match tool {
         Tool::Communicate { owner } => communicate(alloc, owner, roots, settings, io, files, used),
@@ -158,48 +171,38 @@ fn use_tool<L: Link, E: Link, F: Files>(
             owner,
             paths,
         ),
+        Tool::Run {
+            owner,
+            frontend,
+            priority,
+            command,
+        } => {
+            let asking = RunAsking {
+                owner,
+                frontend: *frontend,
+                priority: *priority,
+            };
+            run_program(
+                alloc, command, &asking, roots, settings, io, child, files, used,
+            )
+        }
     }
 }
 
-// The commands that come on the link are served over the layers, for the owner.
-fn communicate<L: Link, F: Files>(
-    alloc: Global,
-    owner: &Name,
-    roots: &Roots,
-    settings: &Settings,
-    io: &mut L,
-    files: &mut F,
-    used: &mut Vec<Box<dyn Layer>>,
-) -> ToolAnswer
-    requires config { IsOver roots.now.config (length used.old.items) }
-    requires templates { IsOver roots.now.templates (length used.old.items) }
-    requires disjoint { are_disjoint roots.now.config roots.now.templates ≡ true }
-    ensures served { HasCommunicated
-        (begun (record { files = record { told = F.told files.old; counts = F.counts files.old }; used = each state used.old.items }) roots.now settings.now owner.now)
-        (record { talk = L.talk io.old; input = L.left io.old; counts = record { faults = L.faults io.old; refusals = L.refusals io.old } })
-        (record { talk = L.talk io.new; input = L.left io.new; counts = record { faults = L.faults io.new; refusals = L.refusals io.new } })
-        result (each state used.new.items) (record { told = F.told files.new; counts = F.counts files.new }) }
-    ensures link_counts { ToolCounts result.ended (record { faults = L.faults io.old; refusals = L.refusals io.old }) (record { faults = L.faults io.new; refusals = L.refusals io.new }) }
+// Waits for the program, where one was started: when all else is done.
+fn await_program<C: Child>(child: &mut C, is_started: bool, how: End, status: u8) -> (End, u8)
+    requires running { is_started ≡ true → IsRunning (C.program child.old).life }
+    ensures { Awaits is_started
+        (record { link = record { talk = C.talk child.old; input = C.left child.old; counts = record { faults = C.faults child.old; refusals = C.refusals child.old } }; program = C.program child.old })
+        (record { link = record { talk = C.talk child.new; input = C.left child.new; counts = record { faults = C.faults child.new; refusals = C.refusals child.new } }; program = C.program child.new })
+        how result.0 status result.1 }
 {
-    let setup = SessionSetup {
-        owner,
-        lang: &settings.lang,
-        threshold: chosen(settings, roots),
-        nonint_seen: settings.nonint_seen,
-    };
-    let served = serve_layers(
-        alloc,
-        io,
-        files,
-        used,
-        &roots.config,
-        &roots.templates,
-        &setup,
-    );
-    ToolAnswer {
-        ended: tool_end(served.end),
-        last_code: served.last_code,
-        status: served.last_code,
+    if !is_started {
+        return (how, status);
+    }
+    match child.wait() {
+        Ok(ended) => (how, ended),
+        Err(_) => (end_unwaited(how), status),
     }
 }
 

@@ -1,6 +1,8 @@
 // What a run does before its tool.
 ghost use Rattle.std.specs.Prelude.{◌≡◌, ◌≤◌, ◌∷◌, [], length, map as each, IfOk, true, option_and_then, option_copied};
 ghost use Rattle.std.specs.List.{AllByRecursion};
+ghost use Rattle.std.specs.Option.{option_or};
+ghost use Rattle.dc_frontend.specs.Frontends.{frontend_of};
 ghost use Rattle.dc_conf.specs.Configuration.{plan_of, IsAnswer, AreDisjoint};
 ghost use Rattle.dc_conf.specs.Plans.{IsOver, are_disjoint};
 ghost use Rattle.dc_proto.specs.Priorities.{priority_of};
@@ -13,6 +15,7 @@ use crate::outcome::{End, PatternAt};
 use crate::settings::Settings;
 use dc_conf::spec::LayerSpec;
 use dc_conf::{Conf, ConfError, Plan, ResolveError, Resolved, read_conf};
+use dc_frontend::Frontend;
 use dc_layer::{Layer, PatternError};
 use dc_outside::{Files, FilesError};
 use dc_proto::Priority;
@@ -22,11 +25,12 @@ use dc_text::{List, Mem, Text};
 use std::alloc::Global;
 
 /// What a tool takes from the configuration: the plans of the databases of questions and of templates, over the layers in `used`, and the
-/// word for the least priority of a question that is shown (debconf.conf(5), `Priority`).
+/// words for the frontend and for the least priority of a question that is shown (debconf.conf(5), `Frontend`, `Priority`).
 #[derive(Drop)]
 pub struct Roots {
     pub config: Plan,
     pub templates: Plan,
+    pub frontend: Option<Text>,
     pub priority: Option<Text>,
 }
 
@@ -53,6 +57,10 @@ pub fn start<F: Files>(
         // No root is unknown, as a configuration with such a one is refused.
         Err(_) => return Err(End::OutOfMemory),
     };
+    let frontend = match copied(conf.frontend()) {
+        Ok(frontend) => frontend,
+        Err(_) => return Err(End::OutOfMemory),
+    };
     let priority = match copied(conf.priority()) {
         Ok(priority) => priority,
         Err(_) => return Err(End::OutOfMemory),
@@ -63,7 +71,7 @@ pub fn start<F: Files>(
         Err(refused) => return Err(end_of_patterns(refused)),
     }
     match load_used(alloc, files, specs.as_slice(), &mut shelf.used) {
-        Ok(()) => Ok(roots_of(plans, priority)),
+        Ok(()) => Ok(roots_of(plans, frontend, priority)),
         Err(error) => Err(end_of_load(error)),
     }
 }
@@ -83,10 +91,11 @@ fn load_used<F: Files>(
     load_all(alloc, files, specs, used.as_mut_slice())
 }
 
-// The two plans of the roots, and the word for the priority.
-fn roots_of(plans: List<Plan>, priority: Option<Text>) -> Roots
+// The two plans of the roots, and the words for the frontend and the priority.
+fn roots_of(plans: List<Plan>, frontend: Option<Text>, priority: Option<Text>) -> Roots
     requires { length plans ≡ 2 }
     ensures plans { plans ≡ result.config ∷ result.templates ∷ [] }
+    ensures frontend { result.frontend ≡ frontend }
     ensures priority { result.priority ≡ priority }
 {
     let mut left = plans;
@@ -94,6 +103,7 @@ fn roots_of(plans: List<Plan>, priority: Option<Text>) -> Roots
         (Some(templates), Some(config)) => Roots {
             config,
             templates,
+            frontend,
             priority,
         },
         _ => unreachable!(),
@@ -116,6 +126,36 @@ pub fn chosen(settings: &Settings, roots: &Roots) -> Option<Priority>
     match priority_in(&settings.priority) {
         Some(priority) => Some(priority),
         None => priority_in(&roots.priority),
+    }
+}
+
+/// The first of the two priorities that is there.
+pub fn first_of(first: Option<Priority>, second: Option<Priority>) -> Option<Priority>
+    ensures { result ≡ option_or first second }
+{
+    first.or(second)
+}
+
+/// What asks the user, where it is chosen: by the words of a tool, else by the setting's and the configuration's (debconf(7)).
+pub fn chosen_frontend(
+    given: Option<Frontend>,
+    settings: &Settings,
+    roots: &Roots,
+) -> Option<Frontend>
+    ensures { result ≡ option_or given (option_or (option_and_then frontend_of settings.now.frontend) (option_and_then frontend_of roots.now.frontend)) }
+{
+    given
+        .or(frontend_in(&settings.frontend))
+        .or(frontend_in(&roots.frontend))
+}
+
+// The frontend that the word names, where there is one.
+fn frontend_in(word: &Option<Text>) -> Option<Frontend>
+    ensures { result ≡ option_and_then frontend_of word.now }
+{
+    match word {
+        None => None,
+        Some(word) => Frontend::read(word.bytes()),
     }
 }
 

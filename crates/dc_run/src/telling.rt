@@ -87,6 +87,8 @@ pub fn tell_end<E: Link>(err: &mut E, end: &End)
             say(err, b": read or write failed\n")
         }
         End::LinkFault => say(err, b"dckit: link failed\n"),
+        End::TermFault => say(err, b"dckit: terminal failed\n"),
+        End::ChildFault => say(err, b"dckit: child failed\n"),
         End::TooLong => say(err, b"dckit: input too long\n"),
     }
 }

@@ -1,5 +1,5 @@
 -- What becomes of a command, from what the call on questions answered and what is said of it.
-use Rattle.std.proofs.Common.{◌≡◌, ℕ, List, [], refl, sym, ap, subst, ◌∙◌, inl, inr}
+use Rattle.std.proofs.Common.{◌≡◌, ℕ, List, [], refl, sym, ap, subst, ◌∙◌, inr}
 use Rattle.std.specs.Prelude.{Result, Ok, Err, IfOk}
 use Rattle.dc_text.specs.declared.memory.OutOfMemory.{OutOfMemory}
 use Rattle.dc_proto.specs.declared.command.Command.{Command}
@@ -11,14 +11,13 @@ use Rattle.dc_question.specs.Changes.{Does as DoesChange}
 use Rattle.dc_question.specs.Questions.{Answers}
 use Rattle.dc_question.specs.declared.errors.QuestionError.{QuestionError}
 use Rattle.dc_question.specs.declared.errors.QuestionError.TheVariants as error
-use Rattle.dc_session.specs.SessionState.{FilesState, SessionState}
-use Rattle.dc_session.specs.Answers.{Outcome, answer, names_on, does, says}
-use Rattle.dc_session.specs.Inside.{TellsRefusal, Tells, Comes}
+use Rattle.dc_session.specs.SessionState.{FilesState, TerminalState, SessionState}
+use Rattle.dc_session.specs.Answers.{Given, Outcome, answer, names_on, does, says}
+use Rattle.dc_session.specs.Inside.{TellsRefusal, Tells, Comes, ComesAsking}
 use Rattle.dc_session.specs.Machine.{Gives, Does}
 use Rattle.dc_session.specs.Refusals.{refusal, no_template}
 use Rattle.dc_session.specs.declared.stepped.Stepped.{Stepped}
 use Rattle.dc_session.specs.declared.stepped.Stepped.TheVariants.{Replied}
-use Rattle.dc_session.specs.declared.template_files.Found.{Found}
 
 -- ---- what is said of a refusal
 
@@ -67,25 +66,40 @@ module _ (names : List (List ℕ)) (old : SessionState) where
 
 -- ---- what the call of the session did
 
--- what was found, then what the command came to
-pub comes_does : (command : Command) (found : Found) (old new : SessionState) (files : FilesState) (outcome : Outcome) (names : List (List ℕ)) (result : Result Stepped OutOfMemory)
-    → Gives command old.files found files → outcome ≡ answer old command found → names ≡ names_on old command found
-    → Comes outcome names (record old { files = files }) new result → Does command old new result
-comes_does command found old new files outcome names (Ok did) gives alike same comes =
+-- what it was given, then what the command came to
+pub asking_does : (command : Command) (given : Given) (old new : SessionState) (files : FilesState) (terminal : TerminalState) (outcome : Outcome) (names : List (List ℕ)) (result : Result Stepped OutOfMemory)
+    → Gives command old given files terminal → outcome ≡ answer old command given → names ≡ names_on old command given
+    → ComesAsking outcome names (record old { files = files; terminal = terminal }) new result → Does command old new result
+asking_does command given old new files terminal outcome names (Ok did) gives alike same comes =
     let kept : files ≡ new.files = ap (λ (s : SessionState). s.files) (sym comes.1) in
+    let left : terminal ≡ new.terminal = ap (λ (s : SessionState). s.terminal) (sym comes.1) in
     record {
-      found = found;
-      gives = subst (Gives command old.files found) kept gives;
+      given = given;
+      gives = subst (λ (f : FilesState). Gives command old given f new.terminal) kept (subst (λ (t : TerminalState). Gives command old given files t) left gives);
       stepped_is = comes.0 ∙ ap (λ (o : Outcome). o.stepped) alike;
-      new_is = comes.1 ∙ (λ i. record old { store = (alike i).store; files = kept i; asking = (alike i).asking });
+      new_is = comes.1 ∙ (λ i. record old { store = (alike i).store; files = kept i; terminal = left i; asking = (alike i).asking });
     }
-comes_does command found old new files outcome names (Err memory) gives alike same comes =
+asking_does command given old new files terminal outcome names (Err memory) gives alike same comes =
     let kept : files ≡ new.files = ap (λ (s : SessionState). s.files) (sym comes.1) in
+    let left : terminal ≡ new.terminal = ap (λ (s : SessionState). s.terminal) (sym comes.1) in
     inr record {
-      found = found;
-      gives = inl (subst (Gives command old.files found) kept gives);
-      others = subst (λ (ns : List (List ℕ)). AreSameButAll ns old.store.layers new.store.layers) same comes.0;
+      part = inr record {
+        given = given;
+        gives = subst (λ (f : FilesState). Gives command old given f new.terminal) kept (subst (λ (t : TerminalState). Gives command old given files t) left gives);
+        others = subst (λ (ns : List (List ℕ)). AreSameButAll ns old.store.layers new.store.layers) same comes.0;
+      };
       at = ap (λ (s : SessionState). s.at) comes.1;
       owner = ap (λ (s : SessionState). s.owner) comes.1;
       manner = ap (λ (s : SessionState). s.manner) comes.1;
     }
+
+-- where memory ran out, no more is asked for
+pub comes_asking : (outcome : Outcome) (names : List (List ℕ)) (old new : SessionState) (result : Result Stepped OutOfMemory) → Comes outcome names old new result → ComesAsking outcome names old new result
+comes_asking outcome names old new (Ok did) comes = comes
+comes_asking outcome names old new (Err memory) comes = (comes.0, comes.1 ∙ (λ i. record old { store = new.store; asking = sym (ap (λ (s : SessionState). s.asking) comes.1) i }))
+
+pub comes_does : (command : Command) (given : Given) (old new : SessionState) (files : FilesState) (terminal : TerminalState) (outcome : Outcome) (names : List (List ℕ)) (result : Result Stepped OutOfMemory)
+    → Gives command old given files terminal → outcome ≡ answer old command given → names ≡ names_on old command given
+    → Comes outcome names (record old { files = files; terminal = terminal }) new result → Does command old new result
+comes_does command given old new files terminal outcome names result gives alike same comes =
+    asking_does command given old new files terminal outcome names result gives alike same (comes_asking outcome names (record old { files = files; terminal = terminal }) new result comes)

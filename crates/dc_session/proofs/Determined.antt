@@ -1,6 +1,6 @@
 -- Where the files tell of the disk and of their calls, a session is a function of its state, a line and the files that are left.
 use Rattle.std.proofs.Common.{◌≡◌, ℕ, Bool, true, false, List, [], ◌∷◌, ◌++◌, Option, None, Some, refl, ap, sym, subst, ◌∙◌}
-use Rattle.std.specs.Prelude.{IfSome, map as each}
+use Rattle.std.specs.Prelude.{IfSome, Result, Ok, map as each}
 use Rattle.std.specs.List.{list_any}
 use Rattle.std.proofs.lemmas.List.{append_cancel_left}
 use Rattle.dc_words.specs.declared.stream.Line.{Line}
@@ -11,6 +11,9 @@ use Rattle.dc_outside.specs.Told.{Told}
 use Rattle.dc_outside.specs.declared.files.FilesCall.{FilesCall}
 use Rattle.dc_outside.specs.declared.files.FilesOp.TheVariants.{Read}
 use Rattle.dc_proto.specs.Commands.{heard}
+use Rattle.dc_outside.specs.declared.link.LinkError.{LinkError}
+use Rattle.dc_teletype.specs.declared.teletype.Asked.{Asked}
+use Rattle.dc_teletype.specs.declared.teletype.Asked.TheVariants.{Answers}
 use Rattle.dc_proto.specs.declared.command.Command.{Command}
 use Rattle.dc_proto.specs.declared.command.Heard.{Heard}
 use Rattle.dc_proto.specs.declared.command.Heard.TheVariants.{Nothing, Known, Refused}
@@ -19,13 +22,15 @@ use Rattle.dc_serve.specs.Course.{Turn, lines_of, IsCourse}
 use Rattle.dc_template.specs.Reading.{Reads, IsBad}
 use Rattle.dc_template.specs.Stanzas.{Stanza}
 use Rattle.dc_template.proofs.FaultLaws.{one_fault, not_both}
-use Rattle.dc_session.specs.Answers.{answer, after_command}
-use Rattle.dc_session.specs.Machine.{Heeds, Steps, StepsHeard, HasDone, Gives, Looks, file_of, sent_in}
-use Rattle.dc_session.specs.SessionState.{FilesState, SessionState}
+use Rattle.dc_session.specs.Answers.{Given, answer, after_command}
+use Rattle.dc_session.specs.Displays.{Display, Blank, displayed, Shows}
+use Rattle.dc_session.specs.Machine.{Heeds, Steps, StepsHeard, HasDone, Looks, file_of, sent_in}
+use Rattle.dc_session.specs.SessionState.{FilesState, TerminalState, SessionState}
 use Rattle.dc_session.specs.TemplateFiles.{Finds, HasRead}
 use Rattle.dc_session.specs.declared.stepped.Stepped.{Stepped}
 use Rattle.dc_session.specs.declared.template_files.Found.{Found}
 use Rattle.dc_session.specs.declared.template_files.Found.TheVariants.{Unreadable, Missing, Faulty, Templates}
+use Rattle.dc_session.proofs.TerminalLaws.{AsksNobody, displays_none, steps_nobody}
 
 same_some : {A : Type 0} (a b : A) → Some a ≡ Some b → a ≡ b
 same_some a b is = cc
@@ -36,6 +41,9 @@ not_none a is = cc
 -- the disk and the calls are told
 abbrev IsTold : Disk → Told → Type 0
 IsTold disk told = (calls : List FilesCall) × (told ≡ record { disk = Some disk; calls = Some calls })
+
+same_ok : (a b : Asked) → ◌≡◌ {A = Result Asked LinkError} (Ok a) (Ok b) → a ≡ b
+same_ok a b is = cc
 
 apart : (path : List ℕ) → ◌≡◌ {A = List FilesCall} (record { op = Read; path = path; ok = false } ∷ []) (record { op = Read; path = path; ok = true } ∷ []) → ⊥
 apart path is = let same : false ≡ true = ap (λ (calls : List FilesCall). list_any (λ c. c.ok) calls) is in cc
@@ -106,13 +114,24 @@ module _ (disk : Disk) (old new : FilesState) (told : IsTold disk old.told) wher
 
 -- ---- one line
 
-module _ (disk : Disk) (old : SessionState) (told : IsTold disk old.files.told) (one other : Stepped) (new left : SessionState) (files : new.files ≡ left.files) where
+module _ (disk : Disk) (old : SessionState) (nobody : AsksNobody old) (told : IsTold disk old.files.told) (one other : Stepped) (new left : SessionState) (files : new.files ≡ left.files) where
+  -- nothing is shown, and nothing answered
+  blank_given : (display : Display) (asked : Asked) (terminal : TerminalState) → display ≡ Blank → Shows old.asking display old.terminal (Ok asked) terminal → (asked ≡ Answers []) × (terminal ≡ old.terminal)
+  blank_given display asked terminal blank shows =
+      let still : Shows old.asking Blank old.terminal (Ok asked) terminal = subst (λ (d : Display). Shows old.asking d old.terminal (Ok asked) terminal) blank shows in
+      (same_ok asked (Answers []) still.0, still.1)
+
   done_once : (command : Command) → HasDone command old one new → HasDone command old other left → (one ≡ other) × (new ≡ left)
   done_once command first second =
-      let same : first.found ≡ second.found
-      = one_looked disk old.files left.files told (file_of command) first.found second.found (subst (λ (f : FilesState). Gives command old.files first.found f) files first.gives) second.gives in (
-        first.stepped_is ∙ ap (λ (f : Found). (answer old command f).stepped) same ∙ sym second.stepped_is,
-        first.new_is ∙ (λ i. after_command old command (same i) (files i)) ∙ sym second.new_is,
+      let found : first.given.found ≡ second.given.found
+      = one_looked disk old.files left.files told (file_of command) first.given.found second.given.found (subst (λ (f : FilesState). Looks (file_of command) old.files first.given.found f) files first.gives.looks) second.gives.looks in
+      let unseen = displays_none old nobody command in
+      let one_shown = blank_given (displayed old command) first.given.asked new.terminal unseen first.gives.shows in
+      let other_shown = blank_given (displayed old command) second.given.asked left.terminal unseen second.gives.shows in
+      let same : first.given ≡ second.given = (λ i. record { found = found i; asked = (one_shown.0 ∙ sym other_shown.0) i }) in
+      let terminal : new.terminal ≡ left.terminal = one_shown.1 ∙ sym other_shown.1 in (
+        first.stepped_is ∙ ap (λ (g : Given). (answer old command g).stepped) same ∙ sym second.stepped_is,
+        first.new_is ∙ (λ i. after_command old command (same i) (files i) (terminal i)) ∙ sym second.new_is,
       )
 
   heard_once : (said : Heard) → StepsHeard said old one new → StepsHeard said old other left → (one ≡ other) × (new ≡ left)
@@ -124,10 +143,10 @@ module _ (disk : Disk) (old : SessionState) (told : IsTold disk old.files.told) 
   steps_once TooLong first second = (first.0 ∙ sym second.0, first.1 ∙ sym second.1)
   steps_once (Whole line) first second = heard_once (heard old.asking.escape line) first second
 
-heeds_once : (disk : Disk) (old : SessionState) → IsTold disk old.files.told → (did other : Heeded) (new left : SessionState) → new.files ≡ left.files → (line : Line)
+heeds_once : (disk : Disk) (old : SessionState) → AsksNobody old → IsTold disk old.files.told → (did other : Heeded) (new left : SessionState) → new.files ≡ left.files → (line : Line)
     → Heeds old line did new → Heeds old line other left → (did ≡ other) × (new ≡ left)
-heeds_once disk old told did other new left files line first second =
-    let same = steps_once disk old told first.stepped second.stepped new left files line first.steps second.steps in
+heeds_once disk old nobody told did other new left files line first second =
+    let same = steps_once disk old nobody told first.stepped second.stepped new left files line first.steps second.steps in
     (first.did_is ∙ ap (sent_in old.asking.escape) same.0 ∙ sym second.did_is, same.1)
 
 module _ (disk : Disk) (old : SessionState) (told : IsTold disk old.files.told) (did : Stepped) (new : SessionState) where
@@ -136,7 +155,7 @@ module _ (disk : Disk) (old : SessionState) (told : IsTold disk old.files.told) 
 
   heard_told : (said : Heard) → StepsHeard said old did new → IsTold disk new.files.told
   heard_told Nothing steps = state_told steps.1
-  heard_told (Known command) steps = looks_told disk old.files new.files told (file_of command) steps.found steps.gives
+  heard_told (Known command) steps = looks_told disk old.files new.files told (file_of command) steps.given.found steps.gives.looks
   heard_told (Refused reply) steps = state_told steps.1
 
   steps_told : (line : Line) → Steps old line did new → IsTold disk new.files.told
@@ -151,21 +170,21 @@ heeds_told disk old told did new line heeds = steps_told disk old told heeds.ste
 abbrev files_left : List (Turn SessionState) → List FilesState
 files_left turns = each (λ turn. turn.new.files) turns
 
-courses : (disk : Disk) (start : SessionState) (a b : List (Turn SessionState)) → IsTold disk start.files.told → IsCourse Heeds start a → IsCourse Heeds start b
+courses : (disk : Disk) (start : SessionState) (a b : List (Turn SessionState)) → AsksNobody start → IsTold disk start.files.told → IsCourse Heeds start a → IsCourse Heeds start b
     → lines_of a ≡ lines_of b → files_left a ≡ files_left b → a ≡ b
-courses disk start [] [] told first second lines files = refl
-courses disk start [] (turn ∷ b) told first second lines files = cc
-courses disk start (turn ∷ a) [] told first second lines files = cc
-courses disk start (one ∷ a) (other ∷ b) told first second lines files =
+courses disk start [] [] nobody told first second lines files = refl
+courses disk start [] (turn ∷ b) nobody told first second lines files = cc
+courses disk start (turn ∷ a) [] nobody told first second lines files = cc
+courses disk start (one ∷ a) (other ∷ b) nobody told first second lines files =
     let line : one.line ≡ other.line = cc in
     let rest : lines_of a ≡ lines_of b = cc in
     let left : one.new.files ≡ other.new.files = cc in
     let later_files : files_left a ≡ files_left b = cc in
-    let here = heeds_once disk start told one.did other.did one.new other.new left other.line (subst (λ (l : Line). Heeds start l one.did one.new) line first.0) second.0 in
+    let here = heeds_once disk start nobody told one.did other.did one.new other.new left other.line (subst (λ (l : Line). Heeds start l one.did one.new) line first.0) second.0 in
     let later : a ≡ b
-    = courses disk one.new a b (heeds_told disk start told one.did one.new one.line first.0) first.2 (subst (λ (s : SessionState). IsCourse Heeds s b) (sym here.1) second.2) rest later_files in
+    = courses disk one.new a b (steps_nobody one.line start one.new first.0.stepped nobody first.0.steps) (heeds_told disk start told one.did one.new one.line first.0) first.2 (subst (λ (s : SessionState). IsCourse Heeds s b) (sym here.1) second.2) rest later_files in
     λ i. record { line = line i; did = here.0 i; new = here.1 i } ∷ later i
 
-pub determined : (disk : Disk) (start : SessionState) (calls : List FilesCall) (a b : List (Turn SessionState)) → start.files.told ≡ record { disk = Some disk; calls = Some calls }
+pub determined : (disk : Disk) (start : SessionState) (calls : List FilesCall) (a b : List (Turn SessionState)) → start.files.told ≡ record { disk = Some disk; calls = Some calls } → AsksNobody start
     → IsCourse Heeds start a → IsCourse Heeds start b → lines_of a ≡ lines_of b → files_left a ≡ files_left b → a ≡ b
-determined disk start calls a b told = courses disk start a b (calls, told)
+determined disk start calls a b told nobody = courses disk start a b nobody (calls, told)

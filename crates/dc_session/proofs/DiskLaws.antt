@@ -1,7 +1,6 @@
 -- A session only reads files.
 use Rattle.std.proofs.Common.{◌≡◌, List, [], ◌∷◌, refl, ap, ◌∙◌, inl, inr}
 use Rattle.std.specs.Prelude.{ℕ, Option, Some, None}
-use Rattle.dc_text.specs.declared.memory.OutOfMemory.{OutOfMemory}
 use Rattle.dc_words.specs.declared.stream.Line.{Line}
 use Rattle.dc_words.specs.declared.stream.Line.TheVariants.{Whole, TooLong}
 use Rattle.dc_outside.specs.Told.{Told}
@@ -11,9 +10,11 @@ use Rattle.dc_proto.specs.declared.command.Heard.{Heard}
 use Rattle.dc_proto.specs.declared.command.Heard.TheVariants.{Nothing, Known, Refused}
 use Rattle.dc_serve.specs.declared.heeds.Heeded.{Heeded}
 use Rattle.dc_serve.specs.Course.{Turn, state_after, IsCourse}
-use Rattle.dc_session.specs.Machine.{Heeds, Steps, StepsHeard, Breaks, BreaksHeard, IsDoneInPart, Looks, LooksInVain, file_of}
+use Rattle.dc_session.specs.Machine.{Heeds, Steps, StepsHeard, Breaks, BreaksHeard, BreaksIdle, BreaksOff, GivesInPart, IsDoneInPart, Looks, LooksInVain, file_of}
 use Rattle.dc_session.specs.SessionState.{FilesState, SessionState}
 use Rattle.dc_session.specs.TemplateFiles.{Finds, FindsNoMemory}
+use Rattle.dc_session.specs.declared.stepped.StepError.{StepError}
+use Rattle.dc_session.specs.declared.stepped.StepError.TheVariants as step
 use Rattle.dc_session.specs.declared.stepped.Stepped.{Stepped}
 use Rattle.dc_session.specs.declared.template_files.Found.{Found}
 use Rattle.dc_session.specs.declared.template_files.Found.TheVariants.{Unreadable, Missing, Faulty, Templates}
@@ -48,7 +49,7 @@ state_keeps old new same = ap (λ (s : SessionState). s.files.told.disk) same
 
 heard_keeps : (said : Heard) (old new : SessionState) (did : Stepped) → StepsHeard said old did new → KeepsDisk old.files new.files
 heard_keeps Nothing old new did steps = state_keeps old new steps.1
-heard_keeps (Known command) old new did steps = looks_keep (file_of command) old.files new.files steps.found steps.gives
+heard_keeps (Known command) old new did steps = looks_keep (file_of command) old.files new.files steps.given.found steps.gives.looks
 heard_keeps (Refused reply) old new did steps = state_keeps old new steps.1
 
 steps_keep : (old new : SessionState) (line : Line) (did : Stepped) → Steps old line did new → KeepsDisk old.files new.files
@@ -59,22 +60,36 @@ steps_keep old new (Whole line) did steps = heard_keeps (heard old.asking.escape
 pub heeds_reads : (old new : SessionState) (line : Line) (did : Heeded) → Heeds old line did new → KeepsDisk old.files new.files
 heeds_reads old new line did heeds = steps_keep old new line heeds.stepped heeds.steps
 
-part_keeps : (command : Command) (old new : SessionState) → IsDoneInPart command old new → KeepsDisk old.files new.files
-part_keeps command old new part = elim part.gives [
-  | inl gives ↦ looks_keep (file_of command) old.files new.files part.found gives
-  | inr none ↦ vain_keeps (file_of command) old.files new.files none
+given_part_keeps : (command : Command) (old new : SessionState) → GivesInPart command old new → KeepsDisk old.files new.files
+given_part_keeps command old new part = elim part.gives [
+  | inl vain ↦ vain_keeps (file_of command) old.files new.files vain.0
+  | inr shown ↦ same_files old.files new.files shown.1
 ]
 
-heard_breaks : (said : Heard) (old new : SessionState) → BreaksHeard said old new → KeepsDisk old.files new.files
-heard_breaks Nothing old new same = state_keeps old new same
-heard_breaks (Known command) old new (inl same) = state_keeps old new same
-heard_breaks (Known command) old new (inr part) = part_keeps command old new part
-heard_breaks (Refused reply) old new same = state_keeps old new same
+part_keeps : (command : Command) (old new : SessionState) → IsDoneInPart command old new → KeepsDisk old.files new.files
+part_keeps command old new done = elim done.part [
+  | inl given ↦ given_part_keeps command old new given
+  | inr left ↦ looks_keep (file_of command) old.files new.files left.given.found left.gives.looks
+]
 
--- and so does one at which memory ran out
-pub breaks_reads : (old new : SessionState) (line : Line) (error : OutOfMemory) → Breaks old line error new → KeepsDisk old.files new.files
-breaks_reads old new TooLong error same = state_keeps old new same
-breaks_reads old new (Whole line) error breaks = heard_breaks (heard old.asking.escape line) old new breaks
+idle_keeps : (old new : SessionState) (error : StepError) → BreaksIdle old error new → KeepsDisk old.files new.files
+idle_keeps old new step.OutOfMemory same = state_keeps old new same
+idle_keeps old new step.Term none = absurd none
+
+off_keeps : (command : Command) (old new : SessionState) (error : StepError) → BreaksOff command old error new → KeepsDisk old.files new.files
+off_keeps command old new step.OutOfMemory (inl same) = state_keeps old new same
+off_keeps command old new step.OutOfMemory (inr part) = part_keeps command old new part
+off_keeps command old new step.Term fails = ap (λ (s : SessionState). s.files.told.disk) fails.new_is
+
+heard_breaks : (said : Heard) (old new : SessionState) (error : StepError) → BreaksHeard said old error new → KeepsDisk old.files new.files
+heard_breaks Nothing old new error idle = idle_keeps old new error idle
+heard_breaks (Known command) old new error off = off_keeps command old new error off
+heard_breaks (Refused reply) old new error idle = idle_keeps old new error idle
+
+-- and so does one that came to nothing
+pub breaks_reads : (old new : SessionState) (line : Line) (error : StepError) → Breaks old line error new → KeepsDisk old.files new.files
+breaks_reads old new TooLong error idle = idle_keeps old new error idle
+breaks_reads old new (Whole line) error breaks = heard_breaks (heard old.asking.escape line) old new error breaks
 
 pub course_reads : (start : SessionState) (turns : List (Turn SessionState)) → IsCourse Heeds start turns → KeepsDisk start.files (state_after start turns).files
 course_reads start [] course = refl

@@ -6,17 +6,22 @@ use Rattle.dc_outside.specs.Counts.{FaultRose}
 use Rattle.dc_outside.specs.Told.{Counts}
 use Rattle.dc_proto.specs.declared.command.Command.{Command}
 use Rattle.dc_proto.specs.declared.command.Command.TheVariants.{Version, Capb, SetTitle, Title, Input, BeginBlock, EndBlock, Go, Clear, Stop, Get, Set, Reset, Subst, Fget, Fset, Metaget, Register, Unregister, Purge, ProgressStart, ProgressSet, ProgressStep, ProgressInfo, ProgressStop, LoadTemplateFile}
+use Rattle.dc_frontend.specs.declared.frontend.Frontend.{Frontend}
+use Rattle.dc_frontend.specs.declared.frontend.Frontend.TheVariants.{Noninteractive, Teletype}
 use Rattle.dc_proto.specs.declared.reply.Reply.{Reply}
 use Rattle.dc_proto.specs.Replies.{reply}
+use Rattle.dc_question.specs.Changes.{values_set}
 use Rattle.dc_question.specs.Ownership.{unregistered, purged}
 use Rattle.dc_question.specs.declared.errors.QuestionError.{QuestionError}
 use Rattle.dc_question.specs.declared.errors.QuestionError.TheVariants as error
 use Rattle.dc_store.specs.Plans.{StoreState, owned}
-use Rattle.dc_session.specs.Asking.{description, is_to_be_shown, prepared_if, first_busy, bar_at}
-use Rattle.dc_session.specs.Answers.{Outcome, says, does, by, on, there, asks, titled, with_bar, unless_busy, gone, tells, told_code, is_supported, is_truth, answer}
-use Rattle.dc_session.specs.Machine.{Gives, HasDone}
-use Rattle.dc_session.specs.Refusals.{refusal, is_busy, no_progress_bar}
-use Rattle.dc_session.specs.SessionState.{FilesState, SessionState}
+use Rattle.dc_teletype.specs.declared.teletype.Asked.{Asked}
+use Rattle.dc_teletype.specs.declared.teletype.Asked.TheVariants.{Answers, Back}
+use Rattle.dc_session.specs.Asking.{description, is_to_be_shown, prepared_if, choices_for, first_fixed, to_show, values_given, first_busy, bar_at}
+use Rattle.dc_session.specs.Answers.{Given, Outcome, says, does, by, on, there, asks, titled, with_bar, unless_busy, gone, input_reply, answered, heard_out, going, tells, told_code, is_supported, is_truth, answer}
+use Rattle.dc_session.specs.Machine.{Gives, Looks, HasDone}
+use Rattle.dc_session.specs.Refusals.{refusal, cant_change, is_busy, no_progress_bar}
+use Rattle.dc_session.specs.SessionState.{FilesState, TerminalState, SessionState}
 use Rattle.dc_session.specs.declared.asking.Bar.{Bar}
 use Rattle.dc_session.specs.declared.stepped.Stepped.{Stepped}
 use Rattle.dc_session.specs.declared.stepped.Stepped.TheVariants.{Silent, Replied, Stopped}
@@ -81,53 +86,74 @@ text_sound : (escape : Bool) → IsSoundCode (told_code escape)
 text_sound true = one
 text_sound false = zero
 
-fset_sound : (state : SessionState) (word key text : List ℕ) (found : Found) (b : Bool) → is_truth text ≡ b → IsSound (answer state (Fset word key text) found).stepped
-fset_sound state word key text found true is = rw is (does_sound state _ _ zero)
-fset_sound state word key text found false is = rw is (says_sound state [] _ _ (λ a. ten))
+fset_sound : (state : SessionState) (word key text : List ℕ) (given : Given) (b : Bool) → is_truth text ≡ b → IsSound (answer state (Fset word key text) given).stepped
+fset_sound state word key text given true is = rw is (does_sound state _ _ zero)
+fset_sound state word key text given false is = rw is (says_sound state [] _ _ (λ a. ten))
 
-version_sound : (state : SessionState) (version : Option (List ℕ)) (found : Found) (b : Bool) → is_supported version ≡ b → IsSound (answer state (Version version) found).stepped
-version_sound state version found true is = rw is zero
-version_sound state version found false is = rw is thirty
+version_sound : (state : SessionState) (version : Option (List ℕ)) (given : Given) (b : Bool) → is_supported version ≡ b → IsSound (answer state (Version version) given).stepped
+version_sound state version given true is = rw is zero
+version_sound state version given false is = rw is thirty
 
 -- a fault is told and counted, or neither
 abbrev IsToldAsCounted : Stepped → Counts → Counts → Type 0
 IsToldAsCounted did before now = ((reply : Reply) × (did ≡ Replied reply) × (reply.code ≡ 100) × FaultRose before now) ⊎ (IsSound did × (now ≡ before))
 
-file_told : (state : SessionState) (path : List ℕ) (owner : Option (List ℕ)) (found : Found) (new : FilesState) → Gives (LoadTemplateFile path owner) state.files found new
-    → IsToldAsCounted (answer state (LoadTemplateFile path owner) found).stepped state.files.counts new.counts
-file_told state path owner Unreadable new gives = inl (_, refl, refl, gives.1)
-file_told state path owner Missing new gives = inr (ten, gives.counts)
-file_told state path owner (Faulty line) new gives = inr (ten, gives.2.counts)
-file_told state path owner (Templates templates) new gives = inr (does_sound state _ _ zero, gives.1.counts)
+file_told : (state : SessionState) (path : List ℕ) (owner : Option (List ℕ)) (found : Found) (asked : Asked) (new : FilesState) → Looks (Some path) state.files found new
+    → IsToldAsCounted (answer state (LoadTemplateFile path owner) (record { found = found; asked = asked })).stepped state.files.counts new.counts
+file_told state path owner Unreadable asked new looks = inl (_, refl, refl, looks.1)
+file_told state path owner Missing asked new looks = inr (ten, looks.counts)
+file_told state path owner (Faulty line) asked new looks = inr (ten, looks.2.counts)
+file_told state path owner (Templates templates) asked new looks = inr (does_sound state _ _ zero, looks.1.counts)
 
-told_as_counted : (state : SessionState) (command : Command) (found : Found) (new : FilesState) → Gives command state.files found new
-    → IsToldAsCounted (answer state command found).stepped state.files.counts new.counts
-told_as_counted state (LoadTemplateFile path owner) found new gives = file_told state path owner found new gives
-told_as_counted state (Version version) found new gives = inr (version_sound state version found (is_supported version) refl, ap (λ (f : FilesState). f.counts) gives.1)
-told_as_counted state (Capb words) found new gives = inr (zero, ap (λ (f : FilesState). f.counts) gives.1)
-told_as_counted state (SetTitle word) found new gives = inr (by_sound {A = List ℕ} state (λ text. asks state (reply 0 []) (titled state.asking text)) (on word (description state.store.layers state.at)) (λ text. zero), ap (λ (f : FilesState). f.counts) gives.1)
-told_as_counted state (Title text) found new gives = inr (zero, ap (λ (f : FilesState). f.counts) gives.1)
-told_as_counted state (Input priority word) found new gives = inr (by_sound {A = Bool} state (λ shown. asks state (reply 30 (codes "question skipped")) (prepared_if shown state.asking word)) (on word (is_to_be_shown state priority)) (λ shown. thirty), ap (λ (f : FilesState). f.counts) gives.1)
-told_as_counted state BeginBlock found new gives = inr (zero, ap (λ (f : FilesState). f.counts) gives.1)
-told_as_counted state EndBlock found new gives = inr (zero, ap (λ (f : FilesState). f.counts) gives.1)
-told_as_counted state Go found new gives = inr (gone_sound state _, ap (λ (f : FilesState). f.counts) gives.1)
-told_as_counted state Clear found new gives = inr (zero, ap (λ (f : FilesState). f.counts) gives.1)
-told_as_counted state Stop found new gives = inr (tt, ap (λ (f : FilesState). f.counts) gives.1)
-told_as_counted state (Get word) found new gives = inr (says_sound state [] _ _ (λ a. text_sound state.asking.escape), ap (λ (f : FilesState). f.counts) gives.1)
-told_as_counted state (Set word text) found new gives = inr (does_sound state _ _ zero, ap (λ (f : FilesState). f.counts) gives.1)
-told_as_counted state (Reset word) found new gives = inr (does_sound state _ _ zero, ap (λ (f : FilesState). f.counts) gives.1)
-told_as_counted state (Subst word key text) found new gives = inr (does_sound state _ _ zero, ap (λ (f : FilesState). f.counts) gives.1)
-told_as_counted state (Fget word key) found new gives = inr (says_sound state [] _ _ (λ a. zero), ap (λ (f : FilesState). f.counts) gives.1)
-told_as_counted state (Fset word key text) found new gives = inr (fset_sound state word key text found (is_truth text) refl, ap (λ (f : FilesState). f.counts) gives.1)
-told_as_counted state (Metaget word field) found new gives = inr (says_sound state field _ _ (λ a. text_sound state.asking.escape), ap (λ (f : FilesState). f.counts) gives.1)
-told_as_counted state (Register template name) found new gives = inr (does_sound state _ _ zero, ap (λ (f : FilesState). f.counts) gives.1)
-told_as_counted state (Unregister word) found new gives = inr (by_sound {A = List ℕ} state (λ name. unless_busy state (name ∷ []) (does state (reply 0 []) (unregistered state.store state.at name state.owner))) (on word (there state)) (λ name. busy_sound state (first_busy state.asking (name ∷ [])) (does state (reply 0 []) (unregistered state.store state.at name state.owner)) (does_sound state (reply 0 []) (unregistered state.store state.at name state.owner) zero)), ap (λ (f : FilesState). f.counts) gives.1)
-told_as_counted state Purge found new gives = inr (busy_sound state (first_busy state.asking (owned state.store.layers state.at.config state.owner)) (does state (reply 0 []) (purged state.store state.at state.owner)) (does_sound state (reply 0 []) (purged state.store state.at state.owner) zero), ap (λ (f : FilesState). f.counts) gives.1)
-told_as_counted state (ProgressStart low high word) found new gives = inr (by_sound {A = List ℕ} state (λ name. asks state (reply 0 (codes "OK")) (with_bar state.asking (Some (record { min = low; max = high; place = low })))) (on word (there state)) (λ name. zero), ap (λ (f : FilesState). f.counts) gives.1)
-told_as_counted state (ProgressSet number) found new gives = inr (bar_sound state.asking.bar (λ bar. asks state (reply 0 (codes "OK")) (with_bar state.asking (Some (bar_at bar number)))) (tells state no_progress_bar) (λ bar. zero) ten, ap (λ (f : FilesState). f.counts) gives.1)
-told_as_counted state (ProgressStep number) found new gives = inr (bar_sound state.asking.bar (λ bar. asks state (reply 0 (codes "OK")) (with_bar state.asking (Some (bar_at bar (bar.place + number))))) (tells state no_progress_bar) (λ bar. zero) ten, ap (λ (f : FilesState). f.counts) gives.1)
-told_as_counted state (ProgressInfo word) found new gives = inr (bar_sound state.asking.bar (λ bar. by {A = List ℕ} state (λ name. tells state (reply 0 (codes "OK"))) (on word (there state))) (tells state no_progress_bar) (λ bar. by_sound {A = List ℕ} state (λ name. tells state (reply 0 (codes "OK"))) (on word (there state)) (λ name. zero)) ten, ap (λ (f : FilesState). f.counts) gives.1)
-told_as_counted state ProgressStop found new gives = inr (bar_sound state.asking.bar (λ bar. asks state (reply 0 (codes "OK")) (with_bar state.asking None)) (tells state no_progress_bar) (λ bar. zero) ten, ap (λ (f : FilesState). f.counts) gives.1)
+input_sound : (frontend : Frontend) (shown : Bool) → IsSoundCode (input_reply frontend shown).code
+input_sound Noninteractive shown = thirty
+input_sound Teletype true = zero
+input_sound Teletype false = thirty
+
+answered_sound : (state : SessionState) (row : Result StoreState QuestionError) → IsSound (answered state row).stepped
+answered_sound state (Ok store) = zero
+answered_sound state (Err e) = refusal_sound [] e
+
+heard_sound : (state : SessionState) (asked : Asked) → IsSound (heard_out state asked).stepped
+heard_sound state Back = thirty
+heard_sound state (Answers answers) = answered_sound state (values_set state.store state.at (values_given (to_show state) answers))
+
+fixed_sound : (state : SessionState) (fixed : Option (List ℕ)) (asked : Asked) → IsSound (option_map_or (λ name. tells state (cant_change name)) fixed (heard_out state asked)).stepped
+fixed_sound state None asked = heard_sound state asked
+fixed_sound state (Some name) asked = ten
+
+going_sound : (frontend : Frontend) (state : SessionState) (asked : Asked) → IsSound (going frontend state asked).stepped
+going_sound Noninteractive state asked = gone_sound state (values_set state.store state.at (choices_for state))
+going_sound Teletype state asked = fixed_sound state (first_fixed state) asked
+
+told_as_counted : (state : SessionState) (command : Command) (given : Given) (new : FilesState) (terminal : TerminalState) → Gives command state given new terminal
+    → IsToldAsCounted (answer state command given).stepped state.files.counts new.counts
+told_as_counted state (LoadTemplateFile path owner) given new terminal gives = file_told state path owner given.found given.asked new gives.looks
+told_as_counted state (Version version) given new terminal gives = inr (version_sound state version given (is_supported version) refl, ap (λ (f : FilesState). f.counts) gives.looks.1)
+told_as_counted state (Capb words) given new terminal gives = inr (zero, ap (λ (f : FilesState). f.counts) gives.looks.1)
+told_as_counted state (SetTitle word) given new terminal gives = inr (by_sound {A = List ℕ} state (λ text. asks state (reply 0 []) (titled state.asking text)) (on word (description state.store.layers state.at)) (λ text. zero), ap (λ (f : FilesState). f.counts) gives.looks.1)
+told_as_counted state (Title text) given new terminal gives = inr (zero, ap (λ (f : FilesState). f.counts) gives.looks.1)
+told_as_counted state (Input priority word) given new terminal gives = inr (by_sound {A = Bool} state (λ shown. asks state (input_reply state.manner.frontend shown) (prepared_if shown state.asking word)) (on word (is_to_be_shown state priority)) (λ shown. input_sound state.manner.frontend shown), ap (λ (f : FilesState). f.counts) gives.looks.1)
+told_as_counted state BeginBlock given new terminal gives = inr (zero, ap (λ (f : FilesState). f.counts) gives.looks.1)
+told_as_counted state EndBlock given new terminal gives = inr (zero, ap (λ (f : FilesState). f.counts) gives.looks.1)
+told_as_counted state Go given new terminal gives = inr (going_sound state.manner.frontend state given.asked, ap (λ (f : FilesState). f.counts) gives.looks.1)
+told_as_counted state Clear given new terminal gives = inr (zero, ap (λ (f : FilesState). f.counts) gives.looks.1)
+told_as_counted state Stop given new terminal gives = inr (tt, ap (λ (f : FilesState). f.counts) gives.looks.1)
+told_as_counted state (Get word) given new terminal gives = inr (says_sound state [] _ _ (λ a. text_sound state.asking.escape), ap (λ (f : FilesState). f.counts) gives.looks.1)
+told_as_counted state (Set word text) given new terminal gives = inr (does_sound state _ _ zero, ap (λ (f : FilesState). f.counts) gives.looks.1)
+told_as_counted state (Reset word) given new terminal gives = inr (does_sound state _ _ zero, ap (λ (f : FilesState). f.counts) gives.looks.1)
+told_as_counted state (Subst word key text) given new terminal gives = inr (does_sound state _ _ zero, ap (λ (f : FilesState). f.counts) gives.looks.1)
+told_as_counted state (Fget word key) given new terminal gives = inr (says_sound state [] _ _ (λ a. zero), ap (λ (f : FilesState). f.counts) gives.looks.1)
+told_as_counted state (Fset word key text) given new terminal gives = inr (fset_sound state word key text given (is_truth text) refl, ap (λ (f : FilesState). f.counts) gives.looks.1)
+told_as_counted state (Metaget word field) given new terminal gives = inr (says_sound state field _ _ (λ a. text_sound state.asking.escape), ap (λ (f : FilesState). f.counts) gives.looks.1)
+told_as_counted state (Register template name) given new terminal gives = inr (does_sound state _ _ zero, ap (λ (f : FilesState). f.counts) gives.looks.1)
+told_as_counted state (Unregister word) given new terminal gives = inr (by_sound {A = List ℕ} state (λ name. unless_busy state (name ∷ []) (does state (reply 0 []) (unregistered state.store state.at name state.owner))) (on word (there state)) (λ name. busy_sound state (first_busy state.asking (name ∷ [])) (does state (reply 0 []) (unregistered state.store state.at name state.owner)) (does_sound state (reply 0 []) (unregistered state.store state.at name state.owner) zero)), ap (λ (f : FilesState). f.counts) gives.looks.1)
+told_as_counted state Purge given new terminal gives = inr (busy_sound state (first_busy state.asking (owned state.store.layers state.at.config state.owner)) (does state (reply 0 []) (purged state.store state.at state.owner)) (does_sound state (reply 0 []) (purged state.store state.at state.owner) zero), ap (λ (f : FilesState). f.counts) gives.looks.1)
+told_as_counted state (ProgressStart low high word) given new terminal gives = inr (by_sound {A = List ℕ} state (λ name. asks state (reply 0 (codes "OK")) (with_bar state.asking (Some (record { min = low; max = high; place = low })))) (on word (there state)) (λ name. zero), ap (λ (f : FilesState). f.counts) gives.looks.1)
+told_as_counted state (ProgressSet number) given new terminal gives = inr (bar_sound state.asking.bar (λ bar. asks state (reply 0 (codes "OK")) (with_bar state.asking (Some (bar_at bar number)))) (tells state no_progress_bar) (λ bar. zero) ten, ap (λ (f : FilesState). f.counts) gives.looks.1)
+told_as_counted state (ProgressStep number) given new terminal gives = inr (bar_sound state.asking.bar (λ bar. asks state (reply 0 (codes "OK")) (with_bar state.asking (Some (bar_at bar (bar.place + number))))) (tells state no_progress_bar) (λ bar. zero) ten, ap (λ (f : FilesState). f.counts) gives.looks.1)
+told_as_counted state (ProgressInfo word) given new terminal gives = inr (bar_sound state.asking.bar (λ bar. by {A = List ℕ} state (λ name. tells state (reply 0 (codes "OK"))) (on word (there state))) (tells state no_progress_bar) (λ bar. by_sound {A = List ℕ} state (λ name. tells state (reply 0 (codes "OK"))) (on word (there state)) (λ name. zero)) ten, ap (λ (f : FilesState). f.counts) gives.looks.1)
+told_as_counted state ProgressStop given new terminal gives = inr (bar_sound state.asking.bar (λ bar. asks state (reply 0 (codes "OK")) (with_bar state.asking None)) (tells state no_progress_bar) (λ bar. zero) ten, ap (λ (f : FilesState). f.counts) gives.looks.1)
 
 no_fault : (code : ℕ) → IsSoundCode code → code ≡ 100 → ⊥
 no_fault code sound fault = elim sound [
@@ -145,13 +171,13 @@ module _ (command : Command) (old new : SessionState) (reply : Reply) (did : Has
   code_is other same fault = let e : reply ≡ other = cc in ap (λ (r : Reply). r.code) e ∙ fault
 
   pub fault_counted : reply.code ≡ 100 → FaultRose old.files.counts new.files.counts
-  fault_counted fault = elim (told_as_counted old command did.found new.files did.gives) [
+  fault_counted fault = elim (told_as_counted old command did.given new.files new.terminal did.gives) [
     | inl rose ↦ rose.3
-    | inr none ↦ absurd (no_fault reply.code (sound_is (answer old command did.found).stepped did.stepped_is none.0) fault)
+    | inr none ↦ absurd (no_fault reply.code (sound_is (answer old command did.given).stepped did.stepped_is none.0) fault)
   ]
 
   pub none_counted : (reply.code ≡ 100 → ⊥) → new.files.counts ≡ old.files.counts
-  none_counted other = elim (told_as_counted old command did.found new.files did.gives) [
+  none_counted other = elim (told_as_counted old command did.given new.files new.terminal did.gives) [
     | inl rose ↦ absurd (other (code_is rose.0 (did.stepped_is ∙ rose.1) rose.2))
     | inr none ↦ none.1
   ]

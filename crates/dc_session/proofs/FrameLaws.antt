@@ -9,6 +9,8 @@ use Rattle.dc_text.specs.Settled.{settled}
 use Rattle.dc_item.specs.Item.{ItemParts}
 use Rattle.dc_item.specs.declared.op.Op.{Op}
 use Rattle.dc_item.specs.declared.op.Op.TheVariants.{Put, SetField, SetFlag, SetVar}
+use Rattle.dc_frontend.specs.declared.frontend.Frontend.{Frontend}
+use Rattle.dc_frontend.specs.declared.frontend.Frontend.TheVariants.{Noninteractive, Teletype}
 use Rattle.dc_proto.specs.Replies.{reply}
 use Rattle.dc_proto.specs.declared.command.Command.{Command}
 use Rattle.dc_proto.specs.declared.command.Command.TheVariants.{Version, Capb, SetTitle, Title, Input, BeginBlock, EndBlock, Go, Clear, Stop, Get, Set, Reset, Subst, Fget, Fset, Metaget, Register, Unregister, Purge, ProgressStart, ProgressSet, ProgressStep, ProgressInfo, ProgressStop, LoadTemplateFile}
@@ -19,6 +21,8 @@ use Rattle.dc_store.specs.Rows.{Write, row_done, all_done, names_of, is_refused,
 use Rattle.dc_store.specs.StoreLaws.{AreSameButAll}
 use Rattle.dc_store.proofs.Frames.{plan_keeps}
 use Rattle.dc_store.proofs.RowLemmas.{same_all, same_all_refl, same_all_then}
+use Rattle.dc_teletype.specs.declared.teletype.Asked.{Asked}
+use Rattle.dc_teletype.specs.declared.teletype.Asked.TheVariants.{Answers, Back}
 use Rattle.dc_template.specs.Stanzas.{Stanza}
 use Rattle.dc_question.specs.Changes.{changed, value_set, value_write, values_set, value_reset, variable_set, without_answer, flag_set, done_or, told_by, row_for, question_write}
 use Rattle.dc_question.specs.Ownership.{registered, unregistered, purged, leave_row, load_row, register_row, has_other_template, bound_elsewhere}
@@ -26,9 +30,9 @@ use Rattle.dc_question.specs.Questions.{Setting, question, flag, named_template,
 use Rattle.dc_question.specs.declared.errors.QuestionError.{QuestionError}
 use Rattle.dc_question.specs.declared.errors.QuestionError.TheVariants as error
 use Rattle.dc_session.specs.SessionState.{SessionState}
-use Rattle.dc_session.specs.Answers.{Outcome, answer, loading, load_names, names_on, on, by, tells, does, says, unless_busy, there, gone, is_truth}
-use Rattle.dc_session.specs.Asking.{first_busy, choices_for}
-use Rattle.dc_session.specs.Refusals.{bad_flag_value, is_busy}
+use Rattle.dc_session.specs.Answers.{Given, Outcome, answer, answered, heard_out, going, going_names, loading, load_names, names_on, on, by, tells, does, says, unless_busy, there, gone, is_truth}
+use Rattle.dc_session.specs.Asking.{first_busy, first_fixed, choices_for, to_show, values_given}
+use Rattle.dc_session.specs.Refusals.{bad_flag_value, cant_change, is_busy}
 use Rattle.dc_session.specs.declared.asking.Bar.{Bar}
 use Rattle.dc_session.specs.declared.stepped.Stepped.{Stepped}
 use Rattle.dc_session.specs.Machine.{HasDone}
@@ -155,11 +159,11 @@ module _ (state : SessionState) where
   one : (word : List ℕ) (op : Op) → Keeps (word ∷ []) state.store (changed state.store state.at word op)
   one word op = changed_keeps state.store state.at word op (question state.store.layers state.at word)
 
-  fset_keeps : (word key text : List ℕ) (found : Found) (b : Bool) → is_truth text ≡ b → AreSameButAll (word ∷ []) state.store.layers (answer state (Fset word key text) found).store.layers
-  fset_keeps word key text found true is =
+  fset_keeps : (word key text : List ℕ) (given : Given) (b : Bool) → is_truth text ≡ b → AreSameButAll (word ∷ []) state.store.layers (answer state (Fset word key text) given).store.layers
+  fset_keeps word key text given true is =
       rw is (does_keeps (word ∷ []) state (reply 0 text) (on word (λ name. flag_set state.store state.at name key (bytes_eq text (codes "true"))))
       (on_keeps (word ∷ []) state.store word (λ name. flag_set state.store state.at name key (bytes_eq text (codes "true"))) (one word (SetFlag key (bytes_eq text (codes "true"))))))
-  fset_keeps word key text found false is = rw is (says_keeps (word ∷ []) state [] (λ flag. bad_flag_value) (on word (λ name. flag state.store.layers state.at name key)))
+  fset_keeps word key text given false is = rw is (says_keeps (word ∷ []) state [] (λ flag. bad_flag_value) (on word (λ name. flag state.store.layers state.at name key)))
 
   reset_keeps : (word : List ℕ) (item : Option ItemParts) (op : ItemParts → Op) → Keeps (word ∷ []) state.store (read word item (λ i. changed state.store state.at word (op i)))
   reset_keeps word None op = tt
@@ -211,44 +215,60 @@ module _ (state : SessionState) where
       (busy_keeps (names_of (leave_row state.store.layers state.at state.owner (word ∷ []))) state (first_busy state.asking (word ∷ [])) (does state (reply 0 []) (unregistered state.store state.at word state.owner))
       (does_keeps (names_of (leave_row state.store.layers state.at state.owner (word ∷ []))) state (reply 0 []) (unregistered state.store state.at word state.owner) (unregister_keeps word (question state.store.layers state.at word))))
 
-  answer_keeps : (command : Command) (found : Found) → AreSameButAll (names_on state command found) state.store.layers (answer state command found).store.layers
-  answer_keeps (Get word) found = says_keeps [] state [] _ _
-  answer_keeps (Set word text) found = word_keeps (word ∷ []) word (codes "value set") (λ name. value_set state.store state.at name text) (one word (SetField (codes "value") (settled text)))
-  answer_keeps (Reset word) found =
+  heard_keeps : (asked : Asked) → OutcomeKeeps (going_names Teletype state asked) state (heard_out state asked)
+  heard_keeps Back = same_all_refl [] state.store.layers
+  heard_keeps (Answers answers) =
+      answered_keeps (each (λ a. a.0) (values_given (to_show state) answers)) (values_set state.store state.at (values_given (to_show state) answers)) (values_keep state.store state.at (values_given (to_show state) answers)) where
+        answered_keeps : (names : List (List ℕ)) (row : Result StoreState QuestionError) → Keeps names state.store row → OutcomeKeeps names state (answered state row)
+        answered_keeps names (Ok new) keeps = keeps
+        answered_keeps names (Err error) keeps = same_all_refl names state.store.layers
+
+  fixed_keeps : (fixed : Option (List ℕ)) (asked : Asked) → OutcomeKeeps (going_names Teletype state asked) state (option_map_or (λ name. tells state (cant_change name)) fixed (heard_out state asked))
+  fixed_keeps None asked = heard_keeps asked
+  fixed_keeps (Some name) asked = same_all_refl (going_names Teletype state asked) state.store.layers
+
+  going_keeps : (frontend : Frontend) (asked : Asked) → OutcomeKeeps (going_names frontend state asked) state (going frontend state asked)
+  going_keeps Noninteractive asked = gone_keeps (each (λ a. a.0) (choices_for state)) state (values_set state.store state.at (choices_for state)) (values_keep state.store state.at (choices_for state))
+  going_keeps Teletype asked = fixed_keeps (first_fixed state) asked
+
+  answer_keeps : (command : Command) (given : Given) → AreSameButAll (names_on state command given) state.store.layers (answer state command given).store.layers
+  answer_keeps (Get word) given = says_keeps [] state [] _ _
+  answer_keeps (Set word text) given = word_keeps (word ∷ []) word (codes "value set") (λ name. value_set state.store state.at name text) (one word (SetField (codes "value") (settled text)))
+  answer_keeps (Reset word) given =
       word_keeps (word ∷ []) word [] (λ name. value_reset state.store state.at name) (reset_keeps word (question state.store.layers state.at word) (λ item. Put (without_answer item)))
-  answer_keeps (Subst word key text) found = word_keeps (word ∷ []) word [] (λ name. variable_set state.store state.at name key text) (one word (SetVar key (settled text)))
-  answer_keeps (Fget word key) found = says_keeps [] state [] _ _
-  answer_keeps (Fset word key text) found = fset_keeps word key text found (is_truth text) refl
-  answer_keeps (Metaget word field) found = says_keeps [] state field _ _
-  answer_keeps (Register template name) found =
+  answer_keeps (Subst word key text) given = word_keeps (word ∷ []) word [] (λ name. variable_set state.store state.at name key text) (one word (SetVar key (settled text)))
+  answer_keeps (Fget word key) given = says_keeps [] state [] _ _
+  answer_keeps (Fset word key text) given = fset_keeps word key text given (is_truth text) refl
+  answer_keeps (Metaget word field) given = says_keeps [] state field _ _
+  answer_keeps (Register template name) given =
       does_keeps (template ∷ name ∷ []) state (reply 0 []) (registered state.store state.at template name state.owner)
       (register_keeps template name (named_template state.store.layers state.at template) (has_other_template template (question state.store.layers state.at name)) refl)
-  answer_keeps (Unregister word) found =
+  answer_keeps (Unregister word) given =
       by_keeps (names_of (leave_row state.store.layers state.at state.owner (word ∷ []))) state
       (λ name. unless_busy state (name ∷ []) (does state (reply 0 []) (unregistered state.store state.at name state.owner))) (on word (there state)) (λ name is. unregistered_keeps word name (there_is word name is))
-  answer_keeps Purge found =
+  answer_keeps Purge given =
       let names : List (List ℕ) = owned state.store.layers state.at.config state.owner in
       busy_keeps (names_of (leave_row state.store.layers state.at state.owner names)) state (first_busy state.asking names) (does state (reply 0 []) (purged state.store state.at state.owner))
       (does_keeps (names_of (leave_row state.store.layers state.at state.owner names)) state (reply 0 []) (purged state.store state.at state.owner)
       (row_for_keeps state.store names (leave_row state.store.layers state.at state.owner names)))
-  answer_keeps (Version version) found = same_all_refl [] state.store.layers
-  answer_keeps (Capb words) found = same_all_refl [] state.store.layers
-  answer_keeps (SetTitle word) found = by_keeps [] state _ _ (λ text is. same_all_refl [] state.store.layers)
-  answer_keeps (Title text) found = same_all_refl [] state.store.layers
-  answer_keeps (Input priority word) found = by_keeps [] state _ _ (λ shown is. same_all_refl [] state.store.layers)
-  answer_keeps BeginBlock found = same_all_refl [] state.store.layers
-  answer_keeps EndBlock found = same_all_refl [] state.store.layers
-  answer_keeps Go found = gone_keeps (each (λ a. a.0) (choices_for state)) state (values_set state.store state.at (choices_for state)) (values_keep state.store state.at (choices_for state))
-  answer_keeps Clear found = same_all_refl [] state.store.layers
-  answer_keeps Stop found = same_all_refl [] state.store.layers
-  answer_keeps (ProgressStart low high word) found = by_keeps [] state _ _ (λ name is. same_all_refl [] state.store.layers)
-  answer_keeps (ProgressSet number) found = bar_keeps [] state state.asking.bar _ _ (λ bar. same_all_refl [] state.store.layers) (same_all_refl [] state.store.layers)
-  answer_keeps (ProgressStep number) found = bar_keeps [] state state.asking.bar _ _ (λ bar. same_all_refl [] state.store.layers) (same_all_refl [] state.store.layers)
-  answer_keeps (ProgressInfo word) found =
+  answer_keeps (Version version) given = same_all_refl [] state.store.layers
+  answer_keeps (Capb words) given = same_all_refl [] state.store.layers
+  answer_keeps (SetTitle word) given = by_keeps [] state _ _ (λ text is. same_all_refl [] state.store.layers)
+  answer_keeps (Title text) given = same_all_refl [] state.store.layers
+  answer_keeps (Input priority word) given = by_keeps [] state _ _ (λ shown is. same_all_refl [] state.store.layers)
+  answer_keeps BeginBlock given = same_all_refl [] state.store.layers
+  answer_keeps EndBlock given = same_all_refl [] state.store.layers
+  answer_keeps Go given = going_keeps state.manner.frontend given.asked
+  answer_keeps Clear given = same_all_refl [] state.store.layers
+  answer_keeps Stop given = same_all_refl [] state.store.layers
+  answer_keeps (ProgressStart low high word) given = by_keeps [] state _ _ (λ name is. same_all_refl [] state.store.layers)
+  answer_keeps (ProgressSet number) given = bar_keeps [] state state.asking.bar _ _ (λ bar. same_all_refl [] state.store.layers) (same_all_refl [] state.store.layers)
+  answer_keeps (ProgressStep number) given = bar_keeps [] state state.asking.bar _ _ (λ bar. same_all_refl [] state.store.layers) (same_all_refl [] state.store.layers)
+  answer_keeps (ProgressInfo word) given =
       bar_keeps [] state state.asking.bar _ _ (λ bar. by_keeps [] state _ _ (λ name is. same_all_refl [] state.store.layers)) (same_all_refl [] state.store.layers)
-  answer_keeps ProgressStop found = bar_keeps [] state state.asking.bar _ _ (λ bar. same_all_refl [] state.store.layers) (same_all_refl [] state.store.layers)
-  answer_keeps (LoadTemplateFile path owner) found = loading_keeps (unwrap_or owner state.owner) found
+  answer_keeps ProgressStop given = bar_keeps [] state state.asking.bar _ _ (λ bar. same_all_refl [] state.store.layers) (same_all_refl [] state.store.layers)
+  answer_keeps (LoadTemplateFile path owner) given = loading_keeps (unwrap_or owner state.owner) given.found
 
 -- a command changes at most the items that its writes are on
-pub others_stay : (command : Command) (old new : SessionState) (did : Stepped) (done : HasDone command old did new) → AreSameButAll (names_on old command done.found) old.store.layers new.store.layers
-others_stay command old new did done = rw done.new_is (answer_keeps old command done.found)
+pub others_stay : (command : Command) (old new : SessionState) (did : Stepped) (done : HasDone command old did new) → AreSameButAll (names_on old command done.given) old.store.layers new.store.layers
+others_stay command old new did done = rw done.new_is (answer_keeps old command done.given)

@@ -7,9 +7,13 @@ pub mod DiskLaws
 pub mod EscapeLaws
 pub mod FaultLaws
 pub mod FrameLaws
+pub mod GoLemmas
 pub mod LineLaws
 pub mod LoadLemmas
+pub mod ProgressLemmas
 pub mod NameLemmas
 pub mod ServeLemmas
 pub mod SetLaws
+pub mod TerminalLaws
+pub mod TerminalLemmas
 pub mod Teeth

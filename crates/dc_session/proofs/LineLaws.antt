@@ -4,6 +4,8 @@ use Rattle.std.specs.Prelude.{◌+◌, Result, Ok, Err, unwrap_or, codes}
 use Rattle.std.specs.Option.{option_map_or}
 use Rattle.dc_words.specs.declared.stream.Line.{Line}
 use Rattle.dc_words.specs.declared.stream.Line.TheVariants.{Whole, TooLong}
+use Rattle.dc_frontend.specs.declared.frontend.Frontend.{Frontend}
+use Rattle.dc_frontend.specs.declared.frontend.Frontend.TheVariants.{Noninteractive, Teletype}
 use Rattle.dc_proto.specs.Commands.{heard}
 use Rattle.dc_proto.specs.Replies.{reply}
 use Rattle.dc_proto.specs.declared.command.Command.{Command}
@@ -11,14 +13,18 @@ use Rattle.dc_proto.specs.declared.command.Command.TheVariants.{Version, Capb, S
 use Rattle.dc_proto.specs.declared.command.Heard.{Heard}
 use Rattle.dc_proto.specs.declared.command.Heard.TheVariants.{Nothing, Known, Refused}
 use Rattle.dc_proto.specs.declared.reply.Reply.{Reply}
+use Rattle.dc_question.specs.Changes.{values_set}
 use Rattle.dc_question.specs.Ownership.{loaded, unregistered, purged}
 use Rattle.dc_question.specs.declared.errors.QuestionError.{QuestionError}
 use Rattle.dc_store.specs.Plans.{StoreState, owned}
-use Rattle.dc_session.specs.Asking.{description, is_to_be_shown, prepared_if, first_busy, bar_at}
-use Rattle.dc_session.specs.Answers.{Outcome, answer, loading, by, on, there, asks, titled, with_bar, unless_busy, does, says, gone, tells, is_truth}
+use Rattle.dc_teletype.specs.declared.teletype.Asked.{Asked}
+use Rattle.dc_teletype.specs.declared.teletype.Asked.TheVariants.{Answers, Back}
+use Rattle.dc_session.specs.Asking.{description, is_to_be_shown, prepared_if, choices_for, first_fixed, to_show, values_given, first_busy, bar_at}
+use Rattle.dc_session.specs.Answers.{Given, Outcome, answer, answered, heard_out, going, input_reply, loading, by, on, there, asks, titled, with_bar, unless_busy, does, says, gone, tells, is_truth}
 use Rattle.dc_session.specs.Machine.{Steps, StepsHeard, HasDone}
-use Rattle.dc_session.specs.Refusals.{is_busy, no_progress_bar}
+use Rattle.dc_session.specs.Refusals.{cant_change, is_busy, no_progress_bar}
 use Rattle.dc_session.specs.SessionState.{SessionState}
+use Rattle.dc_session.specs.declared.asking.Asking.{Asking}
 use Rattle.dc_session.specs.declared.asking.Bar.{Bar}
 use Rattle.dc_session.specs.declared.stepped.Stepped.TheVariants.{Replied}
 use Rattle.dc_session.specs.declared.template_files.Found.{Found}
@@ -64,37 +70,58 @@ loading_meek state owner Missing = record { store = inl refl; asking = inl refl 
 loading_meek state owner (Faulty line) = record { store = inl refl; asking = inl refl }
 loading_meek state owner (Templates templates) = does_meek state [] (loaded state.store state.at owner templates)
 
-fset_meek : (state : SessionState) (word key text : List ℕ) (found : Found) (b : Bool) → is_truth text ≡ b → IsMeek state (answer state (Fset word key text) found)
-fset_meek state word key text found true is = rw is (does_meek state text _)
-fset_meek state word key text found false is = rw is (says_meek state [] _ _)
+fset_meek : (state : SessionState) (word key text : List ℕ) (given : Given) (b : Bool) → is_truth text ≡ b → IsMeek state (answer state (Fset word key text) given)
+fset_meek state word key text given true is = rw is (does_meek state text _)
+fset_meek state word key text given false is = rw is (says_meek state [] _ _)
 
-answer_meek : (state : SessionState) (command : Command) (found : Found) → IsMeek state (answer state command found)
-answer_meek state (Version version) found = record { store = inl refl; asking = inl refl }
-answer_meek state (Capb words) found = record { store = inl refl; asking = inr (_, refl, inl refl) }
-answer_meek state (SetTitle word) found = by_meek {A = List ℕ} state (λ text. asks state (reply 0 []) (titled state.asking text)) (on word (description state.store.layers state.at)) (λ text. record { store = inl refl; asking = inr (_, refl, inl refl) })
-answer_meek state (Title text) found = record { store = inl refl; asking = inr (_, refl, inl refl) }
-answer_meek state (Input priority word) found = by_meek {A = Bool} state (λ shown. asks state (reply 30 (codes "question skipped")) (prepared_if shown state.asking word)) (on word (is_to_be_shown state priority)) (λ shown. record { store = inl refl; asking = inr (_, refl, inr refl) })
-answer_meek state BeginBlock found = record { store = inl refl; asking = inl refl }
-answer_meek state EndBlock found = record { store = inl refl; asking = inl refl }
-answer_meek state Go found = gone_meek state _
-answer_meek state Clear found = record { store = inl refl; asking = inr (_, refl, inl refl) }
-answer_meek state Stop found = record { store = inl refl; asking = inl refl }
-answer_meek state (Get word) found = says_meek state [] _ _
-answer_meek state (Set word text) found = does_meek state _ _
-answer_meek state (Reset word) found = does_meek state _ _
-answer_meek state (Subst word key text) found = does_meek state _ _
-answer_meek state (Fget word key) found = says_meek state [] _ _
-answer_meek state (Fset word key text) found = fset_meek state word key text found (is_truth text) refl
-answer_meek state (Metaget word field) found = says_meek state field _ _
-answer_meek state (Register template name) found = does_meek state _ _
-answer_meek state (Unregister word) found = by_meek {A = List ℕ} state (λ name. unless_busy state (name ∷ []) (does state (reply 0 []) (unregistered state.store state.at name state.owner))) (on word (there state)) (λ name. busy_meek state (first_busy state.asking (name ∷ [])) (does state (reply 0 []) (unregistered state.store state.at name state.owner)) (does_meek state [] (unregistered state.store state.at name state.owner)))
-answer_meek state Purge found = busy_meek state (first_busy state.asking (owned state.store.layers state.at.config state.owner)) (does state (reply 0 []) (purged state.store state.at state.owner)) (does_meek state [] (purged state.store state.at state.owner))
-answer_meek state (ProgressStart low high word) found = by_meek {A = List ℕ} state (λ name. asks state (reply 0 (codes "OK")) (with_bar state.asking (Some (record { min = low; max = high; place = low })))) (on word (there state)) (λ name. record { store = inl refl; asking = inr (_, refl, inl refl) })
-answer_meek state (ProgressSet number) found = bar_meek state state.asking.bar (λ bar. asks state (reply 0 (codes "OK")) (with_bar state.asking (Some (bar_at bar number)))) (tells state no_progress_bar) (λ bar. record { store = inl refl; asking = inr (_, refl, inl refl) }) (record { store = inl refl; asking = inl refl })
-answer_meek state (ProgressStep number) found = bar_meek state state.asking.bar (λ bar. asks state (reply 0 (codes "OK")) (with_bar state.asking (Some (bar_at bar (bar.place + number))))) (tells state no_progress_bar) (λ bar. record { store = inl refl; asking = inr (_, refl, inl refl) }) (record { store = inl refl; asking = inl refl })
-answer_meek state (ProgressInfo word) found = bar_meek state state.asking.bar (λ bar. by {A = List ℕ} state (λ name. tells state (reply 0 (codes "OK"))) (on word (there state))) (tells state no_progress_bar) (λ bar. by_meek {A = List ℕ} state (λ name. tells state (reply 0 (codes "OK"))) (on word (there state)) (λ name. record { store = inl refl; asking = inl refl })) (record { store = inl refl; asking = inl refl })
-answer_meek state ProgressStop found = bar_meek state state.asking.bar (λ bar. asks state (reply 0 (codes "OK")) (with_bar state.asking None)) (tells state no_progress_bar) (λ bar. record { store = inl refl; asking = inr (_, refl, inl refl) }) (record { store = inl refl; asking = inl refl })
-answer_meek state (LoadTemplateFile path owner) found = loading_meek state (unwrap_or owner state.owner) found
+answered_meek : (state : SessionState) (row : Result StoreState QuestionError) → IsMeek state (answered state row)
+answered_meek state (Ok store) = record { store = inr (_, refl, refl); asking = inr (_, refl, inl refl) }
+answered_meek state (Err error) = record { store = inl refl; asking = inl refl }
+
+heard_meek : (state : SessionState) (asked : Asked) → IsMeek state (heard_out state asked)
+heard_meek state Back = record { store = inl refl; asking = inr (_, refl, inr refl) }
+heard_meek state (Answers answers) = answered_meek state (values_set state.store state.at (values_given (to_show state) answers))
+
+fixed_meek : (state : SessionState) (fixed : Option (List ℕ)) (asked : Asked) → IsMeek state (option_map_or (λ name. tells state (cant_change name)) fixed (heard_out state asked))
+fixed_meek state None asked = heard_meek state asked
+fixed_meek state (Some name) asked = tells_meek state (cant_change name)
+
+going_meek : (frontend : Frontend) (state : SessionState) (asked : Asked) → IsMeek state (going frontend state asked)
+going_meek Noninteractive state asked = gone_meek state (values_set state.store state.at (choices_for state))
+going_meek Teletype state asked = fixed_meek state (first_fixed state) asked
+
+input_meek : (frontend : Frontend) (state : SessionState) (shown : Bool) (asking : Asking) → IsMeek state (asks state (input_reply frontend shown) asking)
+input_meek Noninteractive state shown asking = record { store = inl refl; asking = inr (_, refl, inr refl) }
+input_meek Teletype state true asking = record { store = inl refl; asking = inr (_, refl, inl refl) }
+input_meek Teletype state false asking = record { store = inl refl; asking = inr (_, refl, inr refl) }
+
+answer_meek : (state : SessionState) (command : Command) (given : Given) → IsMeek state (answer state command given)
+answer_meek state (Version version) given = record { store = inl refl; asking = inl refl }
+answer_meek state (Capb words) given = record { store = inl refl; asking = inr (_, refl, inl refl) }
+answer_meek state (SetTitle word) given = by_meek {A = List ℕ} state (λ text. asks state (reply 0 []) (titled state.asking text)) (on word (description state.store.layers state.at)) (λ text. record { store = inl refl; asking = inr (_, refl, inl refl) })
+answer_meek state (Title text) given = record { store = inl refl; asking = inr (_, refl, inl refl) }
+answer_meek state (Input priority word) given = by_meek {A = Bool} state (λ shown. asks state (input_reply state.manner.frontend shown) (prepared_if shown state.asking word)) (on word (is_to_be_shown state priority)) (λ shown. input_meek state.manner.frontend state shown (prepared_if shown state.asking word))
+answer_meek state BeginBlock given = record { store = inl refl; asking = inl refl }
+answer_meek state EndBlock given = record { store = inl refl; asking = inl refl }
+answer_meek state Go given = going_meek state.manner.frontend state given.asked
+answer_meek state Clear given = record { store = inl refl; asking = inr (_, refl, inl refl) }
+answer_meek state Stop given = record { store = inl refl; asking = inl refl }
+answer_meek state (Get word) given = says_meek state [] _ _
+answer_meek state (Set word text) given = does_meek state _ _
+answer_meek state (Reset word) given = does_meek state _ _
+answer_meek state (Subst word key text) given = does_meek state _ _
+answer_meek state (Fget word key) given = says_meek state [] _ _
+answer_meek state (Fset word key text) given = fset_meek state word key text given (is_truth text) refl
+answer_meek state (Metaget word field) given = says_meek state field _ _
+answer_meek state (Register template name) given = does_meek state _ _
+answer_meek state (Unregister word) given = by_meek {A = List ℕ} state (λ name. unless_busy state (name ∷ []) (does state (reply 0 []) (unregistered state.store state.at name state.owner))) (on word (there state)) (λ name. busy_meek state (first_busy state.asking (name ∷ [])) (does state (reply 0 []) (unregistered state.store state.at name state.owner)) (does_meek state [] (unregistered state.store state.at name state.owner)))
+answer_meek state Purge given = busy_meek state (first_busy state.asking (owned state.store.layers state.at.config state.owner)) (does state (reply 0 []) (purged state.store state.at state.owner)) (does_meek state [] (purged state.store state.at state.owner))
+answer_meek state (ProgressStart low high word) given = by_meek {A = List ℕ} state (λ name. asks state (reply 0 (codes "OK")) (with_bar state.asking (Some (record { min = low; max = high; place = low })))) (on word (there state)) (λ name. record { store = inl refl; asking = inr (_, refl, inl refl) })
+answer_meek state (ProgressSet number) given = bar_meek state state.asking.bar (λ bar. asks state (reply 0 (codes "OK")) (with_bar state.asking (Some (bar_at bar number)))) (tells state no_progress_bar) (λ bar. record { store = inl refl; asking = inr (_, refl, inl refl) }) (record { store = inl refl; asking = inl refl })
+answer_meek state (ProgressStep number) given = bar_meek state state.asking.bar (λ bar. asks state (reply 0 (codes "OK")) (with_bar state.asking (Some (bar_at bar (bar.place + number))))) (tells state no_progress_bar) (λ bar. record { store = inl refl; asking = inr (_, refl, inl refl) }) (record { store = inl refl; asking = inl refl })
+answer_meek state (ProgressInfo word) given = bar_meek state state.asking.bar (λ bar. by {A = List ℕ} state (λ name. tells state (reply 0 (codes "OK"))) (on word (there state))) (tells state no_progress_bar) (λ bar. by_meek {A = List ℕ} state (λ name. tells state (reply 0 (codes "OK"))) (on word (there state)) (λ name. record { store = inl refl; asking = inl refl })) (record { store = inl refl; asking = inl refl })
+answer_meek state ProgressStop given = bar_meek state state.asking.bar (λ bar. asks state (reply 0 (codes "OK")) (with_bar state.asking None)) (tells state no_progress_bar) (λ bar. record { store = inl refl; asking = inr (_, refl, inl refl) }) (record { store = inl refl; asking = inl refl })
+answer_meek state (LoadTemplateFile path owner) given = loading_meek state (unwrap_or owner state.owner) given.found
 
 -- ---- lines
 
@@ -121,11 +148,11 @@ module _ (old new : SessionState) (r : Reply) where
 
   command_meek : (command : Command) → HasDone command old (Replied r) new → IsMeekAt old new r
   command_meek command done = record {
-    store = λ other. elim (answer_meek old command done.found).store [
+    store = λ other. elim (answer_meek old command done.given).store [
       | inl same ↦ ap (λ (s : SessionState). s.store) done.new_is ∙ same
       | inr zero ↦ absurd (other (ap (λ (x : Reply). x.code) (one_reply zero.0 (done.stepped_is ∙ zero.1)) ∙ zero.2))
     ];
-    asking = λ other skipped. elim (answer_meek old command done.found).asking [
+    asking = λ other skipped. elim (answer_meek old command done.given).asking [
       | inl same ↦ ap (λ (s : SessionState). s.asking) done.new_is ∙ same
       | inr (r2, is, inl zero) ↦ absurd (other (ap (λ (x : Reply). x.code) (one_reply r2 (done.stepped_is ∙ is)) ∙ zero))
       | inr (r2, is, inr thirty) ↦ absurd (skipped (ap (λ (x : Reply). x.code) (one_reply r2 (done.stepped_is ∙ is)) ∙ thirty))
@@ -135,11 +162,11 @@ module _ (old new : SessionState) (r : Reply) where
     manner = ap (λ (s : SessionState). s.manner) done.new_is;
   }
 
-  heard_meek : (said : Heard) → StepsHeard said old (Replied r) new → IsMeekAt old new r
-  heard_meek Nothing steps = kept_meek old new r steps.1
-  heard_meek (Known command) steps = command_meek command steps
-  heard_meek (Refused refusal) steps = kept_meek old new r steps.1
+  said_meek : (said : Heard) → StepsHeard said old (Replied r) new → IsMeekAt old new r
+  said_meek Nothing steps = kept_meek old new r steps.1
+  said_meek (Known command) steps = command_meek command steps
+  said_meek (Refused refusal) steps = kept_meek old new r steps.1
 
   pub line_meek : (line : Line) → Steps old line (Replied r) new → IsMeekAt old new r
   line_meek TooLong steps = kept_meek old new r steps.1
-  line_meek (Whole line) steps = heard_meek (heard old.asking.escape line) steps
+  line_meek (Whole line) steps = said_meek (heard old.asking.escape line) steps

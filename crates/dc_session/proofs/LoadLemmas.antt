@@ -1,5 +1,5 @@
 -- What becomes of a template file.
-use Rattle.std.proofs.Common.{◌≡◌, ℕ, List, refl, sym, ap, subst, ◌∙◌, inl, inr}
+use Rattle.std.proofs.Common.{[], ◌≡◌, ℕ, List, refl, sym, ap, subst, ◌∙◌, inr}
 use Rattle.std.specs.Prelude.{Result, Ok, Err}
 use Rattle.dc_text.specs.declared.memory.OutOfMemory.{OutOfMemory}
 use Rattle.dc_store.specs.Plans.{StoreState}
@@ -15,6 +15,7 @@ use Rattle.dc_session.specs.SessionState.{FilesState, SessionState}
 use Rattle.dc_session.specs.TemplateFiles.{Finds}
 use Rattle.dc_session.specs.declared.template_files.Found.{Found}
 use Rattle.dc_session.specs.declared.template_files.Found.TheVariants as found
+use Rattle.dc_teletype.specs.declared.teletype.Asked.TheVariants.{Answers}
 use Rattle.dc_session.specs.declared.template_loading.FileEnd.{FileEnd}
 use Rattle.dc_session.specs.declared.template_loading.FileEnd.TheVariants.{Loaded, Refused}
 
@@ -39,9 +40,11 @@ taken_loads path what old new files (Ok ended) finds takes =
 taken_loads path what old new files (Err error) finds takes =
     let kept : files ≡ new.files = ap (λ (s : SessionState). s.files) (sym takes.1) in
     inr (record {
-      found = what;
-      gives = inl (subst (Finds path old.files what) kept finds);
-      others = takes.0;
+      part = inr record {
+        given = record { found = what; asked = Answers [] };
+        gives = record { looks = subst (Finds path old.files what) kept finds; shows = (refl, ap (λ (s : SessionState). s.terminal) takes.1) };
+        others = takes.0;
+      };
       at = ap (λ (s : SessionState). s.at) takes.1;
       owner = ap (λ (s : SessionState). s.owner) takes.1;
       manner = ap (λ (s : SessionState). s.manner) takes.1;

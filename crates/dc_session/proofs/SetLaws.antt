@@ -25,12 +25,11 @@ use Rattle.dc_question.specs.Questions.{Setting, value, template, read}
 use Rattle.dc_question.specs.Readings.{value_of}
 use Rattle.dc_question.specs.declared.errors.QuestionError.{QuestionError}
 use Rattle.dc_question.specs.declared.errors.QuestionError.TheVariants as error
-use Rattle.dc_session.specs.Answers.{answer, does, on, says, text_reply}
+use Rattle.dc_session.specs.Answers.{nothing, answer, does, on, says, text_reply}
 use Rattle.dc_session.specs.Machine.{HasDone}
 use Rattle.dc_session.specs.Refusals.{refusal}
 use Rattle.dc_session.specs.SessionState.{SessionState}
 use Rattle.dc_session.specs.declared.stepped.Stepped.TheVariants.{Replied}
-use Rattle.dc_session.specs.declared.template_files.Found.TheVariants.{Missing}
 
 -- ---- the item that is left
 
@@ -136,7 +135,7 @@ module _ (old mid : SessionState) (question_name text : List ℕ) (r : Reply) (a
       by_row (value_set old.store old.at question_name text) (ap (λ (b : Bool). if b then value_set old.store old.at question_name text else Err (error.NoQuestion question_name)) named)
       (confirmed old.store old.at question_name text alone (look old.store.layers old.at.config question_name) refl)
 
-  pub set_told : (answer mid (Get question_name) Missing).stepped ≡ Replied (text_reply mid (settled text))
+  pub set_told : (answer mid (Get question_name) nothing).stepped ≡ Replied (text_reply mid (settled text))
   set_told =
       ap (λ (b : Bool). (says mid [] (text_reply mid) (if b then value mid.store.layers mid.at question_name else Err (error.NoQuestion question_name))).stepped) named
       ∙ told_of mid question_name text (look mid.store.layers mid.at.config question_name) is_set

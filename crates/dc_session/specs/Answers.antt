@@ -8,6 +8,8 @@ use Rattle.std.specs.Option.{option_map_or}
 use Rattle.std.specs.Str.{bytes_eq}
 use Rattle.dc_text.specs.Bytes.{lower}
 use Rattle.dc_text.specs.Names.{is_name, is_field_key}
+use Rattle.dc_frontend.specs.declared.frontend.Frontend.{Frontend}
+use Rattle.dc_frontend.specs.declared.frontend.Frontend.TheVariants.{Noninteractive, Teletype}
 use Rattle.dc_proto.specs.Replies.{reply}
 use Rattle.dc_proto.specs.declared.command.Command.{Command}
 use Rattle.dc_proto.specs.declared.command.Command.TheVariants.{Version, Capb, SetTitle, Title, Input, BeginBlock, EndBlock, Go, Clear, Stop, Get, Set, Reset, Subst, Fget, Fset, Metaget, Register, Unregister, Purge, ProgressStart, ProgressSet, ProgressStep, ProgressInfo, ProgressStop, LoadTemplateFile}
@@ -19,15 +21,26 @@ use Rattle.dc_question.specs.Ownership.{registered, unregistered, purged, loaded
 use Rattle.dc_question.specs.Questions.{question, template, read, read_template, value, flag, expanded_field}
 use Rattle.dc_question.specs.declared.errors.QuestionError.{QuestionError}
 use Rattle.dc_question.specs.declared.errors.QuestionError.TheVariants.{NoQuestion, NoField}
-use Rattle.dc_session.specs.Asking.{is_among, description, is_to_be_shown, prepared_if, choices_for, skipped, first_busy, bar_at}
-use Rattle.dc_session.specs.Refusals.{refusal, is_busy, bad_flag_value, no_progress_bar, version_not_supported, read_fault, no_template_file, bad_template_file}
-use Rattle.dc_session.specs.SessionState.{FilesState, SessionState}
+use Rattle.dc_teletype.specs.declared.teletype.Asked.{Asked}
+use Rattle.dc_teletype.specs.declared.teletype.Asked.TheVariants.{Answers, Back}
+use Rattle.dc_session.specs.Asking.{is_among, description, is_to_be_shown, prepared_if, choices_for, skipped, to_show, first_fixed, values_given, were_shown, first_busy, bar_at}
+use Rattle.dc_session.specs.Refusals.{refusal, cant_change, is_busy, bad_flag_value, no_progress_bar, version_not_supported, read_fault, no_template_file, bad_template_file}
+use Rattle.dc_session.specs.SessionState.{FilesState, TerminalState, SessionState}
 use Rattle.dc_session.specs.declared.asking.Asking.{Asking}
 use Rattle.dc_session.specs.declared.asking.Bar.{Bar}
 use Rattle.dc_session.specs.declared.stepped.Stepped.{Stepped}
 use Rattle.dc_session.specs.declared.stepped.Stepped.TheVariants.{Replied, Stopped}
 use Rattle.dc_session.specs.declared.template_files.Found.{Found}
 use Rattle.dc_session.specs.declared.template_files.Found.TheVariants.{Unreadable, Missing, Faulty, Templates}
+
+-- what the outside gives a command: what is found where it looks for a file, and what is answered where it asks
+pub record Given : Type 0 where
+  pub found : Found
+  pub asked : Asked
+
+-- what a command is given that neither looks for a file nor asks
+abbrev pub nothing : Given
+nothing = record { found = Missing; asked = Answers [] }
 
 -- what a command comes to: its reply, the store that is left, and what is asked for then
 pub record Outcome : Type 0 where
@@ -113,10 +126,35 @@ field_read state field name =
     if is_field_key (each lower field) then expanded_field state.store.layers state.at name (each lower field)
     else read name (question state.store.layers state.at name) (λ item. read_template name (template state.store.layers state.at item) (λ template. Err NoField))
 
+-- what is told that can be done: to back up where a user is asked
+abbrev pub capabilities : Frontend → List ℕ
+capabilities Noninteractive = codes "multiselect escape"
+capabilities Teletype = codes "multiselect escape backup"
+
+-- without a user a question is skipped
+abbrev pub input_reply : Frontend → Bool → Reply
+input_reply Noninteractive shown = reply 30 (codes "question skipped")
+input_reply Teletype shown = if shown then reply 0 (codes "question will be asked") else reply 30 (codes "question skipped")
+
 -- the prepared questions were set to their choices, or one of them can't be changed
 abbrev pub gone : SessionState → Result StoreState QuestionError → Outcome
 gone state (Ok store) = record { stepped = Replied (reply 0 (codes "ok")); store = store; asking = skipped state }
 gone state (Err error) = tells state (refusal [] error)
+
+-- the questions that were shown were set to the values that they were given; one that can't be changed isn't shown
+abbrev pub answered : SessionState → Result StoreState QuestionError → Outcome
+answered state (Ok store) = record { stepped = Replied (reply 0 (codes "ok")); store = store; asking = were_shown state }
+answered state (Err error) = tells state (refusal [] error)
+
+-- what a dialogue over the prepared questions comes to: the user went back, and nothing is prepared any more, or answered them
+abbrev pub heard_out : SessionState → Asked → Outcome
+heard_out state Back = asks state (reply 30 (codes "backup")) (record state.asking { prepared = [] })
+heard_out state (Answers answers) = answered state (values_set state.store state.at (values_given (to_show state) answers))
+
+-- GO asks the prepared questions, unless the value of one can't be changed; without a user it sets those to a choice that have to have one
+abbrev pub going : Frontend → SessionState → Asked → Outcome
+going Noninteractive state asked = gone state (values_set state.store state.at (choices_for state))
+going Teletype state asked = option_map_or (λ name. tells state (cant_change name)) (first_fixed state) (heard_out state asked)
 
 -- what the templates of a file that was looked for come to, with an owner for their questions
 abbrev pub loading : SessionState → List ℕ → Found → Outcome
@@ -127,68 +165,73 @@ loading state owner (Templates templates) = does state (reply 0 []) (loaded stat
 
 -- ---- the table of commands
 
--- What a command comes to, with what was found where it looks for a file.
-abbrev pub answer : SessionState → Command → Found → Outcome
+-- What a command comes to, with what it was given.
+abbrev pub answer : SessionState → Command → Given → Outcome
 -- VERSION [version]
-answer state (Version version) found = tells state (if is_supported version then reply 0 (codes "2.0") else version_not_supported)
+answer state (Version version) given = tells state (if is_supported version then reply 0 (codes "2.0") else version_not_supported)
 -- CAPB capabilities
-answer state (Capb words) found = asks state (reply 0 (codes "multiselect escape")) (capable state.asking words)
+answer state (Capb words) given = asks state (reply 0 (capabilities state.manner.frontend)) (capable state.asking words)
 -- SETTITLE question
-answer state (SetTitle word) found = by state (λ text. asks state (reply 0 []) (titled state.asking text)) (on word (description state.store.layers state.at))
+answer state (SetTitle word) given = by state (λ text. asks state (reply 0 []) (titled state.asking text)) (on word (description state.store.layers state.at))
 -- TITLE value
-answer state (Title text) found = asks state (reply 0 []) (titled state.asking text)
--- INPUT priority question: without a user it is skipped, and what is to be shown is prepared
-answer state (Input priority word) found = by state (λ shown. asks state (reply 30 (codes "question skipped")) (prepared_if shown state.asking word)) (on word (is_to_be_shown state priority))
+answer state (Title text) given = asks state (reply 0 []) (titled state.asking text)
+-- INPUT priority question: what is to be shown is prepared
+answer state (Input priority word) given = by state (λ shown. asks state (input_reply state.manner.frontend shown) (prepared_if shown state.asking word)) (on word (is_to_be_shown state priority))
 -- BEGINBLOCK
-answer state BeginBlock found = tells state (reply 0 [])
+answer state BeginBlock given = tells state (reply 0 [])
 -- ENDBLOCK
-answer state EndBlock found = tells state (reply 0 [])
+answer state EndBlock given = tells state (reply 0 [])
 -- GO
-answer state Go found = gone state (values_set state.store state.at (choices_for state))
+answer state Go given = going state.manner.frontend state given.asked
 -- CLEAR: nothing is prepared
-answer state Clear found = asks state (reply 0 []) (record state.asking { prepared = [] })
+answer state Clear given = asks state (reply 0 []) (record state.asking { prepared = [] })
 -- STOP: the session ends, and there is no reply
-answer state Stop found = record { stepped = Stopped; store = state.store; asking = state.asking }
+answer state Stop given = record { stepped = Stopped; store = state.store; asking = state.asking }
 -- GET question
-answer state (Get word) found = says state [] (text_reply state) (on word (value state.store.layers state.at))
+answer state (Get word) given = says state [] (text_reply state) (on word (value state.store.layers state.at))
 -- SET question value
-answer state (Set word text) found = does state (reply 0 (codes "value set")) (on word (λ name. value_set state.store state.at name text))
+answer state (Set word text) given = does state (reply 0 (codes "value set")) (on word (λ name. value_set state.store state.at name text))
 -- RESET question
-answer state (Reset word) found = does state (reply 0 []) (on word (value_reset state.store state.at))
+answer state (Reset word) given = does state (reply 0 []) (on word (value_reset state.store state.at))
 -- SUBST question key value
-answer state (Subst word key text) found = does state (reply 0 []) (on word (λ name. variable_set state.store state.at name key text))
+answer state (Subst word key text) given = does state (reply 0 []) (on word (λ name. variable_set state.store state.at name key text))
 -- FGET question flag
-answer state (Fget word key) found = says state [] (λ is. reply 0 (truth is)) (on word (λ name. flag state.store.layers state.at name key))
+answer state (Fget word key) given = says state [] (λ is. reply 0 (truth is)) (on word (λ name. flag state.store.layers state.at name key))
 -- FSET question flag value
-answer state (Fset word key text) found =
+answer state (Fset word key text) given =
     if is_truth text then does state (reply 0 text) (on word (λ name. flag_set state.store state.at name key (bytes_eq text (codes "true"))))
     else says state [] (λ is. bad_flag_value) (on word (λ name. flag state.store.layers state.at name key))
 -- METAGET question field
-answer state (Metaget word field) found = says state field (text_reply state) (on word (field_read state field))
+answer state (Metaget word field) given = says state field (text_reply state) (on word (field_read state field))
 -- REGISTER template question
-answer state (Register template name) found = does state (reply 0 []) (registered state.store state.at template name state.owner)
+answer state (Register template name) given = does state (reply 0 []) (registered state.store state.at template name state.owner)
 -- UNREGISTER question
-answer state (Unregister word) found =
+answer state (Unregister word) given =
     by state (λ name. unless_busy state (name ∷ []) (does state (reply 0 []) (unregistered state.store state.at name state.owner))) (on word (there state))
 -- PURGE
-answer state Purge found = unless_busy state (owned state.store.layers state.at.config state.owner) (does state (reply 0 []) (purged state.store state.at state.owner))
+answer state Purge given = unless_busy state (owned state.store.layers state.at.config state.owner) (does state (reply 0 []) (purged state.store state.at state.owner))
 -- PROGRESS START min max question
-answer state (ProgressStart low high word) found =
+answer state (ProgressStart low high word) given =
     by state (λ name. asks state (reply 0 (codes "OK")) (with_bar state.asking (Some (record { min = low; max = high; place = low })))) (on word (there state))
 -- PROGRESS SET number
-answer state (ProgressSet number) found = on_bar state (λ bar. asks state (reply 0 (codes "OK")) (with_bar state.asking (Some (bar_at bar number))))
+answer state (ProgressSet number) given = on_bar state (λ bar. asks state (reply 0 (codes "OK")) (with_bar state.asking (Some (bar_at bar number))))
 -- PROGRESS STEP number
-answer state (ProgressStep number) found = on_bar state (λ bar. asks state (reply 0 (codes "OK")) (with_bar state.asking (Some (bar_at bar (bar.place + number)))))
+answer state (ProgressStep number) given = on_bar state (λ bar. asks state (reply 0 (codes "OK")) (with_bar state.asking (Some (bar_at bar (bar.place + number)))))
 -- PROGRESS INFO question
-answer state (ProgressInfo word) found = on_bar state (λ bar. by state (λ name. tells state (reply 0 (codes "OK"))) (on word (there state)))
+answer state (ProgressInfo word) given = on_bar state (λ bar. by state (λ name. tells state (reply 0 (codes "OK"))) (on word (there state)))
 -- PROGRESS STOP
-answer state ProgressStop found = on_bar state (λ bar. asks state (reply 0 (codes "OK")) (with_bar state.asking None))
+answer state ProgressStop given = on_bar state (λ bar. asks state (reply 0 (codes "OK")) (with_bar state.asking None))
 -- X_LOADTEMPLATEFILE path [owner]
-answer state (LoadTemplateFile path owner) found = loading state (unwrap_or owner state.owner) found
+answer state (LoadTemplateFile path owner) given = loading state (unwrap_or owner state.owner) given.found
 
--- the state that it leaves, with the files as they are then
-abbrev pub after_command : SessionState → Command → Found → FilesState → SessionState
-after_command state command found files = record state { store = (answer state command found).store; files = files; asking = (answer state command found).asking }
+-- the state that it leaves, with the files and the terminal as they are then
+abbrev pub after_command : SessionState → Command → Given → FilesState → TerminalState → SessionState
+after_command state command given files terminal = record state {
+  store = (answer state command given).store;
+  files = files;
+  terminal = terminal;
+  asking = (answer state command given).asking;
+}
 
 -- ---- what may change
 
@@ -196,15 +239,21 @@ abbrev pub load_names : SessionState → List ℕ → Found → List (List ℕ)
 load_names state owner (Templates templates) = names_of (load_row state.store.layers state.at owner templates)
 load_names state owner _ = []
 
+-- the questions that GO sets
+abbrev pub going_names : Frontend → SessionState → Asked → List (List ℕ)
+going_names Noninteractive state asked = each (λ answer. answer.0) (choices_for state)
+going_names Teletype state (Answers answers) = each (λ answer. answer.0) (values_given (to_show state) answers)
+going_names Teletype state Back = []
+
 -- the names of the items that a command's writes are on
-abbrev pub names_on : SessionState → Command → Found → List (List ℕ)
-names_on state Go found = each (λ answer. answer.0) (choices_for state)
-names_on state (Set word text) found = word ∷ []
-names_on state (Reset word) found = word ∷ []
-names_on state (Subst word key text) found = word ∷ []
-names_on state (Fset word key text) found = word ∷ []
-names_on state (Register template name) found = template ∷ name ∷ []
-names_on state (Unregister word) found = names_of (leave_row state.store.layers state.at state.owner (word ∷ []))
-names_on state Purge found = names_of (leave_row state.store.layers state.at state.owner (owned state.store.layers state.at.config state.owner))
-names_on state (LoadTemplateFile path owner) found = load_names state (unwrap_or owner state.owner) found
-names_on state command found = []
+abbrev pub names_on : SessionState → Command → Given → List (List ℕ)
+names_on state Go given = going_names state.manner.frontend state given.asked
+names_on state (Set word text) given = word ∷ []
+names_on state (Reset word) given = word ∷ []
+names_on state (Subst word key text) given = word ∷ []
+names_on state (Fset word key text) given = word ∷ []
+names_on state (Register template name) given = template ∷ name ∷ []
+names_on state (Unregister word) given = names_of (leave_row state.store.layers state.at state.owner (word ∷ []))
+names_on state Purge given = names_of (leave_row state.store.layers state.at state.owner (owned state.store.layers state.at.config state.owner))
+names_on state (LoadTemplateFile path owner) given = load_names state (unwrap_or owner state.owner) given.found
+names_on state command given = []

@@ -1,26 +1,33 @@
 -- What a confmodule asks for, and what becomes of it (debconf-devel(7)): its capabilities, the title, questions that are prepared and asked,
 -- and the progress bar.
-use Rattle.std.specs.Prelude.{ℕ, min, max, Bool, List, [], ◌∷◌, ◌++◌, Option, Some, None, fold, filter, is_some, option_map, option_and_then, unwrap_or, Result, Ok, Err, if◌then◌else◌, codes}
+use Rattle.std.specs.Prelude.{ℕ, min, max, Bool, List, [], ◌∷◌, ◌++◌, not, ◌&&◌, Option, Some, None, fold, filter, is_some, map as each, zip, option_map, option_and_then, unwrap_or, Result, Ok, Err, if◌then◌else◌, codes}
 use Rattle.std.specs.List.{list_any, find, filter_map}
-use Rattle.std.specs.Option.{option_or}
+use Rattle.std.specs.Option.{option_or, option_map_or}
 use Rattle.std.specs.Result.{result_ok, result_unwrap_or}
 use Rattle.std.specs.Str.{bytes_eq}
+use Rattle.dc_frontend.specs.Frontends.{frontend_of}
 use Rattle.dc_frontend.specs.Settling.{settled_choice}
 use Rattle.dc_frontend.specs.Showing.{is_shown}
+use Rattle.dc_frontend.specs.declared.frontend.Frontend.{Frontend}
+use Rattle.dc_frontend.specs.declared.frontend.Frontend.TheVariants.{Teletype}
 use Rattle.dc_frontend.specs.declared.shown.Shown.{Shown}
 use Rattle.dc_layer.specs.State.{LayerState}
 use Rattle.dc_proto.specs.Priorities.{priority_of}
 use Rattle.dc_proto.specs.declared.priority.Priority.{Priority}
 use Rattle.dc_proto.specs.declared.priority.Priority.TheVariants.{High}
 use Rattle.dc_question.specs.Changes.{flag_set}
-use Rattle.dc_question.specs.Questions.{Setting, value, flag, kind, expanded_field, choices}
+use Rattle.dc_question.specs.Questions.{Setting, value, flag, kind, can_change, expanded_field, choices}
 use Rattle.dc_question.specs.declared.errors.QuestionError.{QuestionError}
 use Rattle.dc_question.specs.declared.errors.QuestionError.TheVariants.{NoQuestion, NoTemplate}
 use Rattle.dc_store.specs.Plans.{StoreState}
+use Rattle.dc_teletype.specs.declared.teletype.Answer.{Answer}
+use Rattle.dc_teletype.specs.declared.teletype.Answer.TheVariants.{Keep, Value}
 use Rattle.dc_template.specs.declared.kinds.Kind.{Kind}
+use Rattle.dc_template.specs.declared.kinds.Kind.TheVariants.{Note, Txt, Error, Title}
 use Rattle.dc_session.specs.SessionState.{SessionState}
 use Rattle.dc_session.specs.declared.asking.Asking.{Asking}
 use Rattle.dc_session.specs.declared.asking.Bar.{Bar}
+use Rattle.dc_session.specs.declared.manner.Manner.{Manner}
 
 -- the text is among the texts
 abbrev pub is_among : List (List ℕ) → List ℕ → Bool
@@ -39,6 +46,14 @@ nothing_asked = record { escape = Bool.false; backup = Bool.false; title = []; p
 -- the least priority of a question that is shown: the one that was chosen, else the one that the value of `debconf/priority` names, else high
 abbrev pub threshold_by : Option Priority → List LayerState → Setting → Priority
 threshold_by chosen layers at = unwrap_or (option_or chosen (option_and_then priority_of (result_ok (value layers at (codes "debconf/priority"))))) High
+
+-- the frontend: the one that was chosen, else the one that the value of `debconf/frontend` names, else the teletype
+abbrev pub frontend_by : Option Frontend → List LayerState → Setting → Frontend
+frontend_by chosen layers at = unwrap_or (option_or chosen (option_and_then frontend_of (result_ok (value layers at (codes "debconf/frontend"))))) Teletype
+
+-- how questions are asked, by what was chosen
+abbrev pub manner_by : Option Frontend → Option Priority → Bool → List LayerState → Setting → Manner
+manner_by frontend threshold nonint_seen layers at = record { frontend = frontend_by frontend layers at; threshold = threshold_by threshold layers at; nonint_seen = nonint_seen }
 
 -- ---- descriptions
 
@@ -68,7 +83,7 @@ is_to_be_shown state priority name = shown_by state priority name (kind state.st
 abbrev pub prepared_if : Bool → Asking → List ℕ → Asking
 prepared_if shown asking name = if shown then record asking { prepared = with_name asking.prepared name } else asking
 
--- ---- what GO does without a user
+-- ---- the questions that GO asks
 
 -- the prepared questions that are there and have a kind
 abbrev pub askable : SessionState → List (List ℕ)
@@ -86,6 +101,8 @@ shown layers at name kind = record {
   value = result_unwrap_or (value layers at name) [];
 }
 
+-- ---- what GO does without a user
+
 -- the question with the choice that it is set to, where it is set to one
 abbrev pub choice_for : List LayerState → Setting → List ℕ → Option (List ℕ × List ℕ)
 choice_for layers at name = option_map (λ choice. (name, choice)) (option_and_then (λ k. settled_choice (shown layers at name k)) (kind layers at name))
@@ -97,6 +114,43 @@ choices_for state = filter_map (choice_for state.store.layers state.at) state.as
 -- nothing is prepared any more, and the questions that were skipped are asked, where that is the manner
 abbrev pub skipped : SessionState → Asking
 skipped state = record state.asking { prepared = []; asked = if state.manner.nonint_seen then fold with_name state.asking.asked (askable state) else state.asking.asked }
+
+-- ---- what GO does with a user
+
+-- the prepared questions that are there and have a kind, as they are shown
+abbrev pub to_show : SessionState → List Shown
+to_show state = filter_map (λ name. option_map (shown state.store.layers state.at name) (kind state.store.layers state.at name)) state.asking.prepared
+
+-- a question of this kind has a value, which an answer sets
+abbrev pub has_value : Kind → Bool
+has_value Note = Bool.false
+has_value Txt = Bool.false
+has_value Error = Bool.false
+has_value Title = Bool.false
+has_value kind = Bool.true
+
+-- the question has a value that can't be changed
+abbrev pub is_fixed : List LayerState → Setting → List ℕ → Bool
+is_fixed layers at name = option_map_or (λ k. has_value k && not (can_change layers at name)) (kind layers at name) Bool.false
+
+-- the first prepared question whose value can't be changed
+abbrev pub first_fixed : SessionState → Option (List ℕ)
+first_fixed state = find (is_fixed state.store.layers state.at) state.asking.prepared
+
+-- the question with the value that it was given, where it was given one
+abbrev pub value_given : Shown → Answer → Option (List ℕ × List ℕ)
+value_given question Keep = None
+value_given question (Value text) = Some (question.name, text)
+
+-- the questions with the values that they were given, in their order
+abbrev pub values_given : List Shown → List Answer → List (List ℕ × List ℕ)
+values_given questions answers = filter_map (λ pair. value_given pair.0 pair.1) (zip questions answers)
+
+-- nothing is prepared any more, and the questions that were shown are asked
+abbrev pub were_shown : SessionState → Asking
+were_shown state = record state.asking { prepared = []; asked = fold with_name state.asking.asked (each (λ s. s.name) (to_show state)) }
+
+-- ---- busy questions
 
 -- the first of the questions that is prepared
 abbrev pub first_busy : Asking → List (List ℕ) → Option (List ℕ)

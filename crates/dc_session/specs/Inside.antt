@@ -1,21 +1,28 @@
 -- What the inner functions of a session promise. No public clause cites these.
-use Rattle.std.specs.Prelude.{◌≡◌, ℕ, true, false, List, map as each, Option, Some, None, Result, Ok, Err, IfOk}
+use Rattle.std.specs.Prelude.{◌≡◌, ◌⊎◌, ℕ, true, false, List, [], map as each, Option, Some, None, Result, Ok, Err, IfOk}
 use Rattle.dc_text.specs.declared.memory.OutOfMemory.{OutOfMemory}
 use Rattle.dc_text.specs.Maps.{AreDistinct}
 use Rattle.dc_text.specs.Names.{is_name}
+use Rattle.dc_outside.specs.declared.link.LinkError.{LinkError}
+use Rattle.dc_outside.specs.declared.link.LinkError.TheVariants as link
 use Rattle.dc_proto.specs.declared.command.Heard.{Heard}
 use Rattle.dc_proto.specs.Replies.{reply}
 use Rattle.dc_proto.specs.declared.reply.Reply.{Reply}
 use Rattle.dc_store.specs.StoreLaws.{AreSameButAll}
 use Rattle.dc_question.specs.declared.errors.QuestionError.{QuestionError}
 use Rattle.dc_question.specs.declared.errors.QuestionError.TheVariants as error
+use Rattle.dc_teletype.specs.declared.teletype.Asked.{Asked}
+use Rattle.dc_teletype.specs.declared.teletype.Asked.TheVariants.{Answers}
 use Rattle.dc_template.specs.Reading.{IsAnswer}
 use Rattle.dc_template.specs.declared.faults.TemplateKind.{TemplateKind}
 use Rattle.dc_template.specs.declared.faults.TemplateError.TheVariants.{Bad}
 use Rattle.dc_session.specs.Answers.{Outcome, says, text_reply, field_read}
 use Rattle.dc_session.specs.Machine.{StepsHeard, BreaksHeard}
 use Rattle.dc_session.specs.Refusals.{refusal}
+use Rattle.dc_session.specs.Displays.{Display, Shows}
 use Rattle.dc_session.specs.SessionState.{SessionState}
+use Rattle.dc_session.specs.declared.stepped.StepError.{StepError}
+use Rattle.dc_session.specs.declared.stepped.StepError.TheVariants as step
 use Rattle.dc_session.specs.declared.stepped.Stepped.{Stepped}
 use Rattle.dc_session.specs.declared.stepped.Stepped.TheVariants.{Replied}
 use Rattle.dc_session.specs.declared.template_files.Found.{Found}
@@ -61,11 +68,53 @@ abbrev pub Comes : Outcome → List (List ℕ) → SessionState → SessionState
 Comes outcome names old new (Ok did) = (did ≡ outcome.stepped) × (new ≡ record old { store = outcome.store; asking = outcome.asking })
 Comes outcome names old new (Err memory) = AreSameButAll names old.store.layers new.store.layers × (new ≡ record old { store = new.store })
 
+-- The same, where memory running out may also leave more asked for.
+abbrev pub ComesAsking : Outcome → List (List ℕ) → SessionState → SessionState → Result Stepped OutOfMemory → Type 0
+ComesAsking outcome names old new (Ok did) = (did ≡ outcome.stepped) × (new ≡ record old { store = outcome.store; asking = outcome.asking })
+ComesAsking outcome names old new (Err memory) = AreSameButAll names old.store.layers new.store.layers × (new ≡ record old { store = new.store; asking = new.asking })
+
 -- a field of a question is told, unless memory ran out
 pub record ReadsField (state : SessionState) (field name : List ℕ) (result : Result Stepped OutOfMemory) : Type 0 where
   pub told_is : IfOk result (λ did. did ≡ (says state field (text_reply state) (field_read state field name)).stepped)
 
--- what a line does, or where memory ran out at it
-abbrev pub DoesHeard : Heard → SessionState → SessionState → Result Stepped OutOfMemory → Type 0
+-- what a line does, or how it came to nothing
+abbrev pub DoesHeard : Heard → SessionState → SessionState → Result Stepped StepError → Type 0
 DoesHeard heard old new (Ok did) = StepsHeard heard old did new
-DoesHeard heard old new (Err memory) = BreaksHeard heard old new
+DoesHeard heard old new (Err error) = BreaksHeard heard old error new
+
+-- ---- the terminal
+
+-- what a command comes to that uses no terminal
+abbrev pub lifted : Result Stepped OutOfMemory → Result Stepped StepError
+lifted (Ok did) = Ok did
+lifted (Err memory) = Err step.OutOfMemory
+
+-- why a line comes to nothing at which a call of the terminal had this answer
+abbrev pub step_error : LinkError → StepError
+step_error link.Failed = step.Term
+step_error link.OutOfMemory = step.OutOfMemory
+
+-- what a call of the terminal answered that only tells
+abbrev pub told : Result (Unit {0}) LinkError → Result Asked LinkError
+told (Ok done) = Ok (Answers [])
+told (Err error) = Err error
+
+-- this was shown on the terminal, and nothing else was done
+pub record HasShown (display : Display) (old : SessionState) (result : Result Asked LinkError) (new : SessionState) : Type 0 where
+  pub shows : Shows old.asking display old.terminal result new.terminal
+  pub kept : new ≡ record old { terminal = new.terminal }
+
+-- how that stopped; memory may run out before anything is shown
+abbrev pub StopsShowing : Display → SessionState → StepError → SessionState → Type 0
+StopsShowing display old step.Term new = HasShown display old (Err link.Failed) new
+StopsShowing display old step.OutOfMemory new = (new ≡ old) ⊎ HasShown display old (Err link.OutOfMemory) new
+
+-- this is shown by a call that says what was answered
+abbrev pub Asks : Display → SessionState → SessionState → Result Asked StepError → Type 0
+Asks display old new (Ok asked) = HasShown display old (Ok asked) new
+Asks display old new (Err error) = StopsShowing display old error new
+
+-- and by one that only tells
+abbrev pub TellsUser : Display → SessionState → SessionState → Result (Unit {0}) StepError → Type 0
+TellsUser display old new (Ok done) = HasShown display old (Ok (Answers [])) new
+TellsUser display old new (Err error) = StopsShowing display old error new

@@ -1,5 +1,6 @@
 pub mod Answers
 pub mod Asking
+pub mod Displays
 pub mod Escaping
 pub mod FileLoading
 pub mod Inside

@@ -1,6 +1,7 @@
 -- The plain machine behind a link: what a line does, and what it leaves.
 use Rattle.std.specs.Prelude.{◌≡◌, ◌⊎◌, ℕ, Bool, List, Option, Some, None, Result, Ok, Err}
-use Rattle.dc_text.specs.declared.memory.OutOfMemory.{OutOfMemory}
+use Rattle.dc_outside.specs.declared.link.LinkError.TheVariants.{Failed, OutOfMemory}
+use Rattle.dc_text.specs.declared.memory.OutOfMemory as memory
 use Rattle.dc_words.specs.declared.stream.Line.{Line}
 use Rattle.dc_words.specs.declared.stream.Line.TheVariants.{Whole, TooLong}
 use Rattle.dc_proto.specs.Commands.{heard}
@@ -12,8 +13,11 @@ use Rattle.dc_proto.specs.declared.command.Heard.TheVariants.{Nothing, Known, Re
 use Rattle.dc_store.specs.StoreLaws.{AreSameButAll}
 use Rattle.dc_serve.specs.declared.heeds.Heeded.{Heeded}
 use Rattle.dc_serve.specs.declared.heeds.Heeded.TheVariants as heeded
-use Rattle.dc_session.specs.Answers.{answer, after_command, names_on}
-use Rattle.dc_session.specs.SessionState.{FilesState, SessionState}
+use Rattle.dc_session.specs.Answers.{Given, answer, after_command, names_on}
+use Rattle.dc_session.specs.Displays.{displayed, Shows}
+use Rattle.dc_session.specs.SessionState.{FilesState, TerminalState, SessionState}
+use Rattle.dc_session.specs.declared.stepped.StepError.{StepError}
+use Rattle.dc_session.specs.declared.stepped.StepError.TheVariants as step
 use Rattle.dc_session.specs.TemplateFiles.{Finds, FindsNoMemory}
 use Rattle.dc_session.specs.declared.stepped.Stepped.{Stepped}
 use Rattle.dc_session.specs.declared.stepped.Stepped.TheVariants.{Silent, Replied, Stopped}
@@ -32,29 +36,46 @@ abbrev pub Looks : Option (List ℕ) → FilesState → Found → FilesState →
 Looks None old found new = (found ≡ Missing) × (new ≡ old)
 Looks (Some path) old found new = Finds path old found new
 
-abbrev pub Gives : Command → FilesState → Found → FilesState → Type 0
-Gives command old found new = Looks (file_of command) old found new
+-- a command is given this, by the files and by the terminal
+pub record Gives (command : Command) (old : SessionState) (given : Given) (files : FilesState) (terminal : TerminalState) : Type 0 where
+  pub looks : Looks (file_of command) old.files given.found files
+  pub shows : Shows old.asking (displayed old command) old.terminal (Ok given.asked) terminal
 
 -- the command was answered, and left this
 pub record HasDone (command : Command) (old : SessionState) (stepped : Stepped) (new : SessionState) : Type 0 where
-  pub found : Found
-  pub gives : Gives command old.files found new.files
-  pub stepped_is : stepped ≡ (answer old command found).stepped
-  pub new_is : new ≡ after_command old command found new.files
+  pub given : Given
+  pub gives : Gives command old given new.files new.terminal
+  pub stepped_is : stepped ≡ (answer old command given).stepped
+  pub new_is : new ≡ after_command old command given new.files new.terminal
 
 -- what a command that looks at the files leaves of them where memory ran out in that
 abbrev pub LooksInVain : Option (List ℕ) → FilesState → FilesState → Type 0
 LooksInVain None old new = new ≡ old
 LooksInVain (Some path) old new = FindsNoMemory path old new
 
--- Memory ran out at a command: at most the items that its writes are on changed, and what was asked for.
+-- memory ran out where the command looked at the files, or where it used the terminal
+pub record GivesInPart (command : Command) (old new : SessionState) : Type 0 where
+  pub store : new.store ≡ old.store
+  pub gives : (LooksInVain (file_of command) old.files new.files × (new.terminal ≡ old.terminal))
+      ⊎ (Shows old.asking (displayed old command) old.terminal (Err OutOfMemory) new.terminal × (new.files ≡ old.files))
+
+-- it was given all, and then memory ran out: at most the items that its writes are on changed
+pub record LeavesInPart (command : Command) (old new : SessionState) : Type 0 where
+  pub given : Given
+  pub gives : Gives command old given new.files new.terminal
+  pub others : AreSameButAll (names_on old command given) old.store.layers new.store.layers
+
+-- Memory ran out at a command. What was asked for may have changed.
 pub record IsDoneInPart (command : Command) (old new : SessionState) : Type 0 where
-  pub found : Found
-  pub gives : Gives command old.files found new.files ⊎ LooksInVain (file_of command) old.files new.files
-  pub others : AreSameButAll (names_on old command found) old.store.layers new.store.layers
+  pub part : GivesInPart command old new ⊎ LeavesInPart command old new
   pub at : new.at ≡ old.at
   pub owner : new.owner ≡ old.owner
   pub manner : new.manner ≡ old.manner
+
+-- the terminal failed at a command, and nothing else has changed
+pub record FailsToShow (command : Command) (old new : SessionState) : Type 0 where
+  pub shows : Shows old.asking (displayed old command) old.terminal (Err Failed) new.terminal
+  pub new_is : new ≡ record old { terminal = new.terminal }
 
 -- ---- lines
 
@@ -80,18 +101,32 @@ pub record Heeds (old : SessionState) (line : Line) (did : Heeded) (new : Sessio
   pub steps : Steps old line stepped new
   pub did_is : did ≡ sent_in old.asking.escape stepped
 
-abbrev pub BreaksHeard : Heard → SessionState → SessionState → Type 0
-BreaksHeard Nothing old new = new ≡ old
-BreaksHeard (Known command) old new = (new ≡ old) ⊎ IsDoneInPart command old new
-BreaksHeard (Refused reply) old new = new ≡ old
+-- what a command leaves that isn't answered
+abbrev pub BreaksOff : Command → SessionState → StepError → SessionState → Type 0
+BreaksOff command old step.OutOfMemory new = (new ≡ old) ⊎ IsDoneInPart command old new
+BreaksOff command old step.Term new = FailsToShow command old new
 
--- memory ran out at a line
-abbrev pub Breaks : SessionState → Line → OutOfMemory → SessionState → Type 0
-Breaks old TooLong error new = new ≡ old
-Breaks old (Whole line) error new = BreaksHeard (heard old.asking.escape line) old new
+-- memory ran out where nothing is done
+abbrev pub BreaksIdle : SessionState → StepError → SessionState → Type 0
+BreaksIdle old step.OutOfMemory new = new ≡ old
+BreaksIdle old step.Term new = ⊥
 
--- ---- what the calls of a session do: they are answered, or memory ran out
+abbrev pub BreaksHeard : Heard → SessionState → StepError → SessionState → Type 0
+BreaksHeard Nothing old error new = BreaksIdle old error new
+BreaksHeard (Known command) old error new = BreaksOff command old error new
+BreaksHeard (Refused reply) old error new = BreaksIdle old error new
 
-abbrev pub Does : Command → SessionState → SessionState → Result Stepped OutOfMemory → Type 0
+-- memory ran out at a line, or the terminal failed
+abbrev pub Breaks : SessionState → Line → StepError → SessionState → Type 0
+Breaks old TooLong error new = BreaksIdle old error new
+Breaks old (Whole line) error new = BreaksHeard (heard old.asking.escape line) old error new
+
+-- ---- what the calls of a session do: they are answered, or memory ran out, or the terminal failed
+
+abbrev pub Does : Command → SessionState → SessionState → Result Stepped memory.OutOfMemory → Type 0
 Does command old new (Ok did) = HasDone command old did new
-Does command old new (Err error) = (new ≡ old) ⊎ IsDoneInPart command old new
+Does command old new (Err error) = BreaksOff command old step.OutOfMemory new
+
+abbrev pub DoesShowing : Command → SessionState → SessionState → Result Stepped StepError → Type 0
+DoesShowing command old new (Ok did) = HasDone command old did new
+DoesShowing command old new (Err error) = BreaksOff command old error new

@@ -1,9 +1,10 @@
 -- What a session works on.
-use Rattle.std.specs.Prelude.{ℕ, List, Option}
+use Rattle.std.specs.Prelude.{ℕ, Bool, List, [], Option, None}
 use Rattle.dc_outside.specs.Told.{Told, Counts}
 use Rattle.dc_outside.specs.declared.link.Piece.{Piece}
 use Rattle.dc_store.specs.Plans.{StoreState}
 use Rattle.dc_question.specs.Questions.{Setting}
+use Rattle.dc_teletype.specs.TerminalLines.{Ahead}
 use Rattle.dc_session.specs.declared.asking.Asking.{Asking}
 use Rattle.dc_session.specs.declared.manner.Manner.{Manner}
 
@@ -18,11 +19,25 @@ pub record LinkState : Type 0 where
   pub input : Option (List ℕ)
   pub counts : Counts
 
--- the layers and what they told; the files; where questions and templates stand in the layers, with the user's language; the owner for
+-- nothing was typed on a terminal that wasn't used
+abbrev pub nothing_typed : Ahead
+nothing_typed = record { held = []; has_ended = Bool.false }
+
+-- a terminal, and what was typed there and isn't used yet
+pub record TerminalState : Type 0 where
+  pub link : LinkState
+  pub ahead : Ahead
+
+-- the terminal of a session that asks nobody
+abbrev pub no_terminal : TerminalState
+no_terminal = record { link = record { talk = None; input = None; counts = record { faults = 0; refusals = 0 } }; ahead = nothing_typed }
+
+-- the layers and what they told; the files; the terminal; where questions and templates stand in the layers, with the user's language; the owner for
 -- whom questions are registered; how questions are asked; and what was asked for so far
 pub record SessionState : Type 0 where
   pub store : StoreState
   pub files : FilesState
+  pub terminal : TerminalState
   pub at : Setting
   pub owner : List ℕ
   pub manner : Manner

@@ -1,6 +1,7 @@
 // What a confmodule has said of itself and asked for.
 ghost use Rattle.std.specs.Prelude.{◌≡◌, ◌+◌};
 ghost use Rattle.dc_session.specs.Asking.{nothing_asked, bar_at};
+ghost use Rattle.dc_session.specs.Displays.{percent as percent_of};
 
 use crate::name_set::NameSet;
 use dc_text::Text;
@@ -24,6 +25,17 @@ impl Bar {
             place: within as u32,
             ..self
         }
+    }
+
+    /// How much of its way it is along, in whole percent, rounded down (debconf-devel(7), PROGRESS SET). All of it where there is no way.
+    pub fn percent(self) -> u64
+        ensures { result ≡ percent_of self }
+    {
+        if self.max <= self.min {
+            return 100;
+        }
+        let along = u64::from(self.place.saturating_sub(self.min));
+        along * 100 / u64::from(self.max - self.min)
     }
 
     /// The bar this much further, at most at its bound.

@@ -9,6 +9,7 @@ ghost use Rattle.dc_outside.specs.Disk.{Disk};
 ghost use Rattle.dc_outside.specs.declared.files.FilesCall.{FilesCall};
 ghost use Rattle.dc_outside.specs.declared.link.Piece.{Piece};
 ghost use Rattle.dc_outside.specs.declared.link.Piece.TheVariants.{Got};
+ghost use Rattle.dc_frontend.specs.declared.frontend.Frontend.TheVariants.{Noninteractive};
 ghost use Rattle.dc_proto.specs.Commands.{heard};
 ghost use Rattle.dc_proto.specs.declared.command.Command.{Command};
 ghost use Rattle.dc_proto.specs.declared.command.Command.TheVariants.{Get, Set};
@@ -19,13 +20,13 @@ ghost use Rattle.dc_serve.specs.Course.{Turn, lines_of, state_after, IsCourse};
 ghost use Rattle.dc_serve.specs.Step.{IsRead, InStep};
 ghost use Rattle.dc_serve.specs.declared.heeds.Heeded.{Heeded};
 ghost use Rattle.dc_serve.specs.declared.heeds.Heeded.TheVariants as heeded;
-ghost use Rattle.dc_session.specs.Answers.{answer, names_on, text_reply};
+ghost use Rattle.dc_session.specs.Answers.{nothing, answer, names_on, text_reply};
 ghost use Rattle.dc_session.specs.Escaping.{set_line, unescaped};
-ghost use Rattle.dc_session.specs.Machine.{Heeds, Steps, HasDone};
+ghost use Rattle.dc_session.specs.Machine.{Heeds, Steps, Breaks, HasDone};
 ghost use Rattle.dc_session.specs.SessionState.{SessionState};
+ghost use Rattle.dc_session.specs.declared.stepped.StepError.TheVariants.{Term};
 ghost use Rattle.dc_session.specs.declared.stepped.Stepped.{Stepped};
 ghost use Rattle.dc_session.specs.declared.stepped.Stepped.TheVariants.{Replied};
-ghost use Rattle.dc_session.specs.declared.template_files.Found.TheVariants.{Missing};
 
 /// A line that is refused, by a reply of code 10, 20 or 100, changes neither the store nor what was asked for. It may have read a file. One of
 /// code 1 or 30 leaves the store too.
@@ -37,12 +38,13 @@ pub fn refused_commands_change_nothing()
 
 /// A command changes at most the items that its writes are on, in whichever layers they stand.
 pub fn other_items_stay()
-    ensures { (old new : SessionState) (command : Command) (stepped : Stepped) → (done : HasDone command old stepped new) → AreSameButAll (names_on old command done.found) old.store.layers new.store.layers }
+    ensures { (old new : SessionState) (command : Command) (stepped : Stepped) → (done : HasDone command old stepped new) → AreSameButAll (names_on old command done.given) old.store.layers new.store.layers }
 {}
 
-/// Where the files tell of the disk and of the calls on them, the lines and the files determine what a session says and leaves.
+/// Where the files tell of the disk and of the calls on them, the lines and the files determine what a session says and leaves that asks
+/// nobody.
 pub fn lines_and_files_determine_the_course()
-    ensures { (start : SessionState) (disk : Disk) (calls : List FilesCall) (a b : List (Turn SessionState)) → start.files.told ≡ record { disk = Some disk; calls = Some calls }
+    ensures { (start : SessionState) (disk : Disk) (calls : List FilesCall) (a b : List (Turn SessionState)) → start.files.told ≡ record { disk = Some disk; calls = Some calls } → start.manner.frontend ≡ Noninteractive
         → IsCourse Heeds start a → IsCourse Heeds start b → lines_of a ≡ lines_of b → each (λ turn. turn.new.files) a ≡ each (λ turn. turn.new.files) b → a ≡ b }
 {}
 
@@ -65,11 +67,19 @@ pub fn read_faults_are_counted()
     ensures stays { (command : Command) (old new : SessionState) (reply : Reply) → HasDone command old (Replied reply) new → reply.code ≢ 100 → new.files.counts ≡ old.files.counts }
 {}
 
+/// A session that comes to nothing at a line for a fault of its terminal counted one there, and at a line that is answered the terminal counts
+/// nothing. One that asks nobody meets no such fault.
+pub fn terminal_faults_are_counted()
+    ensures failed { (old new : SessionState) (line : Line) → Breaks old line Term new → FaultRose old.terminal.link.counts new.terminal.link.counts }
+    ensures stays { (start : SessionState) (turns : List (Turn SessionState)) → IsCourse Heeds start turns → (state_after start turns).terminal.link.counts ≡ start.terminal.link.counts }
+    ensures nobody { (old new : SessionState) (line : Line) → old.manner.frontend ≡ Noninteractive → Breaks old line Term new → ⊥ }
+{}
+
 /// In escape mode a question can be set to any text, and GET tells the text that it was set to, whatever bytes it has, once its escapes are
 /// put back. Values are settled, so that a pair of a backslash and an n in it is a newline. The plan of questions has no backup here.
 pub fn escaped_values_come_back()
     ensures heard { (question text : List ℕ) → question ≢ [] → text ≢ [] → heard true (set_line question text) ≡ Known (Set question text) }
     ensures told { (old mid : SessionState) (question text : List ℕ) (reply : Reply) → old.at.config.backup ≡ None → HasDone (Set question text) old (Replied reply) mid → reply.code ≡ 0
-        → (answer mid (Get question) Missing).stepped ≡ Replied (text_reply mid (settled text)) }
+        → (answer mid (Get question) nothing).stepped ≡ Replied (text_reply mid (settled text)) }
     ensures sent { (text : List ℕ) → unescaped (escaped text) ≡ text }
 {}

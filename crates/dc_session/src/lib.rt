@@ -4,6 +4,7 @@
 pub mod asking;
 pub mod asking_commands;
 pub mod finishing;
+pub mod going;
 pub mod laws;
 pub mod manner;
 pub mod name_set;
@@ -15,14 +16,16 @@ pub mod session;
 pub mod stepped;
 pub mod template_files;
 pub mod template_loading;
+pub mod terminal;
 
 pub use asking::{Asking, Bar};
 pub use manner::Manner;
 pub use serving::{SessionSetup, serve_layers};
 pub use session::{Desk, Session};
-pub use stepped::Stepped;
+pub use stepped::{StepError, Stepped};
 pub use template_files::{Found, find_templates};
 pub use template_loading::FileEnd;
+pub use terminal::NoTerminal;
 
 #[cfg(test)]
 mod tests;

@@ -1,77 +1,99 @@
 // Commands of the progress bar.
-ghost use Rattle.std.specs.Prelude.{◌≡◌, ◌+◌, [], Option, Some, None, codes};
+ghost use Rattle.std.specs.Prelude.{◌≡◌, ◌+◌, ◌++◌, [], Option, Some, None, IfOk, codes, decimal};
 ghost use Rattle.dc_proto.specs.Replies.{reply};
 ghost use Rattle.dc_proto.specs.declared.command.Command.TheVariants as command;
 ghost use Rattle.dc_session.specs.Answers.{asks, with_bar};
-ghost use Rattle.dc_session.specs.Inside.{Comes};
-ghost use Rattle.dc_session.specs.Machine.{Does};
+ghost use Rattle.dc_session.specs.Asking.{description as description_of};
+ghost use Rattle.dc_session.specs.Displays.{OneLine, where_asked, line_read, percent as percent_of, percent_line};
+ghost use Rattle.dc_session.specs.Inside.{Comes, TellsUser};
+ghost use Rattle.dc_session.specs.Machine.{Does, DoesShowing};
 
 use crate::asking::Bar;
 use crate::replies::{missing, named, says};
 use crate::session::Session;
-use crate::stepped::Stepped;
-use dc_outside::Files;
+use crate::stepped::{StepError, Stepped, lifted, step_error};
+use crate::terminal::tell_on;
+use dc_frontend::Frontend;
+use dc_outside::{Files, Link};
+use dc_question::QuestionError;
 use dc_serve::Heeds;
-use dc_text::{Mem, Text};
+use dc_text::{Mem, Name, Text};
+use std::alloc::Global;
 
 const NO_BAR: &[u8] = b"no progress bar";
 
-impl<'s, 'f, F: Files> Session<'s, 'f, F> {
-    pub(crate) fn progress_start(&mut self, min: u32, max: u32, word: &Text) -> Mem<Stepped>
-        ensures does { Does (command.ProgressStart min max word.now) (⟦<Session<'s, 'f, F> as Heeds>⟧.sight self.old) (⟦<Session<'s, 'f, F> as Heeds>⟧.sight self.new) result }
-        ensures held { ⟦<Session<'s, 'f, F> as Heeds>⟧.held self.new ≡ ⟦<Session<'s, 'f, F> as Heeds>⟧.held self.old }
+impl<'s, 'f, 't, F: Files, T: Link> Session<'s, 'f, 't, F, T> {
+    pub(crate) fn progress_start(
+        &mut self,
+        min: u32,
+        max: u32,
+        word: &Text,
+    ) -> Result<Stepped, StepError>
+        ensures does { DoesShowing (command.ProgressStart min max word.now) (⟦<Session<'s, 'f, 't, F, T> as Heeds>⟧.sight self.old) (⟦<Session<'s, 'f, 't, F, T> as Heeds>⟧.sight self.new) result }
+        ensures held { ⟦<Session<'s, 'f, 't, F, T> as Heeds>⟧.held self.new ≡ ⟦<Session<'s, 'f, 't, F, T> as Heeds>⟧.held self.old }
     {
         let Some(name) = named(self.alloc, word)? else {
-            return missing(self.alloc, word.bytes());
+            return lifted(missing(self.alloc, word.bytes()));
         };
         if !self.desk.questions.exists(&name) {
-            return missing(self.alloc, name.bytes());
+            return lifted(missing(self.alloc, name.bytes()));
         }
-        self.put_bar(Some(Bar {
+        self.tell_description(&name)?;
+        lifted(self.put_bar(Some(Bar {
             min,
             max,
             place: min,
-        }))
+        })))
     }
 
-    pub(crate) fn progress_set(&mut self, number: u32) -> Mem<Stepped>
-        ensures does { Does (command.ProgressSet number) (⟦<Session<'s, 'f, F> as Heeds>⟧.sight self.old) (⟦<Session<'s, 'f, F> as Heeds>⟧.sight self.new) result }
-        ensures held { ⟦<Session<'s, 'f, F> as Heeds>⟧.held self.new ≡ ⟦<Session<'s, 'f, F> as Heeds>⟧.held self.old }
+    pub(crate) fn progress_set(&mut self, number: u32) -> Result<Stepped, StepError>
+        ensures does { DoesShowing (command.ProgressSet number) (⟦<Session<'s, 'f, 't, F, T> as Heeds>⟧.sight self.old) (⟦<Session<'s, 'f, 't, F, T> as Heeds>⟧.sight self.new) result }
+        ensures held { ⟦<Session<'s, 'f, 't, F, T> as Heeds>⟧.held self.new ≡ ⟦<Session<'s, 'f, 't, F, T> as Heeds>⟧.held self.old }
     {
         match self.asking.bar {
-            None => says(self.alloc, 10, NO_BAR),
-            Some(bar) => self.put_bar(Some(bar.at(u64::from(number)))),
+            None => lifted(says(self.alloc, 10, NO_BAR)),
+            Some(bar) => {
+                let moved = bar.at(u64::from(number));
+                self.tell_percent(moved)?;
+                lifted(self.put_bar(Some(moved)))
+            }
         }
     }
 
-    pub(crate) fn progress_step(&mut self, number: u32) -> Mem<Stepped>
-        ensures does { Does (command.ProgressStep number) (⟦<Session<'s, 'f, F> as Heeds>⟧.sight self.old) (⟦<Session<'s, 'f, F> as Heeds>⟧.sight self.new) result }
-        ensures held { ⟦<Session<'s, 'f, F> as Heeds>⟧.held self.new ≡ ⟦<Session<'s, 'f, F> as Heeds>⟧.held self.old }
+    pub(crate) fn progress_step(&mut self, number: u32) -> Result<Stepped, StepError>
+        ensures does { DoesShowing (command.ProgressStep number) (⟦<Session<'s, 'f, 't, F, T> as Heeds>⟧.sight self.old) (⟦<Session<'s, 'f, 't, F, T> as Heeds>⟧.sight self.new) result }
+        ensures held { ⟦<Session<'s, 'f, 't, F, T> as Heeds>⟧.held self.new ≡ ⟦<Session<'s, 'f, 't, F, T> as Heeds>⟧.held self.old }
     {
         match self.asking.bar {
-            None => says(self.alloc, 10, NO_BAR),
-            Some(bar) => self.put_bar(Some(bar.further(number))),
+            None => lifted(says(self.alloc, 10, NO_BAR)),
+            Some(bar) => {
+                let moved = bar.further(number);
+                self.tell_percent(moved)?;
+                lifted(self.put_bar(Some(moved)))
+            }
         }
     }
 
-    pub(crate) fn progress_info(&self, word: &Text) -> Mem<Stepped>
-        ensures { Does (command.ProgressInfo word.now) (⟦<Session<'s, 'f, F> as Heeds>⟧.sight self.now) (⟦<Session<'s, 'f, F> as Heeds>⟧.sight self.now) result }
+    pub(crate) fn progress_info(&mut self, word: &Text) -> Result<Stepped, StepError>
+        ensures does { DoesShowing (command.ProgressInfo word.now) (⟦<Session<'s, 'f, 't, F, T> as Heeds>⟧.sight self.old) (⟦<Session<'s, 'f, 't, F, T> as Heeds>⟧.sight self.new) result }
+        ensures held { ⟦<Session<'s, 'f, 't, F, T> as Heeds>⟧.held self.new ≡ ⟦<Session<'s, 'f, 't, F, T> as Heeds>⟧.held self.old }
     {
         if self.asking.bar.is_none() {
-            return says(self.alloc, 10, NO_BAR);
+            return lifted(says(self.alloc, 10, NO_BAR));
         }
         let Some(name) = named(self.alloc, word)? else {
-            return missing(self.alloc, word.bytes());
+            return lifted(missing(self.alloc, word.bytes()));
         };
         if !self.desk.questions.exists(&name) {
-            return missing(self.alloc, name.bytes());
+            return lifted(missing(self.alloc, name.bytes()));
         }
-        says(self.alloc, 0, b"OK")
+        self.tell_description(&name)?;
+        lifted(says(self.alloc, 0, b"OK"))
     }
 
     pub(crate) fn progress_stop(&mut self) -> Mem<Stepped>
-        ensures does { Does command.ProgressStop (⟦<Session<'s, 'f, F> as Heeds>⟧.sight self.old) (⟦<Session<'s, 'f, F> as Heeds>⟧.sight self.new) result }
-        ensures held { ⟦<Session<'s, 'f, F> as Heeds>⟧.held self.new ≡ ⟦<Session<'s, 'f, F> as Heeds>⟧.held self.old }
+        ensures does { Does command.ProgressStop (⟦<Session<'s, 'f, 't, F, T> as Heeds>⟧.sight self.old) (⟦<Session<'s, 'f, 't, F, T> as Heeds>⟧.sight self.new) result }
+        ensures held { ⟦<Session<'s, 'f, 't, F, T> as Heeds>⟧.held self.new ≡ ⟦<Session<'s, 'f, 't, F, T> as Heeds>⟧.held self.old }
     {
         match self.asking.bar {
             None => says(self.alloc, 10, NO_BAR),
@@ -79,14 +101,63 @@ impl<'s, 'f, F: Files> Session<'s, 'f, F> {
         }
     }
 
+    // Tells the user what the question is about, where one is asked.
+    fn tell_description(&mut self, name: &Name) -> Result<(), StepError>
+        ensures tells { TellsUser (where_asked (⟦<Session<'s, 'f, 't, F, T> as Heeds>⟧.sight self.old).manner.frontend (line_read (description_of (⟦<Session<'s, 'f, 't, F, T> as Heeds>⟧.sight self.old).store.layers (⟦<Session<'s, 'f, 't, F, T> as Heeds>⟧.sight self.old).at name.now))) (⟦<Session<'s, 'f, 't, F, T> as Heeds>⟧.sight self.old) (⟦<Session<'s, 'f, 't, F, T> as Heeds>⟧.sight self.new) result }
+        ensures held { ⟦<Session<'s, 'f, 't, F, T> as Heeds>⟧.held self.new ≡ ⟦<Session<'s, 'f, 't, F, T> as Heeds>⟧.held self.old }
+    {
+        match self.manner.frontend {
+            Frontend::Noninteractive => Ok(()),
+            Frontend::Teletype => match self.description(name) {
+                Ok(text) => self.tell_line(&text),
+                Err(QuestionError::OutOfMemory) => Err(StepError::OutOfMemory),
+                Err(_) => Ok(()),
+            },
+        }
+    }
+
+    // Tells the user how far the bar is, where one is asked.
+    fn tell_percent(&mut self, bar: Bar) -> Result<(), StepError>
+        ensures tells { TellsUser (where_asked (⟦<Session<'s, 'f, 't, F, T> as Heeds>⟧.sight self.old).manner.frontend (percent_line bar)) (⟦<Session<'s, 'f, 't, F, T> as Heeds>⟧.sight self.old) (⟦<Session<'s, 'f, 't, F, T> as Heeds>⟧.sight self.new) result }
+        ensures held { ⟦<Session<'s, 'f, 't, F, T> as Heeds>⟧.held self.new ≡ ⟦<Session<'s, 'f, 't, F, T> as Heeds>⟧.held self.old }
+    {
+        match self.manner.frontend {
+            Frontend::Noninteractive => Ok(()),
+            Frontend::Teletype => {
+                let line = percent_text(self.alloc, bar)?;
+                self.tell_line(&line)
+            }
+        }
+    }
+
+    // Writes a line on the terminal.
+    fn tell_line(&mut self, line: &Text) -> Result<(), StepError>
+        ensures tells { TellsUser (OneLine line.now) (⟦<Session<'s, 'f, 't, F, T> as Heeds>⟧.sight self.old) (⟦<Session<'s, 'f, 't, F, T> as Heeds>⟧.sight self.new) result }
+        ensures held { ⟦<Session<'s, 'f, 't, F, T> as Heeds>⟧.held self.new ≡ ⟦<Session<'s, 'f, 't, F, T> as Heeds>⟧.held self.old }
+    {
+        match tell_on(self.terminal, self.teletype, line) {
+            Ok(()) => Ok(()),
+            Err(error) => Err(step_error(error)),
+        }
+    }
+
     #[tactic(auto, using(dc_store::proofs::RowLemmas::same_all_refl))]
     // This is the bar.
     fn put_bar(&mut self, bar: Option<Bar>) -> Mem<Stepped>
-        ensures comes { Comes (asks (⟦<Session<'s, 'f, F> as Heeds>⟧.sight self.old) (reply 0 (codes "OK")) (with_bar (⟦<Session<'s, 'f, F> as Heeds>⟧.sight self.old).asking bar)) [] (⟦<Session<'s, 'f, F> as Heeds>⟧.sight self.old) (⟦<Session<'s, 'f, F> as Heeds>⟧.sight self.new) result }
-        ensures held { ⟦<Session<'s, 'f, F> as Heeds>⟧.held self.new ≡ ⟦<Session<'s, 'f, F> as Heeds>⟧.held self.old }
+        ensures comes { Comes (asks (⟦<Session<'s, 'f, 't, F, T> as Heeds>⟧.sight self.old) (reply 0 (codes "OK")) (with_bar (⟦<Session<'s, 'f, 't, F, T> as Heeds>⟧.sight self.old).asking bar)) [] (⟦<Session<'s, 'f, 't, F, T> as Heeds>⟧.sight self.old) (⟦<Session<'s, 'f, 't, F, T> as Heeds>⟧.sight self.new) result }
+        ensures held { ⟦<Session<'s, 'f, 't, F, T> as Heeds>⟧.held self.new ≡ ⟦<Session<'s, 'f, 't, F, T> as Heeds>⟧.held self.old }
     {
         let told = says(self.alloc, 0, b"OK")?;
         self.asking.bar = bar;
         Ok(told)
     }
+}
+
+// How far the bar is, as it is told.
+fn percent_text(alloc: Global, bar: Bar) -> Mem<Text>
+    ensures { IfOk result (λ text. text ≡ decimal (percent_of bar) ++ codes "%") }
+{
+    let mut text = Text::from_bytes(alloc, bar.percent().to_string(alloc)?.as_bytes())?;
+    text.push(b'%')?;
+    Ok(text)
 }

@@ -59,7 +59,8 @@ fn no_such_template(alloc: Global, word: &[u8]) -> Mem<Stepped>
     refuses(alloc, b"no template for ", word, b"")
 }
 
-fn unchangeable(alloc: Global, word: &[u8]) -> Mem<Stepped>
+/// The question, or its template, can't be changed.
+pub fn unchangeable(alloc: Global, word: &[u8]) -> Mem<Stepped>
     ensures { IfOk result (λ stepped. stepped ≡ Replied (cant_change word.now)) }
 {
     refuses(alloc, b"", word, b" can't be changed")

@@ -5,7 +5,10 @@ ghost use Rattle.dc_conf.specs.Plans.{IsOver, are_disjoint};
 ghost use Rattle.dc_store.specs.Plans.{stored};
 ghost use Rattle.dc_question.specs.Questions.{IsSetOver, Answers};
 ghost use Rattle.dc_question.specs.declared.errors.QuestionError.{QuestionError as QuestionErrorOf};
-ghost use Rattle.dc_session.specs.Asking.{nothing_asked, threshold_by};
+ghost use Rattle.dc_session.specs.Asking.{nothing_asked, threshold_by, frontend_by, manner_by};
+ghost use Rattle.dc_session.specs.SessionState.{nothing_typed};
+ghost use Rattle.dc_frontend.specs.Frontends.{frontend_of};
+ghost use Rattle.dc_frontend.specs.declared.frontend.Frontend.TheVariants.{Teletype as OfTeletype};
 ghost use Rattle.dc_session.specs.Serving.{IsServed, Finishes};
 ghost use Rattle.dc_proto.specs.Priorities.{priority_of};
 ghost use Rattle.dc_proto.specs.declared.priority.Priority.TheVariants.{High};
@@ -13,13 +16,16 @@ ghost use Rattle.dc_proto.specs.declared.priority.Priority.TheVariants.{High};
 use crate::asking::Asking;
 use crate::manner::Manner;
 use crate::session::{Desk, Session};
+use crate::stepped::StepError;
 use dc_conf::Plan;
+use dc_frontend::Frontend;
 use dc_layer::Layer;
 use dc_outside::{Files, Link};
 use dc_proto::Priority;
 use dc_question::{QuestionError, Questions};
 use dc_serve::{Conversation, Heeds, LinkEnd, serve_link};
 use dc_store::Store;
+use dc_teletype::Teletype;
 use dc_text::{Mem, Name, OutOfMemory, Text};
 use std::alloc::Global;
 
@@ -30,6 +36,8 @@ pub struct SessionSetup<'s> {
     pub owner: &'s Name,
     /// The user's language.
     pub lang: &'s Text,
+    /// What asks the user. Where nothing is chosen, the question `debconf/frontend` says it, and else it is the teletype (debconf(7)).
+    pub frontend: Option<Frontend>,
     /// The least priority of a question that is shown. Where none is chosen, the question `debconf/priority` says which (debconf(7)).
     pub threshold: Option<Priority>,
     /// Whether questions that are skipped, as no user is there, become seen.
@@ -37,16 +45,17 @@ pub struct SessionSetup<'s> {
 }
 
 /// Serves the commands that come on the link over these layers and files, by the plans of questions and of templates, and finishes the
-/// session. The layers are given back as it left them, in their order.
-pub fn serve_layers<L: Link, F: Files>(
+/// session. A user is asked on the terminal. The layers are given back as it left them, in their order.
+pub fn serve_layers<L: Link, T: Link, F: Files>(
     alloc: Global,
     io: &mut L,
+    terminal: &mut T,
     files: &mut F,
     layers: &mut Vec<Box<dyn Layer>>,
     config: &Plan,
     templates: &Plan,
     setup: &SessionSetup<'_>,
-) -> Conversation<OutOfMemory>
+) -> Conversation<StepError>
     requires config { IsOver config.now (length layers.old.items) }
     requires templates { IsOver templates.now (length layers.old.items) }
     requires disjoint { are_disjoint config.now templates.now ≡ true }
@@ -54,26 +63,37 @@ pub fn serve_layers<L: Link, F: Files>(
         (record {
           store = stored (each state layers.old.items) [];
           files = record { told = F.told files.old; counts = F.counts files.old };
+          terminal = record { link = record { talk = T.talk terminal.old; input = T.left terminal.old; counts = record { faults = T.faults terminal.old; refusals = T.refusals terminal.old } }; ahead = nothing_typed };
           at = record { config = config.now; templates = templates.now; lang = setup.now.lang.now };
           owner = setup.now.owner.now;
-          manner = record { threshold = threshold_by setup.now.threshold (each state layers.old.items) (record { config = config.now; templates = templates.now; lang = setup.now.lang.now }); nonint_seen = setup.now.nonint_seen };
+          manner = manner_by setup.now.frontend setup.now.threshold setup.now.nonint_seen (each state layers.old.items) (record { config = config.now; templates = templates.now; lang = setup.now.lang.now });
           asking = nothing_asked;
         })
         (each state layers.new.items) (record { told = F.told files.new; counts = F.counts files.new })
+        (record { talk = T.talk terminal.new; input = T.left terminal.new; counts = record { faults = T.faults terminal.new; refusals = T.refusals terminal.new } })
         (record { talk = L.talk io.old; input = L.left io.old; counts = record { faults = L.faults io.old; refusals = L.refusals io.old } })
         (record { talk = L.talk io.new; input = L.left io.new; counts = record { faults = L.faults io.new; refusals = L.refusals io.new } })
         result.end result.last_code }
+    ensures program { L.program io.new ≡ L.program io.old }
 {
     let mut store = Store::new(alloc, std::mem::replace(layers, Vec::new(alloc)));
     let questions = Questions::new(alloc, &mut store, config, templates, setup.lang);
     let desk = Desk::new(questions, setup.owner);
-    match threshold(alloc, &desk.questions, setup.threshold) {
-        Ok(threshold) => {
-            let manner = Manner {
-                threshold,
-                nonint_seen: setup.nonint_seen,
-            };
-            serve_desk(alloc, io, files, layers, desk, manner)
+    match manner(alloc, &desk.questions, setup) {
+        Ok(manner) => {
+            let mut teletype = Teletype::new(alloc);
+            let mut asking = Asking::nothing(alloc);
+            serve_desk(
+                alloc,
+                io,
+                terminal,
+                files,
+                layers,
+                desk,
+                manner,
+                &mut teletype,
+                &mut asking,
+            )
         }
         Err(_) => {
             *layers = desk.into_layers(alloc);
@@ -87,59 +107,116 @@ pub fn serve_layers<L: Link, F: Files>(
 
 // Serves the link at this desk, by a session that asks questions in this manner, and finishes it. The layers are put where they
 // are to stand.
-fn serve_desk<L: Link, F: Files>(
+fn serve_desk<L: Link, T: Link, F: Files>(
     alloc: Global,
     io: &mut L,
+    terminal: &mut T,
     files: &mut F,
     layers: &mut Vec<Box<dyn Layer>>,
     desk: Desk<'_>,
     manner: Manner,
-) -> Conversation<OutOfMemory>
+    teletype: &mut Teletype,
+    asking: &mut Asking,
+) -> Conversation<StepError>
     ensures served { IsServed
         (record {
           store = stored (each state desk.entry.questions.store.now.layers.items) desk.entry.questions.store.now.told;
           files = record { told = F.told files.old; counts = F.counts files.old };
+          terminal = record { link = record { talk = T.talk terminal.old; input = T.left terminal.old; counts = record { faults = T.faults terminal.old; refusals = T.refusals terminal.old } }; ahead = teletype.old.ahead };
           at = desk.entry.questions.setting;
           owner = desk.entry.owner.now;
           manner = manner;
-          asking = nothing_asked;
+          asking = asking.old;
         })
         (each state layers.new.items) (record { told = F.told files.new; counts = F.counts files.new })
+        (record { talk = T.talk terminal.new; input = T.left terminal.new; counts = record { faults = T.faults terminal.new; refusals = T.refusals terminal.new } })
         (record { talk = L.talk io.old; input = L.left io.old; counts = record { faults = L.faults io.old; refusals = L.refusals io.old } })
         (record { talk = L.talk io.new; input = L.left io.new; counts = record { faults = L.faults io.new; refusals = L.refusals io.new } })
         result.end result.last_code }
+    ensures program { L.program io.new ≡ L.program io.old }
 {
-    let mut asking = Asking::nothing(alloc);
-    let mut session = Session::new(alloc, desk, files, manner, &mut asking);
+    let mut session = Session::new(alloc, desk, files, terminal, teletype, manner, asking);
     let ended = serve_session(alloc, io, &mut session);
-    let Session {
-        alloc: _,
-        desk,
-        files: _kept,
-        manner: _,
-        asking: _,
-    } = session;
+    let (desk, kept, left) = session.into_parts();
+    let_go(kept);
+    let_go(left);
     *layers = desk.into_layers(alloc);
     ended
 }
 
+// Nothing more is done with it.
+fn let_go<X>(x: &mut X)
+    ensures { x.new ≡ x.old }
+{}
+
 // Serves the link by this session, and finishes it.
-fn serve_session<'s, 'f, L: Link, F: Files>(
+fn serve_session<'s, 'f, 't, L: Link, F: Files, T: Link>(
     alloc: Global,
     io: &mut L,
-    session: &mut Session<'s, 'f, F>,
-) -> Conversation<OutOfMemory>
+    session: &mut Session<'s, 'f, 't, F, T>,
+) -> Conversation<StepError>
     ensures served { IsServed
-        (⟦<Session<'s, 'f, F> as Heeds>⟧.sight session.old)
-        (⟦<Session<'s, 'f, F> as Heeds>⟧.sight session.new).store.layers
-        (⟦<Session<'s, 'f, F> as Heeds>⟧.sight session.new).files
+        (⟦<Session<'s, 'f, 't, F, T> as Heeds>⟧.sight session.old)
+        (⟦<Session<'s, 'f, 't, F, T> as Heeds>⟧.sight session.new).store.layers
+        (⟦<Session<'s, 'f, 't, F, T> as Heeds>⟧.sight session.new).files
+        (⟦<Session<'s, 'f, 't, F, T> as Heeds>⟧.sight session.new).terminal.link
         (record { talk = L.talk io.old; input = L.left io.old; counts = record { faults = L.faults io.old; refusals = L.refusals io.old } })
         (record { talk = L.talk io.new; input = L.left io.new; counts = record { faults = L.faults io.new; refusals = L.refusals io.new } })
         result.end result.last_code }
-    ensures held { ⟦<Session<'s, 'f, F> as Heeds>⟧.held session.new ≡ ⟦<Session<'s, 'f, F> as Heeds>⟧.held session.old }
+    ensures program { L.program io.new ≡ L.program io.old }
+    ensures held { session.new.desk.questions.store.ghost_name ≡ session.old.desk.questions.store.ghost_name }
+    ensures files_held { session.new.files.ghost_name ≡ session.old.files.ghost_name }
+    ensures terminal_held { session.new.terminal.ghost_name ≡ session.old.terminal.ghost_name }
 {
     let served = serve_link(alloc, io, session);
     finish_served(session, served)
+}
+
+// How questions are asked.
+fn manner(alloc: Global, questions: &Questions<'_>, setup: &SessionSetup<'_>) -> Mem<Manner>
+    requires { IsSetOver questions.now.setting (length questions.now.store.now.layers.items) }
+    ensures { IfOk result (λ manner. manner ≡ manner_by setup.now.frontend setup.now.threshold setup.now.nonint_seen (each (λ b. state (b.vtable, b.value)) questions.now.store.now.layers.items) questions.now.setting) }
+{
+    let frontend = frontend(alloc, questions, setup.frontend)?;
+    let threshold = threshold(alloc, questions, setup.threshold)?;
+    Ok(Manner {
+        frontend,
+        threshold,
+        nonint_seen: setup.nonint_seen,
+    })
+}
+
+// What asks the user: what was chosen, else what the value of `debconf/frontend` names, else the teletype.
+fn frontend(alloc: Global, questions: &Questions<'_>, chosen: Option<Frontend>) -> Mem<Frontend>
+    requires { IsSetOver questions.now.setting (length questions.now.store.now.layers.items) }
+    ensures { IfOk result (λ frontend. frontend ≡ frontend_by chosen (each (λ b. state (b.vtable, b.value)) questions.now.store.now.layers.items) questions.now.setting) }
+{
+    match chosen {
+        Some(frontend) => Ok(frontend),
+        None => said_frontend(alloc, questions),
+    }
+}
+
+// What the value of `debconf/frontend` names, else the teletype.
+fn said_frontend(alloc: Global, questions: &Questions<'_>) -> Mem<Frontend>
+    requires { IsSetOver questions.now.setting (length questions.now.store.now.layers.items) }
+    ensures { IfOk result (λ frontend. frontend ≡ frontend_by None (each (λ b. state (b.vtable, b.value)) questions.now.store.now.layers.items) questions.now.setting) }
+{
+    let Ok(name) = Name::read(alloc, b"debconf/frontend") else {
+        return Err(OutOfMemory);
+    };
+    frontend_said(questions.value(&name))
+}
+
+// What the text names that is read, else the teletype.
+fn frontend_said(said: Result<Text, QuestionError>) -> Mem<Frontend>
+    ensures { (reading : Result (List ℕ) QuestionErrorOf) → Answers said reading → IfOk result (λ frontend. frontend ≡ unwrap_or (option_and_then frontend_of (result_ok reading)) OfTeletype) }
+{
+    match said {
+        Ok(word) => Ok(Frontend::read(word.bytes()).unwrap_or(Frontend::Teletype)),
+        Err(QuestionError::OutOfMemory) => Err(OutOfMemory),
+        Err(_) => Ok(Frontend::Teletype),
+    }
 }
 
 // The least priority of a question that is shown: the one that was chosen, else the one that the value of `debconf/priority` names,
@@ -176,19 +253,21 @@ fn priority_said(said: Result<Text, QuestionError>) -> Mem<Priority>
     }
 }
 
-// Finishes a session whose link was served to this end, unless memory ran out.
-fn finish_served<'s, 'f, F: Files>(
-    session: &mut Session<'s, 'f, F>,
-    served: Conversation<OutOfMemory>,
-) -> Conversation<OutOfMemory>
-    ensures finishes { Finishes served.end (⟦<Session<'s, 'f, F> as Heeds>⟧.sight session.old) (⟦<Session<'s, 'f, F> as Heeds>⟧.sight session.new).store.layers result.end }
-    ensures files { (⟦<Session<'s, 'f, F> as Heeds>⟧.sight session.new).files ≡ (⟦<Session<'s, 'f, F> as Heeds>⟧.sight session.old).files }
+// Finishes a session whose link was served to this end, unless memory ran out or the terminal failed.
+fn finish_served<'s, 'f, 't, F: Files, T: Link>(
+    session: &mut Session<'s, 'f, 't, F, T>,
+    served: Conversation<StepError>,
+) -> Conversation<StepError>
+    ensures finishes { Finishes served.end (⟦<Session<'s, 'f, 't, F, T> as Heeds>⟧.sight session.old) (⟦<Session<'s, 'f, 't, F, T> as Heeds>⟧.sight session.new).store.layers result.end }
+    ensures files { (⟦<Session<'s, 'f, 't, F, T> as Heeds>⟧.sight session.new).files ≡ (⟦<Session<'s, 'f, 't, F, T> as Heeds>⟧.sight session.old).files }
+    ensures terminal { (⟦<Session<'s, 'f, 't, F, T> as Heeds>⟧.sight session.new).terminal ≡ (⟦<Session<'s, 'f, 't, F, T> as Heeds>⟧.sight session.old).terminal }
     ensures code { result.last_code ≡ served.last_code }
-    ensures held { ⟦<Session<'s, 'f, F> as Heeds>⟧.held session.new ≡ ⟦<Session<'s, 'f, F> as Heeds>⟧.held session.old }
+    ensures held { ⟦<Session<'s, 'f, 't, F, T> as Heeds>⟧.held session.new ≡ ⟦<Session<'s, 'f, 't, F, T> as Heeds>⟧.held session.old }
 {
     let Conversation { end, last_code } = served;
     let end = match end {
-        LinkEnd::OutOfMemory | LinkEnd::Broken(_) => LinkEnd::OutOfMemory,
+        LinkEnd::OutOfMemory | LinkEnd::Broken(StepError::OutOfMemory) => LinkEnd::OutOfMemory,
+        LinkEnd::Broken(StepError::Term) => LinkEnd::Broken(StepError::Term),
         ended => match session.finish() {
             Ok(()) => ended,
             Err(_) => LinkEnd::OutOfMemory,

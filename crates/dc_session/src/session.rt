@@ -5,20 +5,21 @@ ghost use Rattle.std.proofs.Props.{props};
 ghost use Rattle.dc_conf.specs.Plans.{are_disjoint};
 ghost use Rattle.dc_store.specs.Plans.{stored};
 ghost use Rattle.dc_question.specs.Questions.{IsSetOver};
-ghost use Rattle.dc_session.specs.SessionState.{SessionState};
+ghost use Rattle.dc_session.specs.SessionState.{SessionState, nothing_typed};
 ghost use Rattle.dc_session.specs.Inside.{DoesHeard};
-ghost use Rattle.dc_session.specs.Machine.{Heeds as HeedsLine, Breaks as BreaksAt, Steps, Does};
+ghost use Rattle.dc_session.specs.Machine.{Heeds as HeedsLine, Breaks as BreaksAt, Steps, DoesShowing};
 
 use crate::asking::Asking;
 use crate::manner::Manner;
 use crate::replies::{says, sent_in};
-use crate::stepped::Stepped;
+use crate::stepped::{StepError, Stepped, lifted};
 use dc_layer::Layer;
-use dc_outside::Files;
+use dc_outside::{Files, Link};
 use dc_proto::{Command, Heard, read_command};
 use dc_question::Questions;
 use dc_serve::{Heeded, Heeds};
-use dc_text::{Mem, Name, OutOfMemory};
+use dc_teletype::Teletype;
+use dc_text::Name;
 use dc_words::Line;
 use std::alloc::Global;
 use std::marker::PhantomData;
@@ -34,15 +35,17 @@ pub struct Desk<'s> {
     ghost apart: { are_disjoint questions.setting.config questions.setting.templates ≡ true } by { Prim.hlevel props },
 }
 
-/// A session (debconf-devel(7)): the questions that its commands read and change, the files in which it looks for templates, how
-/// it asks questions, and what was asked for so far.
+/// A session (debconf-devel(7)): the questions that its commands read and change, the files in which it looks for templates, the terminal
+/// on which it asks, how it asks questions, and what was asked for so far.
 #[derive(Drop)]
-pub struct Session<'s, 'f, F: Files> {
+pub struct Session<'s, 'f, 't, F: Files, T: Link> {
     pub(crate) alloc: Global,
     pub(crate) desk: Desk<'s>,
     pub(crate) files: &'f mut F,
+    pub(crate) terminal: &'t mut T,
+    pub(crate) teletype: &'s mut Teletype,
     pub(crate) manner: Manner,
-    pub(crate) asking: &'f mut Asking,
+    pub(crate) asking: &'s mut Asking,
 }
 
 impl<'s> Desk<'s> {
@@ -80,38 +83,63 @@ impl<'s> Desk<'s> {
     }
 }
 
-impl<'s, 'f, F: Files> Session<'s, 'f, F> {
-    /// A session at this desk, that looks for templates in these files and asks questions in this manner. What was asked for so far is
-    /// kept where the caller keeps it.
+impl<'s, 'f, 't, F: Files, T: Link> Session<'s, 'f, 't, F, T> {
+    /// A session at this desk, that looks for templates in these files and asks questions on this terminal, in this manner. What was asked
+    /// for so far is kept where the caller keeps it.
     pub fn new(
         alloc: Global,
         desk: Desk<'s>,
         files: &'f mut F,
+        terminal: &'t mut T,
+        teletype: &'s mut Teletype,
         manner: Manner,
-        asking: &'f mut Asking,
-    ) -> Session<'s, 'f, F>
-        ensures sight { ⟦<Session<'s, 'f, F> as Heeds>⟧.sight result ≡ record {
+        asking: &'s mut Asking,
+    ) -> Session<'s, 'f, 't, F, T>
+        ensures sight { ⟦<Session<'s, 'f, 't, F, T> as Heeds>⟧.sight result ≡ record {
           store = stored (each (λ b. (Layer-box b).state b.value) desk.entry.questions.store.now.layers.items) desk.entry.questions.store.now.told;
           files = record { told = F.told files.old; counts = F.counts files.old };
+          terminal = record { link = record { talk = T.talk terminal.old; input = T.left terminal.old; counts = record { faults = T.faults terminal.old; refusals = T.refusals terminal.old } }; ahead = teletype.old.ahead };
           at = desk.entry.questions.setting;
           owner = desk.entry.owner.now;
           manner = manner;
           asking = asking.old;
         } }
-        ensures held { ⟦<Session<'s, 'f, F> as Heeds>⟧.held result ≡ (desk.entry.questions.store.ghost_name, files.entry.ghost_name) }
+        ensures held { result.desk.questions.store.ghost_name ≡ desk.entry.questions.store.ghost_name }
+        ensures files_held { result.files.ghost_name ≡ files.entry.ghost_name }
+        ensures terminal_held { result.terminal.ghost_name ≡ terminal.entry.ghost_name }
     {
         Session {
             alloc,
             desk,
             files,
+            terminal,
+            teletype,
             manner,
             asking,
         }
     }
 
+    /// The desk of the session, its files and its terminal, as it left them.
+    pub(crate) fn into_parts(self) -> (Desk<'s>, &'f mut F, &'t mut T)
+        ensures desk { result.0 ≡ self.entry.desk }
+        ensures files { result.1 ≡ self.entry.files }
+        ensures terminal { result.2 ≡ self.entry.terminal }
+    {
+        let Session {
+            alloc: _,
+            desk,
+            files,
+            terminal,
+            teletype: _,
+            manner: _,
+            asking: _,
+        } = self;
+        (desk, files, terminal)
+    }
+
     /// Whether lines are read and replies are sent escaped now.
     pub fn escape(&self) -> bool
-        ensures { result ≡ (⟦<Session<'s, 'f, F> as Heeds>⟧.sight self.now).asking.escape }
+        ensures { result ≡ (⟦<Session<'s, 'f, 't, F, T> as Heeds>⟧.sight self.now).asking.escape }
     {
         self.asking.escape
     }
@@ -119,24 +147,24 @@ impl<'s, 'f, F: Files> Session<'s, 'f, F> {
     #[tactic(auto, using(crate::proofs::BreakLemmas::still_breaks))]
     /// What a line comes to, and what it leaves. A line is read in the mode that stands before it. After a refusal, of code 10, 20 or
     /// 100, nothing has changed.
-    pub fn step(&mut self, line: &Line) -> Mem<Stepped>
-        ensures ok { IfOk result (λ stepped. Steps (⟦<Session<'s, 'f, F> as Heeds>⟧.sight self.old) line.now stepped (⟦<Session<'s, 'f, F> as Heeds>⟧.sight self.new)) }
-        ensures err { IfErr result (λ error. BreaksAt (⟦<Session<'s, 'f, F> as Heeds>⟧.sight self.old) line.now error (⟦<Session<'s, 'f, F> as Heeds>⟧.sight self.new)) }
-        ensures held { ⟦<Session<'s, 'f, F> as Heeds>⟧.held self.new ≡ ⟦<Session<'s, 'f, F> as Heeds>⟧.held self.old }
+    pub fn step(&mut self, line: &Line) -> Result<Stepped, StepError>
+        ensures ok { IfOk result (λ stepped. Steps (⟦<Session<'s, 'f, 't, F, T> as Heeds>⟧.sight self.old) line.now stepped (⟦<Session<'s, 'f, 't, F, T> as Heeds>⟧.sight self.new)) }
+        ensures err { IfErr result (λ error. BreaksAt (⟦<Session<'s, 'f, 't, F, T> as Heeds>⟧.sight self.old) line.now error (⟦<Session<'s, 'f, 't, F, T> as Heeds>⟧.sight self.new)) }
+        ensures held { ⟦<Session<'s, 'f, 't, F, T> as Heeds>⟧.held self.new ≡ ⟦<Session<'s, 'f, 't, F, T> as Heeds>⟧.held self.old }
     {
         match line {
-            Line::TooLong => says(self.alloc, 20, b"line too long"),
+            Line::TooLong => lifted(says(self.alloc, 20, b"line too long")),
             Line::Whole(text) => match read_command(self.alloc, text.bytes(), self.asking.escape) {
                 Ok(heard) => self.serve(heard),
-                Err(error) => Err(error),
+                Err(_) => Err(StepError::OutOfMemory),
             },
         }
     }
 
     // What a line that was read does.
-    fn serve(&mut self, heard: Heard) -> Mem<Stepped>
-        ensures does { DoesHeard heard (⟦<Session<'s, 'f, F> as Heeds>⟧.sight self.old) (⟦<Session<'s, 'f, F> as Heeds>⟧.sight self.new) result }
-        ensures held { ⟦<Session<'s, 'f, F> as Heeds>⟧.held self.new ≡ ⟦<Session<'s, 'f, F> as Heeds>⟧.held self.old }
+    fn serve(&mut self, heard: Heard) -> Result<Stepped, StepError>
+        ensures does { DoesHeard heard (⟦<Session<'s, 'f, 't, F, T> as Heeds>⟧.sight self.old) (⟦<Session<'s, 'f, 't, F, T> as Heeds>⟧.sight self.new) result }
+        ensures held { ⟦<Session<'s, 'f, 't, F, T> as Heeds>⟧.held self.new ≡ ⟦<Session<'s, 'f, 't, F, T> as Heeds>⟧.held self.old }
     {
         match heard {
             Heard::Nothing => Ok(Stepped::Silent),
@@ -145,60 +173,61 @@ impl<'s, 'f, F: Files> Session<'s, 'f, F> {
         }
     }
 
-    // What a command is answered, and what it does.
-    fn run(&mut self, command: &Command) -> Mem<Stepped>
-        ensures does { Does command.now (⟦<Session<'s, 'f, F> as Heeds>⟧.sight self.old) (⟦<Session<'s, 'f, F> as Heeds>⟧.sight self.new) result }
-        ensures held { ⟦<Session<'s, 'f, F> as Heeds>⟧.held self.new ≡ ⟦<Session<'s, 'f, F> as Heeds>⟧.held self.old }
+    // What a command is answered, what it shows, and what it does.
+    fn run(&mut self, command: &Command) -> Result<Stepped, StepError>
+        ensures does { DoesShowing command.now (⟦<Session<'s, 'f, 't, F, T> as Heeds>⟧.sight self.old) (⟦<Session<'s, 'f, 't, F, T> as Heeds>⟧.sight self.new) result }
+        ensures held { ⟦<Session<'s, 'f, 't, F, T> as Heeds>⟧.held self.new ≡ ⟦<Session<'s, 'f, 't, F, T> as Heeds>⟧.held self.old }
     {
         match command {
-            Command::Version(version) => self.version(version),
-            Command::Capb(words) => self.capb(words),
-            Command::SetTitle(word) => self.set_title(word),
-            Command::Title(text) => self.title(text),
-            Command::Input { priority, question } => self.input(*priority, question),
-            Command::BeginBlock => says(self.alloc, 0, b""),
-            Command::EndBlock => says(self.alloc, 0, b""),
+            Command::Version(version) => lifted(self.version(version)),
+            Command::Capb(words) => lifted(self.capb(words)),
+            Command::SetTitle(word) => lifted(self.set_title(word)),
+            Command::Title(text) => lifted(self.title(text)),
+            Command::Input { priority, question } => lifted(self.input(*priority, question)),
+            Command::BeginBlock => lifted(says(self.alloc, 0, b"")),
+            Command::EndBlock => lifted(says(self.alloc, 0, b"")),
             Command::Go => self.go(),
-            Command::Clear => self.clear(),
+            Command::Clear => lifted(self.clear()),
             Command::Stop => Ok(Stepped::Stopped),
-            Command::Get(word) => self.get(word),
-            Command::Set { question, value } => self.set(question, value),
-            Command::Reset(word) => self.reset(word),
+            Command::Get(word) => lifted(self.get(word)),
+            Command::Set { question, value } => lifted(self.set(question, value)),
+            Command::Reset(word) => lifted(self.reset(word)),
             Command::Subst {
                 question,
                 key,
                 value,
-            } => self.subst(question, key, value),
-            Command::Fget { question, flag } => self.fget(question, flag),
+            } => lifted(self.subst(question, key, value)),
+            Command::Fget { question, flag } => lifted(self.fget(question, flag)),
             Command::Fset {
                 question,
                 flag,
                 value,
-            } => self.fset(question, flag, value),
-            Command::Metaget { question, field } => self.metaget(question, field),
-            Command::Register { template, question } => self.register(template, question),
-            Command::Unregister(word) => self.unregister(word),
-            Command::Purge => self.purge(),
+            } => lifted(self.fset(question, flag, value)),
+            Command::Metaget { question, field } => lifted(self.metaget(question, field)),
+            Command::Register { template, question } => lifted(self.register(template, question)),
+            Command::Unregister(word) => lifted(self.unregister(word)),
+            Command::Purge => lifted(self.purge()),
             Command::ProgressStart { min, max, question } => {
                 self.progress_start(*min, *max, question)
             }
             Command::ProgressSet(number) => self.progress_set(*number),
             Command::ProgressStep(number) => self.progress_step(*number),
             Command::ProgressInfo(word) => self.progress_info(word),
-            Command::ProgressStop => self.progress_stop(),
-            Command::LoadTemplateFile { path, owner } => self.load(path, owner),
+            Command::ProgressStop => lifted(self.progress_stop()),
+            Command::LoadTemplateFile { path, owner } => lifted(self.load(path, owner)),
         }
     }
 }
 
-impl<'s, 'f, F: Files> Heeds for Session<'s, 'f, F> {
-    type Break = OutOfMemory;
+impl<'s, 'f, 't, F: Files, T: Link> Heeds for Session<'s, 'f, 't, F, T> {
+    type Break = StepError;
 
     ghost Sight = { SessionState };
 
     ghost sight = { λ s. record {
       store = stored (each (λ b. (Layer-box b).state b.value) s.desk.questions.store.now.layers.items) s.desk.questions.store.now.told;
       files = record { told = F.told s.files.now; counts = F.counts s.files.now };
+      terminal = record { link = record { talk = T.talk s.terminal.now; input = T.left s.terminal.now; counts = record { faults = T.faults s.terminal.now; refusals = T.refusals s.terminal.now } }; ahead = s.teletype.now.ahead };
       at = s.desk.questions.setting;
       owner = s.desk.owner.now;
       manner = s.manner;
@@ -209,13 +238,16 @@ impl<'s, 'f, F: Files> Heeds for Session<'s, 'f, F> {
 
     ghost breaks = { BreaksAt };
 
-    ghost Held = { GName × GName };
+    ghost Held = { GName × GName × GName };
 
-    ghost held = { λ s. (s.desk.questions.store.ghost_name, s.files.ghost_name) };
+    ghost held = { λ s. (s.desk.questions.store.ghost_name, s.files.ghost_name, s.terminal.ghost_name) };
 
-    fn heed(&mut self, line: &Line) -> Result<Heeded, OutOfMemory> {
+    fn heed(&mut self, line: &Line) -> Result<Heeded, StepError> {
         let escape = self.escape();
         let stepped = self.step(line)?;
-        sent_in(self.alloc, stepped, escape)
+        match sent_in(self.alloc, stepped, escape) {
+            Ok(did) => Ok(did),
+            Err(_) => Err(StepError::OutOfMemory),
+        }
     }
 }

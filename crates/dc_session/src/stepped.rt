@@ -1,5 +1,10 @@
 // What a line comes to.
+ghost use Rattle.std.specs.Prelude.{◌≡◌};
+ghost use Rattle.dc_session.specs.Inside.{lifted as lifted_of, step_error as step_error_of};
+
+use dc_outside::LinkError;
 use dc_proto::Reply;
+use dc_text::{Mem, OutOfMemory};
 
 /// What a line of a confmodule comes to.
 #[derive(Drop)]
@@ -9,4 +14,43 @@ pub enum Stepped {
     Replied(Reply),
     /// The session ends, and no more lines are read.
     Stopped,
+}
+
+/// Why a line came to nothing.
+#[derive(Clone, Copy, Debug, PartialEq, Eq)]
+pub enum StepError {
+    /// Reading from the terminal, or writing to it, failed.
+    Term,
+    OutOfMemory,
+}
+
+impl From<OutOfMemory> for StepError {
+    ghost use Rattle.std.specs.Prelude.{◌≡◌};
+    ghost use Rattle.dc_session.specs.declared.stepped.StepError.TheVariants.{OutOfMemory};
+
+    ghost from_gives = { λ _ e. e ≡ OutOfMemory };
+
+    fn from(_: OutOfMemory) -> Self {
+        StepError::OutOfMemory
+    }
+}
+
+// What a command comes to that uses no terminal.
+pub(crate) fn lifted(done: Mem<Stepped>) -> Result<Stepped, StepError>
+    ensures { result ≡ lifted_of done }
+{
+    match done {
+        Ok(stepped) => Ok(stepped),
+        Err(_) => Err(StepError::OutOfMemory),
+    }
+}
+
+// Why a line came to nothing at which a call of the terminal had this answer.
+pub(crate) fn step_error(error: LinkError) -> StepError
+    ensures { result ≡ step_error_of error }
+{
+    match error {
+        LinkError::Failed => StepError::Term,
+        LinkError::OutOfMemory => StepError::OutOfMemory,
+    }
 }

@@ -4,7 +4,7 @@ ghost use Rattle.dc_store.specs.Plans.{stored};
 ghost use Rattle.dc_question.specs.Questions.{IsSetOver};
 ghost use Rattle.dc_session.specs.FileLoading.{Takes};
 ghost use Rattle.dc_session.specs.Inside.{HasDistinctNames};
-ghost use Rattle.dc_session.specs.SessionState.{FilesState};
+ghost use Rattle.dc_session.specs.SessionState.{FilesState, TerminalState};
 ghost use Rattle.dc_session.specs.declared.asking.Asking.{Asking};
 ghost use Rattle.dc_session.specs.declared.manner.Manner.{Manner};
 
@@ -34,9 +34,9 @@ impl<'s> Desk<'s> {
     /// Loads the templates that were found, for the desk's owner (debconf-loadtemplate(1)): all of them, or none.
     pub fn take_templates(&mut self, found: &Found) -> Mem<FileEnd>
         requires distinct { HasDistinctNames found.now }
-        ensures takes { (files : FilesState) (manner : Manner) (asking : Asking) → Takes found.now
-            (record { store = stored (each state self.old.questions.store.now.layers.items) self.old.questions.store.now.told; files = files; at = self.old.questions.setting; owner = self.old.owner.now; manner = manner; asking = asking })
-            (record { store = stored (each state self.new.questions.store.now.layers.items) self.new.questions.store.now.told; files = files; at = self.new.questions.setting; owner = self.new.owner.now; manner = manner; asking = asking }) result }
+        ensures takes { (files : FilesState) (terminal : TerminalState) (manner : Manner) (asking : Asking) → Takes found.now
+            (record { store = stored (each state self.old.questions.store.now.layers.items) self.old.questions.store.now.told; files = files; terminal = terminal; at = self.old.questions.setting; owner = self.old.owner.now; manner = manner; asking = asking })
+            (record { store = stored (each state self.new.questions.store.now.layers.items) self.new.questions.store.now.told; files = files; terminal = terminal; at = self.new.questions.setting; owner = self.new.owner.now; manner = manner; asking = asking }) result }
         ensures owner { self.new.owner.now ≡ self.old.owner.now }
         ensures held { self.new.questions.store.ghost_name ≡ self.old.questions.store.ghost_name }
     {

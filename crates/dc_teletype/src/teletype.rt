@@ -42,8 +42,8 @@ pub enum Asked {
 #[derive(Drop)]
 pub struct Teletype {
     alloc: Global,
-    // What was typed and isn't used.
-    ahead: TerminalLines,
+    /// What was typed and isn't used yet.
+    pub ahead: TerminalLines,
 }
 
 impl Teletype {

@@ -14,6 +14,7 @@ mod host_output;
 mod host_paths;
 mod surroundings;
 
+use crate::host_child::HostChild;
 use crate::host_err::HostErr;
 use crate::host_files::HostFiles;
 use crate::host_link::HostLink;
@@ -52,6 +53,7 @@ fn run(rt: HostRuntime) -> Mem<u8> {
         HostOutput::new(&rt, &rt.stdout(), "/dev/stdout"),
     );
     let mut err = HostErr::new(HostOutput::new(&rt, &rt.stderr(), "/dev/stderr"));
+    let mut child = HostChild::new(alloc, &rt);
     let mut files = HostFiles::new(alloc, rt, open_to_all(alloc, &settings, &words)?);
     let mut shelf = Shelf::empty(alloc);
     shelf.take_file(blank_layer!(alloc))?;
@@ -71,7 +73,7 @@ fn run(rt: HostRuntime) -> Mem<u8> {
     shelf.take_file(blank_layer!(alloc))?;
     shelf.take_file(blank_layer!(alloc))?;
     let outcome = run_words(
-        alloc, &words, &settings, &mut io, &mut err, &mut files, &mut shelf,
+        alloc, &words, &settings, &mut io, &mut err, &mut child, &mut files, &mut shelf,
     );
     Ok(outcome.status)
 }

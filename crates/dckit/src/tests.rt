@@ -481,8 +481,9 @@ fn answered(rt: &HostRuntime, folder: &str, input: &[u8]) -> Option<Text> {
     let mut err = MemLink::new(alloc, b"", &[], &[]).ok()?;
     let mut files = HostFiles::new(alloc, rt.clone().ok()?, List::new(alloc));
     let mut shelf = blank_shelf(alloc)?;
+    let mut child = HostChild::new(alloc, rt);
     let _ = run_words(
-        alloc, &words, &settings, &mut io, &mut err, &mut files, &mut shelf,
+        alloc, &words, &settings, &mut io, &mut err, &mut child, &mut files, &mut shelf,
     );
     Some(io.sent().copy().ok()?)
 }

@@ -14,6 +14,7 @@ returns-in-Ok-load_used-clause-starts g c =
       loaded = loaded_by c.args.path.now c.in-Ok.conf old mid files c.as_slice-2.result.now _ _ _ (Ok tt) c.in-Ok.ensures.0 c.in-Ok.ensures.1 (search rules) (search rules) c.in-Ok-load_used.ensures.loads refl;
       config_is = plans.0;
       templates_is = plans.1;
+      frontend_is = search rules;
       priority_is = search rules;
     }
 

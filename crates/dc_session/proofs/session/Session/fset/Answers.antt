@@ -2,7 +2,7 @@ use Rattle.std.proofs.Common.{◌≡◌, true, false, rules}
 use Rattle.std.specs.Prelude.{codes}
 use Rattle.std.specs.Str.{bytes_eq}
 use Rattle.dc_session.specs.Answers.{is_truth}
-use Rattle.dc_session.proofs.CommandLemmas.{bad_flag_does, fset_does}
+use Rattle.dc_session.proofs.CommandLemmas.{fset_none, bad_flag_does, fset_does}
 use Rattle.dc_session.proofs.session.Session.fset.Goals as goal
 
 pub returns-then-not-is_shown_truth-clause-does : goal.returns-then-not-is_shown_truth-clause-does
@@ -19,3 +19,6 @@ returns-clause-does g c =
     let does = rw is at c.set_flag-done.ensures.does in
     let told = rw c.bytes-4.ensures at c.confirm.ensures in
     fset_does _ _ _ c.set_flag-done.ensures.setting _ _ named _ _ truth c.set_flag-done.ensures.others c.set_flag-done.result does c.confirm.result told
+
+pub returns-in_default-clause-does : goal.returns-in_default-clause-does
+returns-in_default-clause-does g c = fset_none _ _ (rw c.in_default.is at c.in_ok-name.ensures) c.missing.result (rw c.bytes.ensures at c.missing.ensures) _ _

@@ -1,4 +1,4 @@
-use Rattle.dc_session.proofs.CommandLemmas.{set_does}
+use Rattle.dc_session.proofs.CommandLemmas.{set_none, set_does}
 use Rattle.dc_session.proofs.session.Session.set.Goals as goal
 
 pub returns-clause-does : goal.returns-clause-does
@@ -6,3 +6,6 @@ returns-clause-does g c =
     let named = rw c.in-Some.is at c.in_ok-name.ensures in
     let does = rw c.bytes-2.ensures at c.set-done.ensures.does in
     set_does _ _ _ c.set-done.ensures.setting _ _ named _ c.set-done.ensures.others c.set-done.result does c.confirm.result c.confirm.ensures
+
+pub returns-in_default-clause-does : goal.returns-in_default-clause-does
+returns-in_default-clause-does g c = set_none _ _ (rw c.in_default.is at c.in_ok-name.ensures) c.missing.result (rw c.bytes.ensures at c.missing.ensures) _

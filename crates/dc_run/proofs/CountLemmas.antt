@@ -1,0 +1,441 @@
+-- The counts of the links and of the program by the end of a run.
+use Rattle.std.proofs.Common.{◌≡◌, ◌⊎◌, inl, inr, ℕ, Bool, true, false, List, refl, sym, subst, ap, ◌∙◌, arith}
+use Rattle.std.specs.Prelude.{Err, Option}
+use Rattle.dc_words.specs.declared.stream.Line.{Line}
+use Rattle.dc_outside.specs.Counts.{Rose, FaultRose, CountsRefusals}
+use Rattle.dc_outside.specs.Told.{Counts}
+use Rattle.dc_outside.specs.declared.link.LinkError.{LinkError}
+use Rattle.dc_outside.specs.declared.link.LinkError.TheVariants.{Failed, OutOfMemory}
+use Rattle.dc_outside.specs.declared.link.Piece.{Piece}
+use Rattle.dc_outside.specs.Programs.{Program, Starts}
+use Rattle.dc_conf.specs.declared.faults.ConfError.{ConfError}
+use Rattle.dc_conf.specs.declared.faults.ConfError.TheVariants as conf
+use Rattle.dc_layer.specs.State.{LayerState}
+use Rattle.dc_layer.specs.declared.pattern.PatternError.{PatternError}
+use Rattle.dc_layer.specs.declared.pattern.PatternError.TheVariants as pattern
+use Rattle.dc_save.specs.declared.loading.LoadError.{LoadError}
+use Rattle.dc_save.specs.declared.loading.LoadError.TheVariants as load
+use Rattle.dc_serve.specs.Course.{Turn, state_after, IsCourse}
+use Rattle.dc_serve.specs.Ends.{LinkFaults, LinkRefusals}
+use Rattle.dc_serve.specs.Run.{Answered}
+use Rattle.dc_serve.specs.declared.outcome.LinkEnd.{LinkEnd}
+use Rattle.dc_serve.specs.declared.outcome.LinkEnd.TheVariants as link
+use Rattle.dc_session.specs.Machine.{Heeds, Breaks}
+use Rattle.dc_session.specs.Serving.{IsServed}
+use Rattle.dc_session.specs.SessionState.{FilesState, SessionState}
+use Rattle.dc_session.specs.declared.stepped.StepError.{StepError}
+use Rattle.dc_session.specs.declared.stepped.StepError.TheVariants as step
+use Rattle.dc_session.proofs.TerminalLaws.{CountsBreak, AsksNobody, breaks_count, course_counts, course_nobody, never_fails}
+use Rattle.dc_usage.specs.declared.tool.Tool.{Tool}
+use Rattle.dc_usage.specs.declared.tool.Tool.TheVariants.{Communicate, LoadTemplate, Run}
+use Rattle.dc_run.specs.declared.outcome.End.{End}
+use Rattle.dc_run.specs.declared.outcome.End.TheVariants as end
+use Rattle.dc_run.specs.declared.outcome.Outcome.{Outcome}
+use Rattle.dc_run.specs.declared.outcome.ToolAnswer.{ToolAnswer}
+use Rattle.dc_run.specs.declared.outcome.ToolEnd.{ToolEnd}
+use Rattle.dc_run.specs.declared.outcome.ToolEnd.TheVariants as tool
+use Rattle.dc_run.specs.declared.settings.Settings.{Settings}
+use Rattle.dc_run.specs.declared.starting.Roots.{Roots}
+use Rattle.dc_run.specs.Ends.{tool_end_of, end_of_conf, end_of_pattern, end_of_load, end_unwaited, Both, Stays, MayRise, LinksCount, ProgramCounts}
+use Rattle.dc_run.specs.Finishing.{Finishes}
+use Rattle.dc_run.specs.Headline.{HasCommunicated, HasRunTool, Uses}
+use Rattle.dc_run.specs.Running.{IsNotStarted, IsStarted, end_unstarted, Awaits}
+use Rattle.dc_run.specs.Starting.{EndsBefore, begun}
+use Rattle.dc_run.specs.TemplateLoading.{EndsAt}
+use Rattle.dc_run.specs.World.{LinkState, Links, ChildState, Stock, World}
+use Rattle.dc_run.proofs.CrashLemmas.{state_left, broken_off}
+use Rattle.dc_run.proofs.RunLemmas.{ends_so}
+
+-- ---- ends before the tool
+
+module _ (links : Links) where
+  all_stay : Both Stays Stays links links
+  all_stay = record { on_io = refl; on_child = refl }
+
+  none_rose : Both MayRise MayRise links links
+  none_rose = record { on_io = inl refl; on_child = inl refl }
+
+  at_conf : (error : ConfError) → LinksCount (end_of_conf error) links links
+  at_conf (conf.Refused line kind) = all_stay
+  at_conf conf.OutOfMemory = none_rose
+
+  at_pattern : (place : ℕ) (error : PatternError) → LinksCount (end_of_pattern place error) links links
+  at_pattern place pattern.Bad = all_stay
+  at_pattern place pattern.TooLarge = all_stay
+  at_pattern place pattern.OutOfMemory = none_rose
+
+  at_load : (error : LoadError) → LinksCount (end_of_load error) links links
+  at_load (load.Failed path) = all_stay
+  at_load (load.Damaged path line) = all_stay
+  at_load load.OutOfMemory = none_rose
+
+  -- no link counts anything before the tool
+  pub before_links : (path : List ℕ) (old : FilesState) (new : Stock) (how : End) → EndsBefore path old new how → LinksCount how links links
+  before_links path old new how (inl none) = rw none.end_is none_rose
+  before_links path old new how (inr (inl unread)) = rw unread.end_is all_stay
+  before_links path old new how (inr (inr (inl refused))) = rw refused.end_is (at_conf refused.error)
+  before_links path old new how (inr (inr (inr (inl at)))) = rw at.end_is (at_pattern at.refused.place at.refused.error)
+  before_links path old new how (inr (inr (inr (inr at)))) = rw at.end_is (at_load at.error)
+
+module _ (failures : ℕ) where
+  program_conf : (error : ConfError) → ProgramCounts (end_of_conf error) failures failures
+  program_conf (conf.Refused line kind) = inl refl
+  program_conf conf.OutOfMemory = inl refl
+
+  program_pattern : (place : ℕ) (error : PatternError) → ProgramCounts (end_of_pattern place error) failures failures
+  program_pattern place pattern.Bad = inl refl
+  program_pattern place pattern.TooLarge = inl refl
+  program_pattern place pattern.OutOfMemory = inl refl
+
+  program_load : (error : LoadError) → ProgramCounts (end_of_load error) failures failures
+  program_load (load.Failed path) = inl refl
+  program_load (load.Damaged path line) = inl refl
+  program_load load.OutOfMemory = inl refl
+
+  -- and no start or wait was done
+  pub before_program : (path : List ℕ) (old : FilesState) (new : Stock) (how : End) → EndsBefore path old new how → ProgramCounts how failures failures
+  before_program path old new how (inl none) = rw none.end_is (inl refl)
+  before_program path old new how (inr (inl unread)) = rw unread.end_is (inl refl)
+  before_program path old new how (inr (inr (inl refused))) = rw refused.end_is (program_conf refused.error)
+  before_program path old new how (inr (inr (inr (inl at)))) = rw at.end_is (program_pattern at.refused.place at.refused.error)
+  before_program path old new how (inr (inr (inr (inr at)))) = rw at.end_is (program_load at.error)
+
+-- ---- a link that was served
+
+-- what it counted, by the end of the tool
+abbrev ServedCounts : ToolEnd → Counts → Counts → Type 0
+ServedCounts tool.LinkFault before now = FaultRose before now
+ServedCounts tool.OutOfMemory before now = MayRise before now
+ServedCounts ended before now = Stays before now
+
+module _ (before now : Counts) where
+  same_counts : now.faults ≡ before.faults → now.refusals ≡ before.refusals → now ≡ before
+  same_counts one other = λ i. record { faults = one i; refusals = other i }
+
+  by_link : (served : LinkEnd StepError) → LinkFaults served before.faults now.faults → LinkRefusals served before.refusals now.refusals → ServedCounts (tool_end_of served) before now
+  by_link link.Done one other = same_counts one other
+  by_link link.TooLong one other = same_counts one other
+  by_link link.LinkFault one other = record { faults = one; refusals = other }
+  by_link link.OutOfMemory one (inl rose) = inr (inr (record { faults = one; refusals = rose }))
+  by_link link.OutOfMemory one (inr same) = inl (same_counts one same)
+  by_link (link.Broken step.Term) one other = same_counts one other
+  by_link (link.Broken step.OutOfMemory) one other = inl (same_counts one other)
+
+  -- where memory ran out as the session was finished
+  may_rise : (ended : ToolEnd) → ServedCounts ended before now → MayRise before now
+  may_rise tool.Done same = inl same
+  may_rise tool.LinkFault rose = inr (inl rose)
+  may_rise tool.TermFault same = inl same
+  may_rise tool.ChildFault same = inl same
+  may_rise tool.TooLong same = inl same
+  may_rise tool.OutOfMemory may = may
+  may_rise (tool.FilesFault path) same = inl same
+
+  by_session : (served ended : LinkEnd StepError) → (ended ≡ served) ⊎ (ended ≡ link.OutOfMemory) → LinkFaults served before.faults now.faults → LinkRefusals served before.refusals now.refusals
+      → ServedCounts (tool_end_of ended) before now
+  by_session served ended (inl same) one other = rw same (by_link served one other)
+  by_session served ended (inr none) one other = rw none (may_rise (tool_end_of served) (by_link served one other))
+
+served_counts : (start : SessionState) (layers : List LayerState) (files : FilesState) (terminal old new : LinkState) (ended : LinkEnd StepError) (code : ℕ) → IsServed start layers files terminal old new ended code
+    → ServedCounts (tool_end_of ended) old.counts new.counts
+served_counts start layers files terminal old new ended code is =
+    by_session old.counts new.counts is.served ended (ends_so is.served is.state layers ended is.finishes) is.faults is.refusals
+
+-- ---- its terminal
+
+-- what it counted, by the end of the link
+abbrev TerminalCounts : LinkEnd StepError → Counts → Counts → Type 0
+TerminalCounts (link.Broken error) before now = CountsBreak error before now
+TerminalCounts ended before now = Stays before now
+
+module _ (start new : SessionState) (turns : List (Turn SessionState)) (rest : List Line) (talk : List Piece) (input : Option (List ℕ)) (code : ℕ) (course : IsCourse Heeds start turns) where
+  unused : new ≡ state_after start turns → new.terminal.link.counts ≡ start.terminal.link.counts
+  unused is = ap (λ (s : SessionState). s.terminal.link.counts) is ∙ course_counts start turns course
+
+  moved : (error : StepError) (before mid now : Counts) → mid ≡ before → CountsBreak error mid now → CountsBreak error before now
+  moved error before mid now same counts = subst (λ (c : Counts). CountsBreak error c now) same counts
+
+  terminal_counts : (ended : LinkEnd StepError) → Answered Breaks ended start turns rest talk input new code → TerminalCounts ended start.terminal.link.counts new.terminal.link.counts
+  terminal_counts link.Done answered = unused (state_left start new turns rest talk input code link.Done tt answered)
+  terminal_counts link.LinkFault answered = unused (state_left start new turns rest talk input code link.LinkFault tt answered)
+  terminal_counts link.TooLong answered = unused (state_left start new turns rest talk input code link.TooLong tt answered)
+  terminal_counts link.OutOfMemory answered = unused (broken_off start new turns rest talk input code answered)
+  terminal_counts (link.Broken error) answered =
+      moved error start.terminal.link.counts (state_after start turns).terminal.link.counts new.terminal.link.counts (course_counts start turns course)
+      (breaks_count (state_after start turns) new answered.line error answered.broke)
+
+  -- a session that asks nobody doesn't break off at its terminal
+  unbroken : AsksNobody start → (error : StepError) → error ≡ step.Term → Answered Breaks (link.Broken error) start turns rest talk input new code → ⊥
+  unbroken nobody step.Term is answered = never_fails (state_after start turns) new answered.line (course_nobody start turns nobody course) answered.broke
+  unbroken nobody step.OutOfMemory is answered = cc
+
+-- ---- tools
+
+-- what both links counted, by the end of the tool
+abbrev ToolLinks : ToolEnd → Links → Links → Type 0
+ToolLinks tool.LinkFault before now = Both FaultRose Stays before now ⊎ Both Stays FaultRose before now
+ToolLinks tool.TermFault before now = Both FaultRose Stays before now
+ToolLinks tool.OutOfMemory before now = Both MayRise MayRise before now
+ToolLinks ended before now = Both Stays Stays before now
+
+module _ (before now : Links) (child : now.child ≡ before.child) where
+  unserved : now.child.link.counts ≡ before.child.link.counts
+  unserved = ap (λ (c : ChildState). c.link.counts) child
+
+  -- the program's own link was served
+  own_links : (ended : ToolEnd) → (ended ≡ tool.TermFault → ⊥) → ServedCounts ended before.io.counts now.io.counts → ToolLinks ended before now
+  own_links tool.Done other same = record { on_io = same; on_child = unserved }
+  own_links tool.LinkFault other rose = inl (record { on_io = rose; on_child = unserved })
+  own_links tool.TermFault other same = absurd (other refl)
+  own_links tool.ChildFault other same = record { on_io = same; on_child = unserved }
+  own_links tool.TooLong other same = record { on_io = same; on_child = unserved }
+  own_links tool.OutOfMemory other may = record { on_io = may; on_child = inl unserved }
+  own_links (tool.FilesFault path) other same = record { on_io = same; on_child = unserved }
+
+no_term : (served ended : LinkEnd StepError) → (ended ≡ served) ⊎ (ended ≡ link.OutOfMemory) → (served ≡ link.Broken step.Term → ⊥) → tool_end_of ended ≡ tool.TermFault → ⊥
+no_term served link.Done by other is = cc
+no_term served link.LinkFault by other is = cc
+no_term served link.TooLong by other is = cc
+no_term served link.OutOfMemory by other is = cc
+no_term served (link.Broken step.OutOfMemory) by other is = cc
+no_term served (link.Broken step.Term) (inl same) other is = other (sym same)
+no_term served (link.Broken step.Term) (inr none) other is = cc
+
+communicated_links : (start : SessionState) (before now : Links) (answer : ToolAnswer) (layers : List LayerState) (files : FilesState) → AsksNobody start → HasCommunicated start before.io now.io answer layers files
+    → now.child ≡ before.child → ToolLinks answer.ended before now
+communicated_links start before now answer layers files nobody is child =
+    let served = is.served in
+    let ran = served.ran in
+    rw is.ended_is
+    (own_links before now child (tool_end_of is.ended)
+    (no_term served.served is.ended (ends_so served.served served.state layers is.ended served.finishes)
+    (λ broken. unbroken start served.state ran.turns ran.rest ran.pieces before.io.input answer.last_code ran.course nobody step.Term refl
+    (subst (λ (e : LinkEnd StepError). Answered Breaks e start ran.turns ran.rest ran.pieces before.io.input served.state answer.last_code) broken ran.answered)))
+    (served_counts start layers files is.terminal before.io now.io is.ended answer.last_code served))
+
+silent_links : (ended : ToolEnd) (state : SessionState) (rest : List (List ℕ)) (new : SessionState) (links : Links) → EndsAt ended state rest new → ToolLinks ended links links
+silent_links tool.Done state rest new links ends = all_stay links
+silent_links (tool.FilesFault path) state rest new links ends = all_stay links
+silent_links tool.OutOfMemory state rest new links ends = none_rose links
+silent_links tool.LinkFault state rest new links ends = absurd ends
+silent_links tool.TooLong state rest new links ends = absurd ends
+silent_links tool.TermFault state rest new links ends = absurd ends
+silent_links tool.ChildFault state rest new links ends = absurd ends
+
+-- the program was served, and the user asked on the program's own link
+module _ (before now : Links) where
+  both_links : (served : LinkEnd StepError) → ServedCounts (tool_end_of served) before.child.link.counts now.child.link.counts → TerminalCounts served before.io.counts now.io.counts → ToolLinks (tool_end_of served) before now
+  both_links link.Done child io = record { on_io = io; on_child = child }
+  both_links link.TooLong child io = record { on_io = io; on_child = child }
+  both_links link.LinkFault child io = inr (record { on_io = io; on_child = child })
+  both_links link.OutOfMemory child io = record { on_io = inl io; on_child = child }
+  both_links (link.Broken step.Term) child io = record { on_io = io; on_child = child }
+  both_links (link.Broken step.OutOfMemory) child (inl same) = record { on_io = inl same; on_child = child }
+  both_links (link.Broken step.OutOfMemory) child (inr rose) = record { on_io = inr (inr rose); on_child = child }
+
+  any_io : (served : LinkEnd StepError) → TerminalCounts served before.io.counts now.io.counts → MayRise before.io.counts now.io.counts
+  any_io link.Done io = inl io
+  any_io link.TooLong io = inl io
+  any_io link.LinkFault io = inl io
+  any_io link.OutOfMemory io = inl io
+  any_io (link.Broken step.Term) io = inr (inl io)
+  any_io (link.Broken step.OutOfMemory) (inl same) = inl same
+  any_io (link.Broken step.OutOfMemory) (inr rose) = inr (inr rose)
+
+  program_links : (served ended : LinkEnd StepError) → (ended ≡ served) ⊎ (ended ≡ link.OutOfMemory) → ServedCounts (tool_end_of ended) before.child.link.counts now.child.link.counts
+      → TerminalCounts served before.io.counts now.io.counts → ToolLinks (tool_end_of ended) before now
+  program_links served ended (inl same) child io = both_links ended child (subst (λ (e : LinkEnd StepError). TerminalCounts e before.io.counts now.io.counts) (sym same) io)
+  program_links served ended (inr none) child io =
+      rw none (record { on_io = any_io served io; on_child = subst (λ (e : LinkEnd StepError). ServedCounts (tool_end_of e) before.child.link.counts now.child.link.counts) none child })
+
+started_links : (command : List (List ℕ)) (start : SessionState) (before now : Links) (answer : ToolAnswer) (layers : List LayerState) (files : FilesState) → start.terminal.link ≡ before.io
+    → IsStarted command start before now answer layers files → ToolLinks answer.ended before now
+started_links command start before now answer layers files asks is =
+    let served = is.served in
+    let ran = served.ran in
+    let shown = terminal_counts start served.state ran.turns ran.rest ran.pieces before.child.link.input answer.last_code ran.course served.served ran.answered in
+    rw is.ended_is
+    (program_links before now served.served is.ended (ends_so served.served served.state layers is.ended served.finishes)
+    (served_counts start layers files now.io before.child.link now.child.link is.ended answer.last_code served)
+    (subst (λ (c : Counts). TerminalCounts served.served c now.io.counts) (ap (λ (l : LinkState). l.counts) asks)
+    (subst (λ (c : Counts). TerminalCounts served.served start.terminal.link.counts c) (ap (λ (l : LinkState). l.counts) (sym served.terminal_is)) shown)))
+
+unstarted_links : (command : List (List ℕ)) (start : SessionState) (before now : Links) (answer : ToolAnswer) (layers : List LayerState) (files : FilesState)
+    → IsNotStarted command start before now answer layers files → ToolLinks answer.ended before now
+unstarted_links command start before now answer layers files is = rw is.ended_is (by_error is.error is.refusals) where
+  io : now.io.counts ≡ before.io.counts
+  io = ap (λ (l : LinkState). l.counts) is.io
+
+  by_error : (error : LinkError) → CountsRefusals {T = Unit {0}} before.child.link.counts.refusals now.child.link.counts.refusals (Err error) → ToolLinks (end_unstarted error) before now
+  by_error Failed same = record { on_io = io; on_child = same_counts before.child.link.counts now.child.link.counts is.faults same }
+  by_error OutOfMemory rose = record { on_io = inl io; on_child = inr (inr (record { faults = is.faults; refusals = rose })) }
+
+tool_links : (used : Tool) (stock : Stock) (roots : Roots) (settings : Settings) (before now : Links) (answer : ToolAnswer) (said : List ℕ) (layers : List LayerState) (files : FilesState)
+    → Uses used (begun used stock roots settings before.io) before now answer said layers files → ToolLinks answer.ended before now
+tool_links (Communicate owner) stock roots settings before now answer said layers files uses =
+    communicated_links (begun (Communicate owner) stock roots settings before.io) before now answer layers files refl uses.0 uses.1
+tool_links (LoadTemplate owner paths) stock roots settings before now answer said layers files uses =
+    rw uses.links_are (silent_links answer.ended _ uses.loaded.rest uses.state before uses.loaded.ends)
+tool_links (Run owner frontend priority command) stock roots settings before now answer said layers files uses = elim uses.0 [
+  | inl none ↦ unstarted_links command (begun (Run owner frontend priority command) stock roots settings before.io) before now answer layers files none
+  | inr started ↦ started_links command (begun (Run owner frontend priority command) stock roots settings before.io) before now answer layers files refl started
+]
+
+-- ---- the end of the run
+
+module _ (layers used : List LayerState) (files new : FilesState) (before now : Links) where
+  run_links : (ended : ToolEnd) (how : End) → Finishes layers used ended files new how → ToolLinks ended before now → LinksCount how before now
+  run_links tool.Done how (inl saved) links = rw saved.end_is links
+  run_links tool.Done how (inr (inl unsaved)) links = rw unsaved.end_is links
+  run_links tool.Done how (inr (inr none)) links = rw none.end_is (record { on_io = inl links.on_io; on_child = inl links.on_child })
+  run_links tool.TooLong how (inl saved) links = rw saved.end_is links
+  run_links tool.TooLong how (inr (inl unsaved)) links = rw unsaved.end_is links
+  run_links tool.TooLong how (inr (inr none)) links = rw none.end_is (record { on_io = inl links.on_io; on_child = inl links.on_child })
+  run_links tool.LinkFault how (inl saved) links = rw saved.end_is links
+  run_links tool.LinkFault how (inr (inl unsaved)) links = rw unsaved.end_is links
+  run_links tool.LinkFault how (inr (inr none)) (inl own) = rw none.end_is (record { on_io = inr (inl own.on_io); on_child = inl own.on_child })
+  run_links tool.LinkFault how (inr (inr none)) (inr child) = rw none.end_is (record { on_io = inl child.on_io; on_child = inr (inl child.on_child) })
+  run_links tool.TermFault how broken links = rw broken.end_is links
+  run_links tool.ChildFault how broken links = rw broken.end_is links
+  run_links tool.OutOfMemory how broken links = rw broken.end_is links
+  run_links (tool.FilesFault path) how broken links = rw broken.end_is links
+
+-- a wait that failed leaves the links
+unwaited_links : (how : End) (before now : Links) → LinksCount how before now → LinksCount (end_unwaited how) before now
+unwaited_links end.Done before now links = links
+unwaited_links (end.Usage word) before now links = links
+unwaited_links (end.ConfRefused line kind) before now links = links
+unwaited_links (end.BadPattern place) before now links = links
+unwaited_links (end.PatternTooLarge place) before now links = links
+unwaited_links (end.Damaged path line) before now links = links
+unwaited_links end.OutOfMemory before now links = links
+unwaited_links (end.FilesFault path) before now links = links
+unwaited_links end.LinkFault before now links = links
+unwaited_links end.TermFault before now links = links
+unwaited_links end.ChildFault before now links = links
+unwaited_links end.TooLong before now links = links
+
+module _ (before mid now : Links) (io : now.io ≡ mid.io) where
+  same_links : (how : End) → now.child.link ≡ mid.child.link → LinksCount how before mid → LinksCount how before now
+  same_links how child links =
+      subst (λ (l : LinkState). LinksCount how before (record { io = now.io; child = record { link = l; program = now.child.program } })) (sym child)
+      (subst (λ (l : LinkState). LinksCount how before (record { io = l; child = record { link = mid.child.link; program = now.child.program } })) (sym io) (other_program how links)) where
+        other_program : (e : End) → LinksCount e before mid → LinksCount e before (record { io = mid.io; child = record { link = mid.child.link; program = now.child.program } })
+        other_program end.Done links = record { on_io = links.on_io; on_child = links.on_child }
+        other_program (end.Usage word) links = record { on_io = links.on_io; on_child = links.on_child }
+        other_program (end.ConfRefused line kind) links = record { on_io = links.on_io; on_child = links.on_child }
+        other_program (end.BadPattern place) links = record { on_io = links.on_io; on_child = links.on_child }
+        other_program (end.PatternTooLarge place) links = record { on_io = links.on_io; on_child = links.on_child }
+        other_program (end.Damaged path line) links = record { on_io = links.on_io; on_child = links.on_child }
+        other_program end.OutOfMemory links = record { on_io = links.on_io; on_child = links.on_child }
+        other_program (end.FilesFault path) links = record { on_io = links.on_io; on_child = links.on_child }
+        other_program end.LinkFault (inl links) = inl (record { on_io = links.on_io; on_child = links.on_child })
+        other_program end.LinkFault (inr links) = inr (record { on_io = links.on_io; on_child = links.on_child })
+        other_program end.TermFault links = record { on_io = links.on_io; on_child = links.on_child }
+        other_program end.ChildFault links = record { on_io = links.on_io; on_child = links.on_child }
+        other_program end.TooLong links = record { on_io = links.on_io; on_child = links.on_child }
+
+  awaited_links : (started : Bool) (how ended : End) (status left : ℕ) → Awaits started mid.child now.child how ended status left → LinksCount how before mid → LinksCount ended before now
+  awaited_links true how ended status left (inl done) links = rw done.end_is (same_links how done.link links)
+  awaited_links true how ended status left (inr failed) links = rw failed.end_is (unwaited_links how before now (same_links how failed.link links))
+  awaited_links false how ended status left none links = rw none.end_is (same_links how (ap (λ (c : ChildState). c.link) none.child) links)
+
+-- ---- the program
+
+-- how often a start failed, by the end of the tool
+abbrev StartCounts : ToolEnd → ℕ → ℕ → Type 0
+StartCounts tool.ChildFault before now = Rose before now
+StartCounts ended before now = now ≡ before
+
+served_start : (served : LinkEnd StepError) (before now : ℕ) → now ≡ before → StartCounts (tool_end_of served) before now
+served_start link.Done before now same = same
+served_start link.LinkFault before now same = same
+served_start link.TooLong before now same = same
+served_start link.OutOfMemory before now same = same
+served_start (link.Broken step.Term) before now same = same
+served_start (link.Broken step.OutOfMemory) before now same = same
+
+silent_start : (ended : ToolEnd) (state : SessionState) (rest : List (List ℕ)) (new : SessionState) (count : ℕ) → EndsAt ended state rest new → StartCounts ended count count
+silent_start tool.Done state rest new count ends = refl
+silent_start (tool.FilesFault path) state rest new count ends = refl
+silent_start tool.OutOfMemory state rest new count ends = refl
+silent_start tool.LinkFault state rest new count ends = absurd ends
+silent_start tool.TooLong state rest new count ends = absurd ends
+silent_start tool.TermFault state rest new count ends = absurd ends
+silent_start tool.ChildFault state rest new count ends = absurd ends
+
+unstarted_program : (command : List (List ℕ)) (error : LinkError) (before now : Program) → Starts {T = Unit {0}} command before now (Err error) → StartCounts (end_unstarted error) before.failures now.failures
+unstarted_program command Failed before now failed = failed.failures
+unstarted_program command OutOfMemory before now same = ap (λ (p : Program). p.failures) same
+
+tool_program : (used : Tool) (start : SessionState) (before now : Links) (answer : ToolAnswer) (said : List ℕ) (layers : List LayerState) (files : FilesState)
+    → Uses used start before now answer said layers files → StartCounts answer.ended before.child.program.failures now.child.program.failures
+tool_program (Communicate owner) start before now answer said layers files uses = rw uses.0.ended_is (served_start uses.0.ended _ _ (ap (λ (c : ChildState). c.program.failures) uses.1))
+tool_program (LoadTemplate owner paths) start before now answer said layers files uses =
+    rw uses.links_are (silent_start answer.ended _ uses.loaded.rest uses.state before.child.program.failures uses.loaded.ends)
+tool_program (Run owner frontend priority command) start before now answer said layers files uses = elim uses.0 [
+  | inl none ↦ rw none.ended_is (unstarted_program command none.error before.child.program now.child.program none.starts)
+  | inr started ↦ rw started.ended_is (served_start started.ended before.child.program.failures now.child.program.failures started.began.failures)
+]
+
+module _ (layers used : List LayerState) (files new : FilesState) (before now : ℕ) where
+  run_program : (ended : ToolEnd) (how : End) → Finishes layers used ended files new how → StartCounts ended before now → ProgramCounts how before now
+  run_program tool.Done how (inl saved) same = rw saved.end_is same
+  run_program tool.Done how (inr (inl unsaved)) same = rw unsaved.end_is (inl same)
+  run_program tool.Done how (inr (inr none)) same = rw none.end_is (inl same)
+  run_program tool.TooLong how (inl saved) same = rw saved.end_is (inl same)
+  run_program tool.TooLong how (inr (inl unsaved)) same = rw unsaved.end_is (inl same)
+  run_program tool.TooLong how (inr (inr none)) same = rw none.end_is (inl same)
+  run_program tool.LinkFault how (inl saved) same = rw saved.end_is (inl same)
+  run_program tool.LinkFault how (inr (inl unsaved)) same = rw unsaved.end_is (inl same)
+  run_program tool.LinkFault how (inr (inr none)) same = rw none.end_is (inl same)
+  run_program tool.TermFault how broken same = rw broken.end_is (inl same)
+  run_program tool.ChildFault how broken rose = rw broken.end_is rose
+  run_program tool.OutOfMemory how broken same = rw broken.end_is (inl same)
+  run_program (tool.FilesFault path) how broken same = rw broken.end_is (inl same)
+
+-- a failed wait behind all that
+later_rose : (before mid now : ℕ) → Rose before mid → Rose mid now → Rose before now
+later_rose before mid now first second = record { later = omega (arith, first.later, second.later); rose = omega (arith, first.rose, second.later) }
+
+rose_after : (before mid now : ℕ) → (mid ≡ before) ⊎ Rose before mid → Rose mid now → Rose before now
+rose_after before mid now (inl same) rose = subst (λ (n : ℕ). Rose n now) same rose
+rose_after before mid now (inr first) rose = later_rose before mid now first rose
+
+unwaited_program : (how : End) (before mid now : ℕ) → ProgramCounts how before mid → Rose mid now → ProgramCounts (end_unwaited how) before now
+unwaited_program end.Done before mid now same rose = subst (λ (n : ℕ). Rose n now) same rose
+unwaited_program (end.Usage word) before mid now counts rose = inr (rose_after before mid now counts rose)
+unwaited_program (end.ConfRefused line kind) before mid now counts rose = inr (rose_after before mid now counts rose)
+unwaited_program (end.BadPattern place) before mid now counts rose = inr (rose_after before mid now counts rose)
+unwaited_program (end.PatternTooLarge place) before mid now counts rose = inr (rose_after before mid now counts rose)
+unwaited_program (end.Damaged path line) before mid now counts rose = inr (rose_after before mid now counts rose)
+unwaited_program end.OutOfMemory before mid now counts rose = inr (rose_after before mid now counts rose)
+unwaited_program (end.FilesFault path) before mid now counts rose = inr (rose_after before mid now counts rose)
+unwaited_program end.LinkFault before mid now counts rose = inr (rose_after before mid now counts rose)
+unwaited_program end.TermFault before mid now counts rose = inr (rose_after before mid now counts rose)
+unwaited_program end.ChildFault before mid now first rose = later_rose before mid now first rose
+unwaited_program end.TooLong before mid now counts rose = inr (rose_after before mid now counts rose)
+
+awaited_program : (started : Bool) (before : ℕ) (mid now : ChildState) (how ended : End) (status left : ℕ) → Awaits started mid now how ended status left → ProgramCounts how before mid.program.failures
+    → ProgramCounts ended before now.program.failures
+awaited_program true before mid now how ended status left (inl done) counts = rw done.end_is (subst (λ (n : ℕ). ProgramCounts how before n) (ap (λ (p : Program). p.failures) (sym done.waits)) counts)
+awaited_program true before mid now how ended status left (inr failed) counts = rw failed.end_is (unwaited_program how before mid.program.failures now.program.failures counts failed.waits.failures)
+awaited_program false before mid now how ended status left none counts = rw none.end_is (subst (λ (c : ChildState). ProgramCounts how before c.program.failures) (sym none.child) counts)
+
+-- ---- the whole run
+
+module _ (used : Tool) (settings : Settings) (old new : World) (outcome : Outcome) where
+  pub links_counted : HasRunTool used settings old new outcome → LinksCount outcome.end old.links new.links
+  links_counted (inl before) = subst (λ (l : Links). LinksCount outcome.end old.links l) (sym before.1.links_are) (before_links old.links settings.conf_path old.stock.files new.stock outcome.end before.0)
+  links_counted (inr run) =
+      awaited_links old.links run.links new.links run.io_is run.answer.is_started run.how outcome.end run.answer.status run.status run.awaits
+      (run_links run.layers new.stock.used run.files new.stock.files old.links run.links run.answer.ended run.how run.finishes
+      (tool_links used run.mid run.roots settings old.links run.links run.answer run.told run.layers run.files run.uses))
+
+  pub program_counted : HasRunTool used settings old new outcome → ProgramCounts outcome.end old.links.child.program.failures new.links.child.program.failures
+  program_counted (inl before) = subst (λ (l : Links). ProgramCounts outcome.end old.links.child.program.failures l.child.program.failures) (sym before.1.links_are)
+      (before_program old.links.child.program.failures settings.conf_path old.stock.files new.stock outcome.end before.0)
+  program_counted (inr run) =
+      awaited_program run.answer.is_started old.links.child.program.failures run.links.child new.links.child run.how outcome.end run.answer.status run.status run.awaits
+      (run_program run.layers new.stock.used run.files new.stock.files old.links.child.program.failures run.links.child.program.failures run.answer.ended run.how run.finishes
+      (tool_program used (begun used run.mid run.roots settings old.links.io) old.links run.links run.answer run.told run.layers run.files run.uses))

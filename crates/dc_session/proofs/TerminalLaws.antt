@@ -1,0 +1,158 @@
+-- How a session counts on its terminal.
+use Rattle.std.proofs.Common.{◌≡◌, ◌⊎◌, List, [], ◌∷◌, refl, ap, subst, ◌∙◌, inl, inr}
+use Rattle.std.specs.Prelude.{Result, Ok, Err}
+use Rattle.dc_outside.specs.Counts.{FaultRose, RefusalRose}
+use Rattle.dc_outside.specs.Told.{Counts}
+use Rattle.dc_outside.specs.declared.link.LinkError.TheVariants as link
+use Rattle.dc_words.specs.declared.stream.Line.{Line}
+use Rattle.dc_words.specs.declared.stream.Line.TheVariants.{Whole, TooLong}
+use Rattle.dc_frontend.specs.declared.frontend.Frontend.{Frontend}
+use Rattle.dc_frontend.specs.declared.frontend.Frontend.TheVariants.{Noninteractive}
+use Rattle.dc_proto.specs.Commands.{heard}
+use Rattle.dc_proto.specs.declared.command.Command.{Command}
+use Rattle.dc_proto.specs.declared.command.Command.TheVariants.{Go, ProgressStart, ProgressSet, ProgressStep, ProgressInfo}
+use Rattle.dc_proto.specs.declared.command.Heard.{Heard}
+use Rattle.dc_proto.specs.declared.command.Heard.TheVariants.{Nothing, Known, Refused}
+use Rattle.dc_serve.specs.Course.{Turn, state_after, IsCourse}
+use Rattle.dc_teletype.specs.declared.teletype.Asked.{Asked}
+use Rattle.dc_teletype.specs.declared.teletype.Asked.TheVariants.{Answers}
+use Rattle.dc_session.specs.Displays.{Display, Blank, OneLine, Dialogue, CountsOn, displayed, where_asked, Shows}
+use Rattle.dc_session.specs.Machine.{Heeds, Steps, StepsHeard, Breaks, BreaksHeard, BreaksIdle, BreaksOff, GivesInPart, IsDoneInPart}
+use Rattle.dc_session.specs.SessionState.{TerminalState, SessionState}
+use Rattle.dc_session.specs.declared.asking.Asking.{Asking}
+use Rattle.dc_session.specs.declared.stepped.StepError.{StepError}
+use Rattle.dc_session.specs.declared.stepped.StepError.TheVariants as step
+use Rattle.dc_session.specs.declared.stepped.Stepped.{Stepped}
+
+-- ---- one use
+
+no_error : {A E : Type 0} (a : A) (e : E) → ◌≡◌ {A = Result A E} (Err e) (Ok a) → ⊥
+no_error a e is = cc
+
+module _ (old new : TerminalState) where
+  all_done : (asked : Asked) → CountsOn old new (Ok asked) → new.link.counts ≡ old.link.counts
+  all_done asked counts = λ i. record { faults = counts.faults i; refusals = counts.refusals i }
+
+  one_failed : CountsOn old new (Err link.Failed) → FaultRose old.link.counts new.link.counts
+  one_failed counts = record { faults = counts.faults; refusals = counts.refusals }
+
+  none_left : CountsOn old new (Err link.OutOfMemory) → (new.link.counts ≡ old.link.counts) ⊎ RefusalRose old.link.counts new.link.counts
+  none_left counts = elim counts.refusals [
+    | inl rose ↦ inr (record { faults = counts.faults; refusals = rose })
+    | inr same ↦ inl (λ i. record { faults = counts.faults i; refusals = same i })
+  ]
+
+  shows_stay : (asking : Asking) (display : Display) (asked : Asked) → Shows asking display old (Ok asked) new → new.link.counts ≡ old.link.counts
+  shows_stay asking Blank asked shows = ap (λ (t : TerminalState). t.link.counts) shows.1
+  shows_stay asking (OneLine text) asked shows = all_done asked shows.counts
+  shows_stay asking (Dialogue questions) asked shows = all_done asked shows.counts
+
+  shows_fail : (asking : Asking) (display : Display) → Shows asking display old (Err link.Failed) new → FaultRose old.link.counts new.link.counts
+  shows_fail asking Blank shows = absurd (no_error (Answers []) link.Failed shows.0)
+  shows_fail asking (OneLine text) shows = one_failed shows.counts
+  shows_fail asking (Dialogue questions) shows = one_failed shows.counts
+
+  shows_no_memory : (asking : Asking) (display : Display) → Shows asking display old (Err link.OutOfMemory) new → (new.link.counts ≡ old.link.counts) ⊎ RefusalRose old.link.counts new.link.counts
+  shows_no_memory asking Blank shows = absurd (no_error (Answers []) link.OutOfMemory shows.0)
+  shows_no_memory asking (OneLine text) shows = none_left shows.counts
+  shows_no_memory asking (Dialogue questions) shows = none_left shows.counts
+
+-- ---- one line
+
+-- the terminal counted nothing
+abbrev pub CountsNothing : SessionState → SessionState → Type 0
+CountsNothing old new = new.terminal.link.counts ≡ old.terminal.link.counts
+
+same_state : (old new : SessionState) → new ≡ old → CountsNothing old new
+same_state old new same = ap (λ (s : SessionState). s.terminal.link.counts) same
+
+heard_count : (said : Heard) (old new : SessionState) (did : Stepped) → StepsHeard said old did new → CountsNothing old new
+heard_count Nothing old new did steps = same_state old new steps.1
+heard_count (Known command) old new did done = shows_stay old.terminal new.terminal old.asking (displayed old command) done.given.asked done.gives.shows
+heard_count (Refused reply) old new did steps = same_state old new steps.1
+
+steps_count : (line : Line) (old new : SessionState) (did : Stepped) → Steps old line did new → CountsNothing old new
+steps_count TooLong old new did steps = same_state old new steps.1
+steps_count (Whole line) old new did steps = heard_count (heard old.asking.escape line) old new did steps
+
+-- what the terminal counted at a line that came to nothing
+abbrev pub CountsBreak : StepError → Counts → Counts → Type 0
+CountsBreak step.Term before now = FaultRose before now
+CountsBreak step.OutOfMemory before now = (now ≡ before) ⊎ RefusalRose before now
+
+part_counts : (command : Command) (old new : SessionState) → IsDoneInPart command old new → CountsBreak step.OutOfMemory old.terminal.link.counts new.terminal.link.counts
+part_counts command old new done = elim done.part [
+  | inl given ↦ given_counts given
+  | inr left ↦ inl (shows_stay old.terminal new.terminal old.asking (displayed old command) left.given.asked left.gives.shows)
+] where
+  given_counts : GivesInPart command old new → CountsBreak step.OutOfMemory old.terminal.link.counts new.terminal.link.counts
+  given_counts given = elim given.gives [
+    | inl vain ↦ inl (ap (λ (t : TerminalState). t.link.counts) vain.1)
+    | inr shown ↦ shows_no_memory old.terminal new.terminal old.asking (displayed old command) shown.0
+  ]
+
+idle_counts : (old new : SessionState) (error : StepError) → BreaksIdle old error new → CountsBreak error old.terminal.link.counts new.terminal.link.counts
+idle_counts old new step.OutOfMemory same = inl (same_state old new same)
+idle_counts old new step.Term none = absurd none
+
+off_counts : (command : Command) (old new : SessionState) (error : StepError) → BreaksOff command old error new → CountsBreak error old.terminal.link.counts new.terminal.link.counts
+off_counts command old new step.OutOfMemory (inl same) = inl (same_state old new same)
+off_counts command old new step.OutOfMemory (inr part) = part_counts command old new part
+off_counts command old new step.Term fails = shows_fail old.terminal new.terminal old.asking (displayed old command) fails.shows
+
+heard_breaks : (said : Heard) (old new : SessionState) (error : StepError) → BreaksHeard said old error new → CountsBreak error old.terminal.link.counts new.terminal.link.counts
+heard_breaks Nothing old new error idle = idle_counts old new error idle
+heard_breaks (Known command) old new error off = off_counts command old new error off
+heard_breaks (Refused reply) old new error idle = idle_counts old new error idle
+
+-- the terminal failed at a line, or found no memory at most
+pub breaks_count : (old new : SessionState) (line : Line) (error : StepError) → Breaks old line error new → CountsBreak error old.terminal.link.counts new.terminal.link.counts
+breaks_count old new TooLong error idle = idle_counts old new error idle
+breaks_count old new (Whole line) error breaks = heard_breaks (heard old.asking.escape line) old new error breaks
+
+-- at lines that are answered it counted nothing
+pub course_counts : (start : SessionState) (turns : List (Turn SessionState)) → IsCourse Heeds start turns → CountsNothing start (state_after start turns)
+course_counts start [] course = refl
+course_counts start (turn ∷ turns) course = course_counts turn.new turns course.2 ∙ steps_count turn.line start turn.new course.0.stepped course.0.steps
+
+-- ---- a session that asks nobody
+
+where_none : (frontend : Frontend) (display : Display) → frontend ≡ Noninteractive → where_asked frontend display ≡ Blank
+where_none frontend display is = ap (λ (f : Frontend). where_asked f display) is
+
+-- the session asks nobody
+abbrev pub AsksNobody : SessionState → Type 0
+AsksNobody state = state.manner.frontend ≡ Noninteractive
+
+-- it shows nothing
+pub displays_none : (state : SessionState) → AsksNobody state → (command : Command) → displayed state command ≡ Blank
+displays_none state nobody Go = where_none state.manner.frontend _ nobody
+displays_none state nobody (ProgressStart low high word) = where_none state.manner.frontend _ nobody
+displays_none state nobody (ProgressSet number) = where_none state.manner.frontend _ nobody
+displays_none state nobody (ProgressStep number) = where_none state.manner.frontend _ nobody
+displays_none state nobody (ProgressInfo word) = where_none state.manner.frontend _ nobody
+displays_none state nobody command = refl
+
+heard_nobody : (said : Heard) (old new : SessionState) (did : Stepped) → AsksNobody old → StepsHeard said old did new → AsksNobody new
+heard_nobody Nothing old new did nobody steps = ap (λ (s : SessionState). s.manner.frontend) steps.1 ∙ nobody
+heard_nobody (Known command) old new did nobody steps = ap (λ (s : SessionState). s.manner.frontend) steps.new_is ∙ nobody
+heard_nobody (Refused reply) old new did nobody steps = ap (λ (s : SessionState). s.manner.frontend) steps.1 ∙ nobody
+
+pub steps_nobody : (line : Line) (old new : SessionState) (did : Stepped) → AsksNobody old → Steps old line did new → AsksNobody new
+steps_nobody TooLong old new did nobody steps = ap (λ (s : SessionState). s.manner.frontend) steps.1 ∙ nobody
+steps_nobody (Whole line) old new did nobody steps = heard_nobody (heard old.asking.escape line) old new did nobody steps
+
+pub course_nobody : (start : SessionState) (turns : List (Turn SessionState)) → AsksNobody start → IsCourse Heeds start turns → AsksNobody (state_after start turns)
+course_nobody start [] nobody course = nobody
+course_nobody start (turn ∷ turns) nobody course = course_nobody turn.new turns (steps_nobody turn.line start turn.new course.0.stepped nobody course.0.steps) course.2
+
+heard_unfailed : (said : Heard) (old new : SessionState) → AsksNobody old → BreaksHeard said old step.Term new → ⊥
+heard_unfailed Nothing old new nobody none = none
+heard_unfailed (Known command) old new nobody fails =
+    no_error (Answers []) link.Failed (subst (λ (d : Display). Shows old.asking d old.terminal (Err link.Failed) new.terminal) (displays_none old nobody command) fails.shows).0
+heard_unfailed (Refused reply) old new nobody none = none
+
+-- so its terminal fails at no line
+pub never_fails : (old new : SessionState) (line : Line) → AsksNobody old → Breaks old line step.Term new → ⊥
+never_fails old new TooLong nobody none = none
+never_fails old new (Whole line) nobody breaks = heard_unfailed (heard old.asking.escape line) old new nobody breaks

@@ -1,0 +1,66 @@
+// The terminal of a session.
+ghost use Rattle.std.specs.Prelude.{◌≡◌};
+ghost use Rattle.dc_session.specs.Displays.{HasLine, HasDialogue};
+ghost use Rattle.dc_session.specs.Inside.{told};
+
+use crate::asking::Asking;
+use dc_frontend::Shown;
+use dc_outside::{Link, LinkError};
+use dc_teletype::{Asked, Teletype};
+use dc_text::{List, Text};
+
+// Writes a line on the terminal.
+pub(crate) fn tell_on<T: Link>(
+    link: &mut T,
+    teletype: &mut Teletype,
+    line: &Text,
+) -> Result<(), LinkError>
+    ensures { HasLine line.now
+        (record { link = record { talk = T.talk link.old; input = T.left link.old; counts = record { faults = T.faults link.old; refusals = T.refusals link.old } }; ahead = teletype.old.ahead })
+        (record { link = record { talk = T.talk link.new; input = T.left link.new; counts = record { faults = T.faults link.new; refusals = T.refusals link.new } }; ahead = teletype.new.ahead })
+        (told result) }
+{
+    teletype.tell(link, line)
+}
+
+// Holds the dialogue over these questions on the terminal, under what the confmodule said of itself.
+pub(crate) fn ask_on<T: Link>(
+    link: &mut T,
+    teletype: &mut Teletype,
+    asking: &Asking,
+    questions: &List<Shown>,
+) -> Result<Asked, LinkError>
+    ensures { HasDialogue asking.now questions.now
+        (record { link = record { talk = T.talk link.old; input = T.left link.old; counts = record { faults = T.faults link.old; refusals = T.refusals link.old } }; ahead = teletype.old.ahead })
+        (record { link = record { talk = T.talk link.new; input = T.left link.new; counts = record { faults = T.faults link.new; refusals = T.refusals link.new } }; ahead = teletype.new.ahead })
+        result }
+{
+    teletype.ask(link, questions, asking.backup, &asking.title)
+}
+
+/// The terminal of a session that asks nobody: it has no input, and what is written to it is lost.
+#[derive(Drop)]
+pub struct NoTerminal;
+
+impl Link for NoTerminal {
+    ghost use Rattle.std.specs.Prelude.{None};
+    ghost use Rattle.dc_outside.specs.Programs.{no_program};
+
+    ghost talk = { λ _. None };
+
+    ghost left = { λ _. None };
+
+    ghost faults = { λ _. 0 };
+
+    ghost refusals = { λ _. 0 };
+
+    ghost program = { λ _. no_program };
+
+    fn read_some(&mut self, _buf: &mut [u8]) -> Result<usize, LinkError> {
+        Ok(0)
+    }
+
+    fn write(&mut self, _bytes: &[u8]) -> Result<(), LinkError> {
+        Ok(())
+    }
+}

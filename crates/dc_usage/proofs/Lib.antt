@@ -1,0 +1,4 @@
+pub mod AnswerLemmas
+pub mod OptionLemmas
+pub mod RunLemmas
+pub mod ToolLemmas

@@ -1,0 +1,2 @@
+pub mod RunReading
+pub mod Tools
