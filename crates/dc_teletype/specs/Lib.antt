@@ -5,3 +5,4 @@ pub mod Inside
 pub mod Keys
 pub mod Prompts
 pub mod TerminalLines
+pub mod Typed
