@@ -1,3 +1,4 @@
+pub mod AnsweredLemmas
 pub mod AskLemmas
 pub mod DialogueLemmas
 pub mod FirstLineLemmas
