@@ -12,6 +12,7 @@ use Rattle.dc_outside.specs.declared.link.Piece.{Piece}
 use Rattle.dc_outside.specs.declared.link.Piece.TheVariants.{Got, Sent, Cut as CutPiece, Lost}
 use Rattle.dc_teletype.specs.declared.terminal.TerminalLine.{TerminalLine}
 use Rattle.dc_teletype.specs.declared.terminal.TerminalLine.TheVariants.{Cut}
+use Rattle.dc_outside.proofs.Saying.{sent-append}
 use Rattle.dc_outside.specs.Talk.{sent, got}
 use Rattle.dc_teletype.specs.TerminalLines.{Ahead, Reads, longest, last_line, first_line}
 use Rattle.dc_teletype.specs.Dialogue.{Step, Stage, Waits, Over, Goes, turn}
@@ -61,13 +62,6 @@ typed_next : (bytes : List ℕ) → typed_lines bytes ≡ then_lines (next_of by
 typed_next bytes = behind_next bytes [] refl (omega arith)
 
 -- ---- what is said
-
-sent-append : (a b : List Piece) → sent (a ++ b) ≡ sent a ++ sent b
-sent-append [] b = refl
-sent-append (Got bytes ∷ a) b = sent-append a b
-sent-append (Sent bytes ∷ a) b = ap (λ (l : List ℕ). bytes ++ l) (sent-append a b) ∙ sym (append_assoc bytes (sent a) (sent b))
-sent-append (CutPiece bytes ∷ a) b = ap (λ (l : List ℕ). bytes ++ l) (sent-append a b) ∙ sym (append_assoc bytes (sent a) (sent b))
-sent-append (Lost ∷ a) b = sent-append a b
 
 -- nothing is said where a line is read
 reads_sent : (old new : Ahead) (pieces : List Piece) (came : Option TerminalLine) → Reads old pieces came new → sent pieces ≡ []
