@@ -75,6 +75,8 @@ fn run(rt: HostRuntime) -> Mem<u8> {
     let outcome = run_words(
         alloc, &words, &settings, &mut io, &mut err, &mut child, &mut files, &mut shelf,
     );
+    // the program ends here, and what its databases hold isn't given back entry by entry
+    std::mem::forget(shelf);
     Ok(outcome.status)
 }
 
