@@ -9,10 +9,10 @@ ghost use Rattle.dc_outside.specs.Disk.{Disk};
 ghost use Rattle.dc_outside.specs.declared.files.FilesCall.{FilesCall};
 ghost use Rattle.dc_outside.specs.declared.link.Piece.{Piece};
 ghost use Rattle.dc_outside.specs.declared.link.Piece.TheVariants.{Got};
-ghost use Rattle.dc_frontend.specs.declared.frontend.Frontend.TheVariants.{Noninteractive};
+ghost use Rattle.dc_frontend.specs.declared.frontend.Frontend.TheVariants.{Noninteractive, Teletype};
 ghost use Rattle.dc_proto.specs.Commands.{heard};
 ghost use Rattle.dc_proto.specs.declared.command.Command.{Command};
-ghost use Rattle.dc_proto.specs.declared.command.Command.TheVariants.{Get, Set};
+ghost use Rattle.dc_proto.specs.declared.command.Command.TheVariants.{Get, Go, Set};
 ghost use Rattle.dc_proto.specs.declared.command.Heard.TheVariants.{Known};
 ghost use Rattle.dc_proto.specs.declared.reply.Reply.{Reply};
 ghost use Rattle.dc_store.specs.StoreLaws.{AreSameButAll};
@@ -20,10 +20,13 @@ ghost use Rattle.dc_serve.specs.Course.{Turn, lines_of, state_after, IsCourse};
 ghost use Rattle.dc_serve.specs.Step.{IsRead, InStep};
 ghost use Rattle.dc_serve.specs.declared.heeds.Heeded.{Heeded};
 ghost use Rattle.dc_serve.specs.declared.heeds.Heeded.TheVariants as heeded;
+ghost use Rattle.dc_session.specs.Alike.{AreAlike, AreTurnsAlike};
 ghost use Rattle.dc_session.specs.Answers.{nothing, answer, names_on, text_reply};
+ghost use Rattle.dc_session.specs.Asking.{first_fixed};
 ghost use Rattle.dc_session.specs.Escaping.{set_line, unescaped};
 ghost use Rattle.dc_session.specs.Machine.{Heeds, Steps, Breaks, HasDone};
 ghost use Rattle.dc_session.specs.SessionState.{SessionState};
+ghost use Rattle.dc_session.specs.Taken.{Takes};
 ghost use Rattle.dc_session.specs.declared.stepped.StepError.TheVariants.{Term};
 ghost use Rattle.dc_session.specs.declared.stepped.Stepped.{Stepped};
 ghost use Rattle.dc_session.specs.declared.stepped.Stepped.TheVariants.{Replied};
@@ -46,6 +49,20 @@ pub fn other_items_stay()
 pub fn lines_and_files_determine_the_course()
     ensures { (start : SessionState) (disk : Disk) (calls : List FilesCall) (a b : List (Turn SessionState)) → start.files.told ≡ record { disk = Some disk; calls = Some calls } → start.manner.frontend ≡ Noninteractive
         → IsCourse Heeds start a → IsCourse Heeds start b → lines_of a ≡ lines_of b → each (λ turn. turn.new.files) a ≡ each (λ turn. turn.new.files) b → a ≡ b }
+{}
+
+/// Where the files tell of the disk and of the calls on them, and the terminal of its talk and its input, the lines, the files and what is
+/// typed determine what a session says and leaves, in any manner of asking and in whatever pieces what is typed comes: the replies, the store
+/// and what is asked for, what is said on the terminal, and what is left of what is typed.
+pub fn lines_files_and_answers_determine_the_course()
+    ensures { (start other : SessionState) (disk : Disk) (calls : List FilesCall) (a b : List (Turn SessionState)) → start.files.told ≡ record { disk = Some disk; calls = Some calls } → AreAlike start other
+        → IsCourse Heeds start a → IsCourse Heeds other b → lines_of a ≡ lines_of b → each (λ turn. turn.new.files) a ≡ each (λ turn. turn.new.files) b → AreTurnsAlike a b }
+{}
+
+/// Where a user is asked, and no prepared question has a value that can't be changed, GO does what the user answers: all questions that were
+/// shown are set to the values that they were given, or the user went back. The reply is `0 ok` or `30 backup`.
+pub fn given_answers_are_taken()
+    ensures { (old new : SessionState) (did : Stepped) → old.manner.frontend ≡ Teletype → first_fixed old ≡ None → (done : HasDone Go old did new) → Takes old done.given.asked did new }
 {}
 
 /// A run in which a line has come that has a reply, and the next piece is a read, whether more came or it failed, isn't in
