@@ -176,7 +176,7 @@ module _ (disk : Disk) (old : SessionState) (terminal : TerminalState) (alike : 
   steps_alike TooLong first second = (first.0 ∙ sym second.0, kept_alike first.1 second.1)
   steps_alike (Whole line) first second = heard_alike (heard old.asking.escape line) first second
 
-heeds_alike : (disk : Disk) (old : SessionState) (terminal : TerminalState) → AreTerminalsAlike old.terminal terminal → IsTold disk old.files.told → (did other : Heeded) (new left : SessionState) → new.files ≡ left.files → (line : Line)
+pub heeds_alike : (disk : Disk) (old : SessionState) (terminal : TerminalState) → AreTerminalsAlike old.terminal terminal → IsTold disk old.files.told → (did other : Heeded) (new left : SessionState) → new.files ≡ left.files → (line : Line)
     → Heeds old line did new → Heeds (record old { terminal = terminal }) line other left → (did ≡ other) × AreAlike new left
 heeds_alike disk old terminal alike told did other new left files line first second =
     let same = steps_alike disk old terminal alike told first.stepped second.stepped new left files line first.steps second.steps in

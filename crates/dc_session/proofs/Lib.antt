@@ -12,6 +12,7 @@ pub mod GoLemmas
 pub mod LineLaws
 pub mod LoadLemmas
 pub mod ProgressLemmas
+pub mod RunLaws
 pub mod SameAnswers
 pub mod NameLemmas
 pub mod ServeLemmas

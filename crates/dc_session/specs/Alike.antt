@@ -1,7 +1,9 @@
 -- Sessions that differ in their terminals alone, and there only in how the bytes came.
-use Rattle.std.specs.Prelude.{◌≡◌, ⊤, List, [], ◌∷◌, Some}
+use Rattle.std.specs.Prelude.{◌≡◌, ⊤, ℕ, List, [], ◌∷◌, Some}
 use Rattle.dc_outside.specs.Talk.{sent}
+use Rattle.dc_outside.specs.declared.link.Piece.{Piece}
 use Rattle.dc_serve.specs.Course.{Turn}
+use Rattle.dc_serve.specs.Said.{said}
 use Rattle.dc_teletype.specs.Typed.{ToldTerminal, IsUsedUp, typed}
 use Rattle.dc_session.specs.SessionState.{TerminalState, SessionState}
 
@@ -32,3 +34,15 @@ AreTurnsAlike [] [] = ⊤
 AreTurnsAlike [] (other ∷ others) = ⊥
 AreTurnsAlike (one ∷ ones) [] = ⊥
 AreTurnsAlike (one ∷ ones) (other ∷ others) = (one.did ≡ other.did) × AreAlike one.new other.new × AreTurnsAlike ones others
+
+-- turn by turn the same files are left, as far as both go
+abbrev pub AreFilesAlike : List (Turn SessionState) → List (Turn SessionState) → Type 0
+AreFilesAlike [] others = ⊤
+AreFilesAlike (one ∷ ones) [] = ⊤
+AreFilesAlike (one ∷ ones) (other ∷ others) = (one.new.files ≡ other.new.files) × AreFilesAlike ones others
+
+-- two runs sent the same replies, and the same last code, and what they left is alike
+pub record EndAlike (pieces others : List Piece) (code other_code : ℕ) (one other : SessionState) : Type 0 where
+  pub replies : said pieces ≡ said others
+  pub code_is : code ≡ other_code
+  pub states : AreAlike one other

@@ -1,5 +1,5 @@
 //! Laws of sessions, over the definitions alone.
-ghost use Rattle.std.specs.Prelude.{◌≡◌, ◌≢◌, List, ℕ, [], ◌∷◌, Some, None, true, map as each};
+ghost use Rattle.std.specs.Prelude.{◌≡◌, ◌≢◌, List, ℕ, Option, [], ◌∷◌, Some, None, true, map as each};
 ghost use Rattle.dc_text.specs.Settled.{settled};
 ghost use Rattle.dc_words.specs.Escaped.{escaped};
 ghost use Rattle.dc_words.specs.declared.stream.Line.{Line};
@@ -17,10 +17,12 @@ ghost use Rattle.dc_proto.specs.declared.command.Heard.TheVariants.{Known};
 ghost use Rattle.dc_proto.specs.declared.reply.Reply.{Reply};
 ghost use Rattle.dc_store.specs.StoreLaws.{AreSameButAll};
 ghost use Rattle.dc_serve.specs.Course.{Turn, lines_of, state_after, IsCourse};
+ghost use Rattle.dc_serve.specs.Run.{HasRun};
+ghost use Rattle.dc_serve.specs.declared.outcome.LinkEnd.TheVariants.{Done};
 ghost use Rattle.dc_serve.specs.Step.{IsRead, InStep};
 ghost use Rattle.dc_serve.specs.declared.heeds.Heeded.{Heeded};
 ghost use Rattle.dc_serve.specs.declared.heeds.Heeded.TheVariants as heeded;
-ghost use Rattle.dc_session.specs.Alike.{AreAlike, AreTurnsAlike};
+ghost use Rattle.dc_session.specs.Alike.{AreAlike, AreTurnsAlike, AreFilesAlike, EndAlike};
 ghost use Rattle.dc_session.specs.Answers.{nothing, answer, names_on, text_reply};
 ghost use Rattle.dc_session.specs.Asking.{first_fixed};
 ghost use Rattle.dc_session.specs.Escaping.{set_line, unescaped};
@@ -57,6 +59,16 @@ pub fn lines_and_files_determine_the_course()
 pub fn lines_files_and_answers_determine_the_course()
     ensures { (start other : SessionState) (disk : Disk) (calls : List FilesCall) (a b : List (Turn SessionState)) → start.files.told ≡ record { disk = Some disk; calls = Some calls } → AreAlike start other
         → IsCourse Heeds start a → IsCourse Heeds other b → lines_of a ≡ lines_of b → each (λ turn. turn.new.files) a ≡ each (λ turn. turn.new.files) b → AreTurnsAlike a b }
+{}
+
+/// Two runs over links of which the same bytes are to come, that both come to the end, say the same and leave what is alike, however the
+/// links cut their bytes and the terminals what is typed, from sessions that are alike, where the files are the same turn by turn. So the
+/// bytes of the link, the files and what is typed determine the replies and the store.
+pub fn bytes_files_and_answers_determine_the_run()
+    ensures { (start other new last : SessionState) (disk : Disk) (calls : List FilesCall) (input : List ℕ) (talk new_talk told new_told : Option (List Piece)) (left rest : Option (List ℕ)) (code number : ℕ)
+        → start.files.told ≡ record { disk = Some disk; calls = Some calls } → AreAlike start other
+        → (one : HasRun Heeds Breaks talk new_talk (Some input) left start Done new code) → (two : HasRun Heeds Breaks told new_told (Some input) rest other Done last number)
+        → AreFilesAlike one.turns two.turns → EndAlike one.pieces two.pieces code number new last }
 {}
 
 /// Where a user is asked, and no prepared question has a value that can't be changed, GO does what the user answers: all questions that were
