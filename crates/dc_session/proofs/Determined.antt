@@ -39,7 +39,7 @@ not_none : {A : Type 0} (a : A) → ◌≡◌ {A = Option A} None (Some a) → �
 not_none a is = cc
 
 -- the disk and the calls are told
-abbrev IsTold : Disk → Told → Type 0
+abbrev pub IsTold : Disk → Told → Type 0
 IsTold disk told = (calls : List FilesCall) × (told ≡ record { disk = Some disk; calls = Some calls })
 
 same_ok : (a b : Asked) → ◌≡◌ {A = Result Asked LinkError} (Ok a) (Ok b) → a ≡ b
@@ -101,7 +101,7 @@ module _ (disk : Disk) (path : List ℕ) (old new : FilesState) (told : IsTold d
   finds_told (Templates templates) finds = looked true finds.1.told_is
 
 module _ (disk : Disk) (old new : FilesState) (told : IsTold disk old.told) where
-  one_looked : (path : Option (List ℕ)) (found other : Found) → Looks path old found new → Looks path old other new → found ≡ other
+  pub one_looked : (path : Option (List ℕ)) (found other : Found) → Looks path old found new → Looks path old other new → found ≡ other
   one_looked None found other first second = first.0 ∙ sym second.0
   one_looked (Some path) found other first second = one_found disk path old new told found other first second
 
@@ -162,12 +162,12 @@ module _ (disk : Disk) (old : SessionState) (told : IsTold disk old.files.told) 
   steps_told TooLong steps = state_told steps.1
   steps_told (Whole line) steps = heard_told (heard old.asking.escape line) steps
 
-heeds_told : (disk : Disk) (old : SessionState) → IsTold disk old.files.told → (did : Heeded) (new : SessionState) (line : Line) → Heeds old line did new → IsTold disk new.files.told
+pub heeds_told : (disk : Disk) (old : SessionState) → IsTold disk old.files.told → (did : Heeded) (new : SessionState) (line : Line) → Heeds old line did new → IsTold disk new.files.told
 heeds_told disk old told did new line heeds = steps_told disk old told heeds.stepped new line heeds.steps
 
 -- ---- courses
 
-abbrev files_left : List (Turn SessionState) → List FilesState
+abbrev pub files_left : List (Turn SessionState) → List FilesState
 files_left turns = each (λ turn. turn.new.files) turns
 
 courses : (disk : Disk) (start : SessionState) (a b : List (Turn SessionState)) → AsksNobody start → IsTold disk start.files.told → IsCourse Heeds start a → IsCourse Heeds start b

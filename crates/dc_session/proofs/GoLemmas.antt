@@ -110,10 +110,10 @@ module _ (old : SessionState) (user : old.manner.frontend ≡ Teletype) where
         result (told_comes old (names_on old command.Go (answered_so (Answers []))) (cant_change name) result told))
 
   module _ (free : first_fixed old ≡ None) where
-    shows_dialogue : displayed old command.Go ≡ dialogue (to_show old)
+    pub shows_dialogue : displayed old command.Go ≡ dialogue (to_show old)
     shows_dialogue = shows_go ∙ ap (λ (f : Option (List ℕ)). option_map_or (λ n. Blank) f (dialogue (to_show old))) free
 
-    comes_to : (asked : Asked) → heard_out old asked ≡ answer old command.Go (answered_so asked)
+    pub comes_to : (asked : Asked) → heard_out old asked ≡ answer old command.Go (answered_so asked)
     comes_to asked = sym (ap (λ (f : Frontend). going f old asked) user ∙ ap (λ (f : Option (List ℕ)). option_map_or (λ n. tells old (cant_change n)) f (heard_out old asked)) free)
 
     sets : (asked : Asked) → going_names Teletype old asked ≡ names_on old command.Go (answered_so asked)

@@ -1,3 +1,4 @@
+pub mod AlikeLaws
 pub mod AskingLemmas
 pub mod BreakLemmas
 pub mod CallLemmas
@@ -11,9 +12,12 @@ pub mod GoLemmas
 pub mod LineLaws
 pub mod LoadLemmas
 pub mod ProgressLemmas
+pub mod RunLaws
+pub mod SameAnswers
 pub mod NameLemmas
 pub mod ServeLemmas
 pub mod SetLaws
+pub mod TakenLaws
 pub mod TerminalLaws
 pub mod TerminalLemmas
 pub mod Teeth

@@ -1,3 +1,4 @@
+pub mod Alike
 pub mod Answers
 pub mod Asking
 pub mod Displays
@@ -8,4 +9,5 @@ pub mod Machine
 pub mod Refusals
 pub mod Serving
 pub mod SessionState
+pub mod Taken
 pub mod TemplateFiles

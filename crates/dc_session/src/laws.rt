@@ -1,5 +1,5 @@
 //! Laws of sessions, over the definitions alone.
-ghost use Rattle.std.specs.Prelude.{◌≡◌, ◌≢◌, List, ℕ, [], ◌∷◌, Some, None, true, map as each};
+ghost use Rattle.std.specs.Prelude.{◌≡◌, ◌≢◌, List, ℕ, Option, [], ◌∷◌, Some, None, true, map as each};
 ghost use Rattle.dc_text.specs.Settled.{settled};
 ghost use Rattle.dc_words.specs.Escaped.{escaped};
 ghost use Rattle.dc_words.specs.declared.stream.Line.{Line};
@@ -9,21 +9,26 @@ ghost use Rattle.dc_outside.specs.Disk.{Disk};
 ghost use Rattle.dc_outside.specs.declared.files.FilesCall.{FilesCall};
 ghost use Rattle.dc_outside.specs.declared.link.Piece.{Piece};
 ghost use Rattle.dc_outside.specs.declared.link.Piece.TheVariants.{Got};
-ghost use Rattle.dc_frontend.specs.declared.frontend.Frontend.TheVariants.{Noninteractive};
+ghost use Rattle.dc_frontend.specs.declared.frontend.Frontend.TheVariants.{Noninteractive, Teletype};
 ghost use Rattle.dc_proto.specs.Commands.{heard};
 ghost use Rattle.dc_proto.specs.declared.command.Command.{Command};
-ghost use Rattle.dc_proto.specs.declared.command.Command.TheVariants.{Get, Set};
+ghost use Rattle.dc_proto.specs.declared.command.Command.TheVariants.{Get, Go, Set};
 ghost use Rattle.dc_proto.specs.declared.command.Heard.TheVariants.{Known};
 ghost use Rattle.dc_proto.specs.declared.reply.Reply.{Reply};
 ghost use Rattle.dc_store.specs.StoreLaws.{AreSameButAll};
 ghost use Rattle.dc_serve.specs.Course.{Turn, lines_of, state_after, IsCourse};
+ghost use Rattle.dc_serve.specs.Run.{HasRun};
+ghost use Rattle.dc_serve.specs.declared.outcome.LinkEnd.TheVariants.{Done};
 ghost use Rattle.dc_serve.specs.Step.{IsRead, InStep};
 ghost use Rattle.dc_serve.specs.declared.heeds.Heeded.{Heeded};
 ghost use Rattle.dc_serve.specs.declared.heeds.Heeded.TheVariants as heeded;
+ghost use Rattle.dc_session.specs.Alike.{AreAlike, AreTurnsAlike, AreFilesAlike, EndAlike};
 ghost use Rattle.dc_session.specs.Answers.{nothing, answer, names_on, text_reply};
+ghost use Rattle.dc_session.specs.Asking.{first_fixed};
 ghost use Rattle.dc_session.specs.Escaping.{set_line, unescaped};
 ghost use Rattle.dc_session.specs.Machine.{Heeds, Steps, Breaks, HasDone};
 ghost use Rattle.dc_session.specs.SessionState.{SessionState};
+ghost use Rattle.dc_session.specs.Taken.{Takes};
 ghost use Rattle.dc_session.specs.declared.stepped.StepError.TheVariants.{Term};
 ghost use Rattle.dc_session.specs.declared.stepped.Stepped.{Stepped};
 ghost use Rattle.dc_session.specs.declared.stepped.Stepped.TheVariants.{Replied};
@@ -46,6 +51,30 @@ pub fn other_items_stay()
 pub fn lines_and_files_determine_the_course()
     ensures { (start : SessionState) (disk : Disk) (calls : List FilesCall) (a b : List (Turn SessionState)) → start.files.told ≡ record { disk = Some disk; calls = Some calls } → start.manner.frontend ≡ Noninteractive
         → IsCourse Heeds start a → IsCourse Heeds start b → lines_of a ≡ lines_of b → each (λ turn. turn.new.files) a ≡ each (λ turn. turn.new.files) b → a ≡ b }
+{}
+
+/// Where the files tell of the disk and of the calls on them, and the terminal of its talk and its input, the lines, the files and what is
+/// typed determine what a session says and leaves, in any manner of asking and in whatever pieces what is typed comes: the replies, the store
+/// and what is asked for, what is said on the terminal, and what is left of what is typed.
+pub fn lines_files_and_answers_determine_the_course()
+    ensures { (start other : SessionState) (disk : Disk) (calls : List FilesCall) (a b : List (Turn SessionState)) → start.files.told ≡ record { disk = Some disk; calls = Some calls } → AreAlike start other
+        → IsCourse Heeds start a → IsCourse Heeds other b → lines_of a ≡ lines_of b → each (λ turn. turn.new.files) a ≡ each (λ turn. turn.new.files) b → AreTurnsAlike a b }
+{}
+
+/// Two runs over links of which the same bytes are to come, that both come to the end, say the same and leave what is alike, however the
+/// links cut their bytes and the terminals what is typed, from sessions that are alike, where the files are the same turn by turn. So the
+/// bytes of the link, the files and what is typed determine the replies and the store.
+pub fn bytes_files_and_answers_determine_the_run()
+    ensures { (start other new last : SessionState) (disk : Disk) (calls : List FilesCall) (input : List ℕ) (talk new_talk told new_told : Option (List Piece)) (left rest : Option (List ℕ)) (code number : ℕ)
+        → start.files.told ≡ record { disk = Some disk; calls = Some calls } → AreAlike start other
+        → (one : HasRun Heeds Breaks talk new_talk (Some input) left start Done new code) → (two : HasRun Heeds Breaks told new_told (Some input) rest other Done last number)
+        → AreFilesAlike one.turns two.turns → EndAlike one.pieces two.pieces code number new last }
+{}
+
+/// Where a user is asked, and no prepared question has a value that can't be changed, GO does what the user answers: all questions that were
+/// shown are set to the values that they were given, or the user went back. The reply is `0 ok` or `30 backup`.
+pub fn given_answers_are_taken()
+    ensures { (old new : SessionState) (did : Stepped) → old.manner.frontend ≡ Teletype → first_fixed old ≡ None → (done : HasDone Go old did new) → Takes old done.given.asked did new }
 {}
 
 /// A run in which a line has come that has a reply, and the next piece is a read, whether more came or it failed, isn't in

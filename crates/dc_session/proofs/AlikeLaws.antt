@@ -1,0 +1,203 @@
+-- The lines, the files and what is typed determine a session, in whatever pieces what is typed comes.
+use Rattle.std.proofs.Common.{◌≡◌, ℕ, inl, inr, List, [], ◌∷◌, ◌++◌, Option, None, Some, refl, ap, sym, subst, ◌∙◌}
+use Rattle.std.specs.Prelude.{Result, Ok}
+use Rattle.std.specs.Io.KnownBytes.{prepend_known, IsAtEnd}
+use Rattle.dc_frontend.specs.declared.shown.Shown.{Shown}
+use Rattle.dc_outside.proofs.Saying.{sent-append}
+use Rattle.dc_outside.specs.Disk.{Disk}
+use Rattle.dc_outside.specs.Talk.{sent, got, then_pieces}
+use Rattle.dc_outside.specs.declared.files.FilesCall.{FilesCall}
+use Rattle.dc_outside.specs.declared.link.LinkError.{LinkError}
+use Rattle.dc_outside.specs.declared.link.Piece.{Piece}
+use Rattle.dc_outside.specs.declared.link.Piece.TheVariants.{Sent}
+use Rattle.dc_text.specs.Ascii.{newline}
+use Rattle.dc_words.specs.declared.stream.Line.{Line}
+use Rattle.dc_words.specs.declared.stream.Line.TheVariants.{Whole, TooLong}
+use Rattle.dc_proto.specs.Commands.{heard}
+use Rattle.dc_proto.specs.declared.command.Command.{Command}
+use Rattle.dc_proto.specs.declared.command.Heard.{Heard}
+use Rattle.dc_proto.specs.declared.command.Heard.TheVariants.{Nothing, Known, Refused}
+use Rattle.dc_serve.specs.Course.{Turn, lines_of, IsCourse}
+use Rattle.dc_serve.specs.declared.heeds.Heeded.{Heeded}
+use Rattle.dc_teletype.specs.Dialogue.{Goes, opening}
+use Rattle.dc_teletype.specs.TerminalLines.{Ahead}
+use Rattle.dc_teletype.specs.Typed.{ToldTerminal, Outcome, IsAsked, dialogue as dialogue_over, typed_lines}
+use Rattle.dc_teletype.specs.declared.teletype.Asked.{Asked}
+use Rattle.dc_teletype.specs.declared.teletype.Asked.TheVariants.{Answers}
+use Rattle.dc_teletype.proofs.OutcomeLemmas.{comes_to}
+use Rattle.dc_teletype.proofs.TypedLemmas.{one_rest, used_last}
+use Rattle.dc_session.specs.Alike.{IsToldAs, AreTerminalsAlike, AreAlike, AreTurnsAlike}
+use Rattle.dc_session.specs.Answers.{answer}
+use Rattle.dc_session.specs.Displays.{Display, Blank, OneLine, Dialogue, HasLine, HasDialogue, displayed, Shows}
+use Rattle.dc_session.specs.Machine.{Heeds, Steps, StepsHeard, HasDone, Looks, file_of, sent_in}
+use Rattle.dc_session.specs.SessionState.{FilesState, TerminalState, SessionState}
+use Rattle.dc_session.specs.declared.asking.Asking.{Asking}
+use Rattle.dc_session.specs.declared.stepped.Stepped.{Stepped}
+use Rattle.dc_session.proofs.Determined.{IsTold, one_looked, heeds_told, files_left}
+use Rattle.dc_session.proofs.SameAnswers.{same_answer, same_display}
+
+-- ---- one use of a terminal
+
+rest_told : (taken : List ℕ) (left : Option (List ℕ)) (input : List ℕ) → Some input ≡ prepend_known taken left → (rest : List ℕ) × (left ≡ Some rest)
+rest_told taken None input took = absurd (cc)
+rest_told taken (Some rest) input took = (rest, refl)
+
+module _ (asking : Asking) (questions : List Shown) (old new : TerminalState) (asked : Asked) (told : ToldTerminal) (is : IsToldAs old told) (has : HasDialogue asking questions old new (Ok asked)) where
+  abbrev all_pieces : List Piece
+  all_pieces = has.held.gone ++ has.held.last
+
+  left_told : (rest : List ℕ) × (new.link.input ≡ Some rest)
+  left_told = rest_told (got all_pieces) new.link.input told.input (sym is.input ∙ has.held.took)
+
+  -- what is told of the terminal then
+  abbrev told_then : ToldTerminal
+  told_then = record { ahead = new.ahead; talk = told.talk ++ all_pieces; input = left_told.0 }
+
+  asked_there : IsAsked asking.backup (opening asking.title questions) told told_then asked
+  asked_there = record {
+    held = record {
+      gone = has.held.gone;
+      last = has.held.last;
+      told_is = refl;
+      took = sym is.input ∙ has.held.took ∙ ap (λ (l : Option (List ℕ)). prepend_known (got all_pieces) l) left_told.1;
+      came = has.held.came;
+      step = has.held.step;
+      ahead = has.held.ahead;
+      goes = subst (λ (a : Ahead). Goes asking.backup (opening asking.title questions) a has.held.came has.held.gone has.held.step has.held.ahead) is.ahead has.held.goes;
+      ends = has.held.ends;
+    };
+    ends = λ ended. elim (has.ends ended) [
+      | inl was ↦ inl (ap (λ (a : Ahead). a.has_ended) (sym is.ahead) ∙ was)
+      | inr at ↦ inr (subst IsAtEnd left_told.1 at)
+    ];
+    used_up = is.used_up;
+  }
+
+  is_then : IsToldAs new told_then
+  is_then = record {
+    ahead = refl;
+    talk = has.held.told_is ∙ ap (λ (t : Option (List Piece)). then_pieces t all_pieces) is.talk;
+    input = left_told.1;
+    used_up = used_last asking.backup (opening asking.title questions) told told_then asked asked_there;
+  }
+
+line_told : (text : List ℕ) (old new : TerminalState) (asked : Asked) (told : ToldTerminal) → IsToldAs old told → HasLine text old new (Ok asked)
+    → IsToldAs new (record { ahead = told.ahead; talk = told.talk ++ Sent (text ++ newline ∷ []) ∷ []; input = told.input })
+line_told text old new asked told is has = record {
+  ahead = has.ahead ∙ is.ahead;
+  talk = has.said ∙ ap (λ (t : Option (List Piece)). then_pieces t (Sent (text ++ newline ∷ []) ∷ [])) is.talk;
+  input = has.input ∙ is.input;
+  used_up = is.used_up;
+}
+
+same_ok : (a b : Asked) → ◌≡◌ {A = Result Asked LinkError} (Ok a) (Ok b) → a ≡ b
+same_ok a b is = cc
+
+-- terminals that are alike stay so, where the same is shown on them, and the same is answered there
+module _ (asking : Asking) (one other new left : TerminalState) (alike : AreTerminalsAlike one other) (asked again : Asked) where
+  moved_alike : new ≡ one → left ≡ other → AreTerminalsAlike new left
+  moved_alike first second =
+      subst (λ (t : TerminalState). AreTerminalsAlike new t) (sym second) (subst (λ (t : TerminalState). AreTerminalsAlike t other) (sym first) alike)
+
+  line_alike : (text : List ℕ) → HasLine text one new (Ok asked) → HasLine text other left (Ok again) → (asked ≡ again) × AreTerminalsAlike new left
+  line_alike text first second =
+      let line : List Piece = Sent (text ++ newline ∷ []) ∷ [] in (
+        first.none ∙ sym second.none,
+        record {
+          first = record { ahead = alike.first.ahead; talk = alike.first.talk ++ line; input = alike.first.input };
+          second = record { ahead = alike.second.ahead; talk = alike.second.talk ++ line; input = alike.second.input };
+          one_is = line_told text one new asked alike.first alike.one_is first;
+          other_is = line_told text other left again alike.second alike.other_is second;
+          said = sent-append alike.first.talk line ∙ ap (λ (l : List ℕ). l ++ sent line) alike.said ∙ sym (sent-append alike.second.talk line);
+          same = alike.same;
+        },
+      )
+
+  dialogue_alike : (questions : List Shown) → HasDialogue asking questions one new (Ok asked) → HasDialogue asking questions other left (Ok again) → (asked ≡ again) × AreTerminalsAlike new left
+  dialogue_alike questions first second =
+      let start = opening asking.title questions in
+      let one_then = told_then asking questions one new asked alike.first alike.one_is first in
+      let other_then = told_then asking questions other left again alike.second alike.other_is second in
+      let one_done = asked_there asking questions one new asked alike.first alike.one_is first in
+      let other_done = asked_there asking questions other left again alike.second alike.other_is second in
+      let one_comes = comes_to asking.backup start alike.first one_then asked one_done in
+      let other_comes = comes_to asking.backup start alike.second other_then again other_done in
+      let outcome = ap (λ (l : List ℕ). dialogue_over asking.backup start (typed_lines l)) alike.same in (
+        one_comes.asked_is ∙ ap (λ (o : Outcome). o.asked) outcome ∙ sym other_comes.asked_is,
+        record {
+          first = one_then;
+          second = other_then;
+          one_is = is_then asking questions one new asked alike.first alike.one_is first;
+          other_is = is_then asking questions other left again alike.second alike.other_is second;
+          said = one_comes.said ∙ (λ i. alike.said i ++ (outcome i).said) ∙ sym other_comes.said;
+          same = one_rest asking.backup start alike.first one_then alike.second other_then asked again one_done other_done alike.same;
+        },
+      )
+
+  shows_alike : (display : Display) → Shows asking display one (Ok asked) new → Shows asking display other (Ok again) left → (asked ≡ again) × AreTerminalsAlike new left
+  shows_alike Blank first second = (same_ok asked (Answers []) first.0 ∙ sym (same_ok again (Answers []) second.0), moved_alike first.1 second.1)
+  shows_alike (OneLine text) first second = line_alike text first second
+  shows_alike (Dialogue questions) first second = dialogue_alike questions first second
+
+-- ---- one line
+
+module _ (disk : Disk) (old : SessionState) (terminal : TerminalState) (alike : AreTerminalsAlike old.terminal terminal) (told : IsTold disk old.files.told) (one other : Stepped) (new left : SessionState) (files : new.files ≡ left.files) where
+  abbrev there : SessionState
+  there = record old { terminal = terminal }
+
+  -- nothing was done
+  kept_alike : new ≡ old → left ≡ there → AreAlike new left
+  kept_alike new_is left_is = record {
+    rest = left_is ∙ (λ i. record (sym new_is i) { terminal = sym (ap (λ (s : SessionState). s.terminal) left_is) i });
+    terminals = moved_alike old.asking old.terminal terminal new.terminal left.terminal alike (Answers []) (Answers []) (ap (λ (s : SessionState). s.terminal) new_is) (ap (λ (s : SessionState). s.terminal) left_is);
+  }
+
+  done_alike : (command : Command) → HasDone command old one new → HasDone command there other left → (one ≡ other) × AreAlike new left
+  done_alike command first second =
+      let found : first.given.found ≡ second.given.found
+      = one_looked disk old.files left.files told (file_of command) first.given.found second.given.found (subst (λ (f : FilesState). Looks (file_of command) old.files first.given.found f) files first.gives.looks) second.gives.looks in
+      let shown = shows_alike old.asking old.terminal terminal new.terminal left.terminal alike first.given.asked second.given.asked (displayed old command) first.gives.shows
+      (subst (λ (d : Display). Shows old.asking d terminal (Ok second.given.asked) left.terminal) (same_display old terminal command) second.gives.shows) in
+      let given : first.given ≡ second.given = (λ i. record { found = found i; asked = shown.0 i }) in
+      let comes : answer there command second.given ≡ answer old command first.given = same_answer old terminal command second.given ∙ ap (answer old command) (sym given) in (
+        first.stepped_is ∙ sym (ap (λ o. o.stepped) comes) ∙ sym second.stepped_is,
+        record {
+          rest = second.new_is ∙ (λ i. record old { store = (comes i).store; files = sym files i; terminal = left.terminal; asking = (comes i).asking }) ∙ ap (λ (s : SessionState). record s { terminal = left.terminal }) (sym first.new_is);
+          terminals = shown.1;
+        },
+      )
+
+  heard_alike : (said : Heard) → StepsHeard said old one new → StepsHeard said there other left → (one ≡ other) × AreAlike new left
+  heard_alike Nothing first second = (first.0 ∙ sym second.0, kept_alike first.1 second.1)
+  heard_alike (Known command) first second = done_alike command first second
+  heard_alike (Refused reply) first second = (first.0 ∙ sym second.0, kept_alike first.1 second.1)
+
+  steps_alike : (line : Line) → Steps old line one new → Steps there line other left → (one ≡ other) × AreAlike new left
+  steps_alike TooLong first second = (first.0 ∙ sym second.0, kept_alike first.1 second.1)
+  steps_alike (Whole line) first second = heard_alike (heard old.asking.escape line) first second
+
+pub heeds_alike : (disk : Disk) (old : SessionState) (terminal : TerminalState) → AreTerminalsAlike old.terminal terminal → IsTold disk old.files.told → (did other : Heeded) (new left : SessionState) → new.files ≡ left.files → (line : Line)
+    → Heeds old line did new → Heeds (record old { terminal = terminal }) line other left → (did ≡ other) × AreAlike new left
+heeds_alike disk old terminal alike told did other new left files line first second =
+    let same = steps_alike disk old terminal alike told first.stepped second.stepped new left files line first.steps second.steps in
+    (first.did_is ∙ ap (sent_in old.asking.escape) same.0 ∙ sym second.did_is, same.1)
+
+-- ---- courses
+
+courses_alike : (disk : Disk) (start other : SessionState) (a b : List (Turn SessionState)) → AreAlike start other → IsTold disk start.files.told → IsCourse Heeds start a → IsCourse Heeds other b
+    → lines_of a ≡ lines_of b → files_left a ≡ files_left b → AreTurnsAlike a b
+courses_alike disk start other [] [] alike told first second lines files = record {}
+courses_alike disk start other [] (turn ∷ b) alike told first second lines files = cc
+courses_alike disk start other (turn ∷ a) [] alike told first second lines files = cc
+courses_alike disk start other (one ∷ a) (two ∷ b) alike told first second lines files =
+    let line : one.line ≡ two.line = cc in
+    let rest : lines_of a ≡ lines_of b = cc in
+    let left : one.new.files ≡ two.new.files = cc in
+    let later_files : files_left a ≡ files_left b = cc in
+    let here = heeds_alike disk start other.terminal alike.terminals told one.did two.did one.new two.new left two.line (subst (λ (l : Line). Heeds start l one.did one.new) line first.0)
+    (subst (λ (s : SessionState). Heeds s two.line two.did two.new) alike.rest second.0) in
+    (here.0, here.1, courses_alike disk one.new two.new a b here.1 (heeds_told disk start told one.did one.new one.line first.0) first.2 second.2 rest later_files)
+
+pub alike_courses : (disk : Disk) (start other : SessionState) (calls : List FilesCall) (a b : List (Turn SessionState)) → start.files.told ≡ record { disk = Some disk; calls = Some calls } → AreAlike start other
+    → IsCourse Heeds start a → IsCourse Heeds other b → lines_of a ≡ lines_of b → files_left a ≡ files_left b → AreTurnsAlike a b
+alike_courses disk start other calls a b told alike = courses_alike disk start other a b alike (calls, told)

@@ -1,0 +1,48 @@
+-- Sessions that differ in their terminals alone, and there only in how the bytes came.
+use Rattle.std.specs.Prelude.{◌≡◌, ⊤, ℕ, List, [], ◌∷◌, Some}
+use Rattle.dc_outside.specs.Talk.{sent}
+use Rattle.dc_outside.specs.declared.link.Piece.{Piece}
+use Rattle.dc_serve.specs.Course.{Turn}
+use Rattle.dc_serve.specs.Said.{said}
+use Rattle.dc_teletype.specs.Typed.{ToldTerminal, IsUsedUp, typed}
+use Rattle.dc_session.specs.SessionState.{TerminalState, SessionState}
+
+-- all is told of the terminal, and it is this
+pub record IsToldAs (terminal : TerminalState) (told : ToldTerminal) : Type 0 where
+  pub ahead : terminal.ahead ≡ told.ahead
+  pub talk : terminal.link.talk ≡ Some told.talk
+  pub input : terminal.link.input ≡ Some told.input
+  pub used_up : IsUsedUp told.ahead told.input
+
+-- all is told of both terminals: the same was said there, and the same is typed and wasn't used
+pub record AreTerminalsAlike (one other : TerminalState) : Type 0 where
+  pub first : ToldTerminal
+  pub second : ToldTerminal
+  pub one_is : IsToldAs one first
+  pub other_is : IsToldAs other second
+  pub said : sent first.talk ≡ sent second.talk
+  pub same : typed first ≡ typed second
+
+-- the sessions are the same but for their terminals, which are alike
+pub record AreAlike (one other : SessionState) : Type 0 where
+  pub rest : other ≡ record one { terminal = other.terminal }
+  pub terminals : AreTerminalsAlike one.terminal other.terminal
+
+-- turn by turn the same is replied, and what is left is alike
+abbrev pub AreTurnsAlike : List (Turn SessionState) → List (Turn SessionState) → Type 0
+AreTurnsAlike [] [] = ⊤
+AreTurnsAlike [] (other ∷ others) = ⊥
+AreTurnsAlike (one ∷ ones) [] = ⊥
+AreTurnsAlike (one ∷ ones) (other ∷ others) = (one.did ≡ other.did) × AreAlike one.new other.new × AreTurnsAlike ones others
+
+-- turn by turn the same files are left, as far as both go
+abbrev pub AreFilesAlike : List (Turn SessionState) → List (Turn SessionState) → Type 0
+AreFilesAlike [] others = ⊤
+AreFilesAlike (one ∷ ones) [] = ⊤
+AreFilesAlike (one ∷ ones) (other ∷ others) = (one.new.files ≡ other.new.files) × AreFilesAlike ones others
+
+-- two runs sent the same replies, and the same last code, and what they left is alike
+pub record EndAlike (pieces others : List Piece) (code other_code : ℕ) (one other : SessionState) : Type 0 where
+  pub replies : said pieces ≡ said others
+  pub code_is : code ≡ other_code
+  pub states : AreAlike one other
