@@ -1,8 +1,7 @@
-// A run over blank boxes, or tired ones.
-ghost use Rattle.std.specs.Prelude.{◌≡◌, IfOk};
-ghost use Rattle.dc_conf.specs.declared.spec.LayerSort.TheVariants.{File as OneFile};
-ghost use Rattle.dc_layer.specs.State.{blank};
+// A run over a shelf of blank layers, or of tired ones.
+ghost use Rattle.std.specs.Prelude.{◌≡◌, ◌≤◌, [], length, map as each};
 ghost use Rattle.dc_outside.specs.Programs.{Unstarted};
+ghost use Rattle.dc_shelf.specs.Shelves.{AreBlank};
 
 use dc_layer::{FileLayer, Layer, TiredLayer};
 use dc_outside::{MemChild, MemFiles, MemLink};
@@ -10,37 +9,8 @@ use dc_run::{Outcome, Settings, Shelf, run_words};
 use dc_text::{List, Mem, Name, OutOfMemory, Text};
 use std::alloc::Global;
 
-// A layer in any box.
-macro_rules! boxed {
-    ($layer:expr) => {{
-        let layer: Box<dyn Layer> = $layer?;
-        layer
-    }};
-}
-
-// A shelf with as many boxes as a configuration has databases.
-macro_rules! shelf_of {
-    ($alloc:expr, $layer:expr) => {{
-        let mut shelf = Shelf::empty($alloc);
-        shelf.take_file(boxed!($layer))?;
-        shelf.take_file(boxed!($layer))?;
-        shelf.take_file(boxed!($layer))?;
-        shelf.take_file(boxed!($layer))?;
-        shelf.take_file(boxed!($layer))?;
-        shelf.take_file(boxed!($layer))?;
-        shelf.take_file(boxed!($layer))?;
-        shelf.take_file(boxed!($layer))?;
-        shelf.take_file(boxed!($layer))?;
-        shelf.take_file(boxed!($layer))?;
-        shelf.take_file(boxed!($layer))?;
-        shelf.take_file(boxed!($layer))?;
-        shelf.take_file(boxed!($layer))?;
-        shelf.take_file(boxed!($layer))?;
-        shelf.take_file(boxed!($layer))?;
-        shelf.take_file(boxed!($layer))?;
-        shelf
-    }};
-}
+/// How many databases a configuration names at most.
+const MOST_DATABASES: usize = 16;
 
 /// What a run is to do.
 #[derive(Clone, Copy)]
@@ -58,23 +28,7 @@ pub struct Played {
     pub held: Text,
 }
 
-// A blank layer in a file.
-fn file_box(alloc: Global) -> Mem<Box<FileLayer>>
-    ensures { IfOk result (λ b. ⟦<FileLayer as Layer>⟧.state b.value ≡ blank OneFile) }
-{
-    let layer = Box::new(alloc, FileLayer::blank(alloc))?;
-    Ok(layer)
-}
-
-// One that takes one change.
-fn tired_box(alloc: Global) -> Mem<Box<TiredLayer>>
-    ensures { IfOk result (λ b. ⟦<TiredLayer as Layer>⟧.state b.value ≡ blank OneFile) }
-{
-    let layer = Box::new(alloc, TiredLayer::blank(alloc, 1))?;
-    Ok(layer)
-}
-
-/// Runs the words.
+/// Runs the words over blank layers.
 pub fn play(
     alloc: Global,
     task: Task<'_>,
@@ -85,14 +39,15 @@ pub fn play(
 ) -> Mem<Played>
     requires { child.old.program.life ≡ Unstarted }
 {
-    let mut shelf = shelf_of!(alloc, file_box(alloc));
-    let (words, settings) = (task.words, task.settings);
-    let outcome = run_words(alloc, words, settings, io, err, child, files, &mut shelf);
-    let held = held_values(alloc, &shelf.used, task.held).ok_or(OutOfMemory)?;
-    Ok(Played { outcome, held })
+    let mut shelf = Shelf::empty(alloc);
+    while shelf.files.len() < MOST_DATABASES {
+        let layer: Box<dyn Layer> = Box::new(alloc, FileLayer::blank(alloc))?;
+        shelf.take_file(layer)?;
+    }
+    play_over(alloc, task, io, err, child, files, &mut shelf)
 }
 
-/// Runs the words over layers each of which takes one change.
+/// Runs the words over blank layers each of which takes one change.
 pub fn play_tired(
     alloc: Global,
     task: Task<'_>,
@@ -103,9 +58,39 @@ pub fn play_tired(
 ) -> Mem<Played>
     requires { child.old.program.life ≡ Unstarted }
 {
-    let mut shelf = shelf_of!(alloc, tired_box(alloc));
-    let (words, settings) = (task.words, task.settings);
-    let outcome = run_words(alloc, words, settings, io, err, child, files, &mut shelf);
+    let mut shelf = Shelf::empty(alloc);
+    while shelf.files.len() < MOST_DATABASES {
+        let layer: Box<dyn Layer> = Box::new(alloc, TiredLayer::blank(alloc, 1))?;
+        shelf.take_file(layer)?;
+    }
+    play_over(alloc, task, io, err, child, files, &mut shelf)
+}
+
+// Runs the words over the layers of the shelf.
+fn play_over(
+    alloc: Global,
+    task: Task<'_>,
+    io: &mut MemLink,
+    err: &mut MemLink,
+    child: &mut MemChild,
+    files: &mut MemFiles,
+    shelf: &mut Shelf,
+) -> Mem<Played>
+    requires blank { AreBlank (each (λ b. state (b.vtable, b.value)) shelf.old.files.items) }
+    requires room { 16 ≤ length shelf.old.files.items }
+    requires used { shelf.old.used.items ≡ [] }
+    requires unstarted { child.old.program.life ≡ Unstarted }
+{
+    let outcome = run_words(
+        alloc,
+        task.words,
+        task.settings,
+        io,
+        err,
+        child,
+        files,
+        shelf,
+    );
     let held = held_values(alloc, &shelf.used, task.held).ok_or(OutOfMemory)?;
     Ok(Played { outcome, held })
 }
