@@ -1,9 +1,13 @@
+pub mod AnsweredLemmas
 pub mod AskLemmas
 pub mod DialogueLemmas
+pub mod FirstLineLemmas
 pub mod HearLemmas
 pub mod KeyLemmas
 pub mod LineLemmas
+pub mod OutcomeLemmas
 pub mod ReadLemmas
 pub mod ShownLemmas
 pub mod TalkLemmas
+pub mod TypedLemmas
 pub mod WordLemmas

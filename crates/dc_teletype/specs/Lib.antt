@@ -1,3 +1,4 @@
+pub mod Answered
 pub mod Answers
 pub mod Columns
 pub mod Dialogue
@@ -5,3 +6,4 @@ pub mod Inside
 pub mod Keys
 pub mod Prompts
 pub mod TerminalLines
+pub mod Typed

@@ -4,6 +4,7 @@
 pub mod answering;
 pub mod columns;
 pub mod keys;
+pub mod laws;
 pub mod prompting;
 pub mod teletype;
 pub mod terminal;
