@@ -1,5 +1,7 @@
 // A run over a shelf of blank layers, or of tired ones.
-ghost use Rattle.std.specs.Prelude.{◌≡◌, ◌≤◌, [], length, map as each};
+ghost use Rattle.std.specs.Prelude.{◌≡◌, ◌≤◌, [], length, IfOk, map as each};
+ghost use Rattle.dc_conf.specs.declared.spec.LayerSort.TheVariants.{File as OneFile};
+ghost use Rattle.dc_layer.specs.State.{blank};
 ghost use Rattle.dc_outside.specs.Programs.{Unstarted};
 ghost use Rattle.dc_shelf.specs.Shelves.{AreBlank};
 
@@ -9,8 +11,37 @@ use dc_run::{Outcome, Settings, Shelf, run_words};
 use dc_text::{List, Mem, Name, OutOfMemory, Text};
 use std::alloc::Global;
 
-/// How many databases a configuration names at most.
-const MOST_DATABASES: usize = 16;
+// A layer in any box.
+macro_rules! boxed {
+    ($layer:expr) => {{
+        let layer: Box<dyn Layer> = $layer?;
+        layer
+    }};
+}
+
+// A shelf with as many boxes as a configuration has databases.
+macro_rules! shelf_of {
+    ($alloc:expr, $layer:expr) => {{
+        let mut shelf = Shelf::empty($alloc);
+        shelf.take_file(boxed!($layer))?;
+        shelf.take_file(boxed!($layer))?;
+        shelf.take_file(boxed!($layer))?;
+        shelf.take_file(boxed!($layer))?;
+        shelf.take_file(boxed!($layer))?;
+        shelf.take_file(boxed!($layer))?;
+        shelf.take_file(boxed!($layer))?;
+        shelf.take_file(boxed!($layer))?;
+        shelf.take_file(boxed!($layer))?;
+        shelf.take_file(boxed!($layer))?;
+        shelf.take_file(boxed!($layer))?;
+        shelf.take_file(boxed!($layer))?;
+        shelf.take_file(boxed!($layer))?;
+        shelf.take_file(boxed!($layer))?;
+        shelf.take_file(boxed!($layer))?;
+        shelf.take_file(boxed!($layer))?;
+        shelf
+    }};
+}
 
 /// What a run is to do.
 #[derive(Clone, Copy)]
@@ -28,6 +59,22 @@ pub struct Played {
     pub held: Text,
 }
 
+// A blank layer in a file.
+fn file_box(alloc: Global) -> Mem<Box<FileLayer>>
+    ensures { IfOk result (λ b. ⟦<FileLayer as Layer>⟧.state b.value ≡ blank OneFile) }
+{
+    let layer = Box::new(alloc, FileLayer::blank(alloc))?;
+    Ok(layer)
+}
+
+// One that takes one change.
+fn tired_box(alloc: Global) -> Mem<Box<TiredLayer>>
+    ensures { IfOk result (λ b. ⟦<TiredLayer as Layer>⟧.state b.value ≡ blank OneFile) }
+{
+    let layer = Box::new(alloc, TiredLayer::blank(alloc, 1))?;
+    Ok(layer)
+}
+
 /// Runs the words over blank layers.
 pub fn play(
     alloc: Global,
@@ -39,11 +86,7 @@ pub fn play(
 ) -> Mem<Played>
     requires { child.old.program.life ≡ Unstarted }
 {
-    let mut shelf = Shelf::empty(alloc);
-    while shelf.files.len() < MOST_DATABASES {
-        let layer: Box<dyn Layer> = Box::new(alloc, FileLayer::blank(alloc))?;
-        shelf.take_file(layer)?;
-    }
+    let mut shelf = shelf_of!(alloc, file_box(alloc));
     play_over(alloc, task, io, err, child, files, &mut shelf)
 }
 
@@ -58,11 +101,7 @@ pub fn play_tired(
 ) -> Mem<Played>
     requires { child.old.program.life ≡ Unstarted }
 {
-    let mut shelf = Shelf::empty(alloc);
-    while shelf.files.len() < MOST_DATABASES {
-        let layer: Box<dyn Layer> = Box::new(alloc, TiredLayer::blank(alloc, 1))?;
-        shelf.take_file(layer)?;
-    }
+    let mut shelf = shelf_of!(alloc, tired_box(alloc));
     play_over(alloc, task, io, err, child, files, &mut shelf)
 }
 
