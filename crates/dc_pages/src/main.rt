@@ -6,6 +6,7 @@ mod blocks;
 mod ends;
 mod examples;
 mod playing;
+mod ran;
 mod speaker;
 mod stage;
 mod telling;

@@ -1,8 +1,9 @@
-// A run over blank boxes, or tired ones.
-ghost use Rattle.std.specs.Prelude.{◌≡◌, IfOk};
+// A run over a shelf of blank layers, or of tired ones.
+ghost use Rattle.std.specs.Prelude.{◌≡◌, ◌≤◌, [], length, IfOk, map as each};
 ghost use Rattle.dc_conf.specs.declared.spec.LayerSort.TheVariants.{File as OneFile};
 ghost use Rattle.dc_layer.specs.State.{blank};
 ghost use Rattle.dc_outside.specs.Programs.{Unstarted};
+ghost use Rattle.dc_shelf.specs.Shelves.{AreBlank};
 
 use dc_layer::{FileLayer, Layer, TiredLayer};
 use dc_outside::{MemChild, MemFiles, MemLink};
@@ -74,7 +75,7 @@ fn tired_box(alloc: Global) -> Mem<Box<TiredLayer>>
     Ok(layer)
 }
 
-/// Runs the words.
+/// Runs the words over blank layers.
 pub fn play(
     alloc: Global,
     task: Task<'_>,
@@ -86,13 +87,10 @@ pub fn play(
     requires { child.old.program.life ≡ Unstarted }
 {
     let mut shelf = shelf_of!(alloc, file_box(alloc));
-    let (words, settings) = (task.words, task.settings);
-    let outcome = run_words(alloc, words, settings, io, err, child, files, &mut shelf);
-    let held = held_values(alloc, &shelf.used, task.held).ok_or(OutOfMemory)?;
-    Ok(Played { outcome, held })
+    play_over(alloc, task, io, err, child, files, &mut shelf)
 }
 
-/// Runs the words over layers each of which takes one change.
+/// Runs the words over blank layers each of which takes one change.
 pub fn play_tired(
     alloc: Global,
     task: Task<'_>,
@@ -104,8 +102,34 @@ pub fn play_tired(
     requires { child.old.program.life ≡ Unstarted }
 {
     let mut shelf = shelf_of!(alloc, tired_box(alloc));
-    let (words, settings) = (task.words, task.settings);
-    let outcome = run_words(alloc, words, settings, io, err, child, files, &mut shelf);
+    play_over(alloc, task, io, err, child, files, &mut shelf)
+}
+
+// Runs the words over the layers of the shelf.
+fn play_over(
+    alloc: Global,
+    task: Task<'_>,
+    io: &mut MemLink,
+    err: &mut MemLink,
+    child: &mut MemChild,
+    files: &mut MemFiles,
+    shelf: &mut Shelf,
+) -> Mem<Played>
+    requires blank { AreBlank (each (λ b. state (b.vtable, b.value)) shelf.old.files.items) }
+    requires room { 16 ≤ length shelf.old.files.items }
+    requires used { shelf.old.used.items ≡ [] }
+    requires unstarted { child.old.program.life ≡ Unstarted }
+{
+    let outcome = run_words(
+        alloc,
+        task.words,
+        task.settings,
+        io,
+        err,
+        child,
+        files,
+        shelf,
+    );
     let held = held_values(alloc, &shelf.used, task.held).ok_or(OutOfMemory)?;
     Ok(Played { outcome, held })
 }

@@ -2,10 +2,10 @@
 ghost use Rattle.std.specs.Prelude.{◌≡◌};
 ghost use Rattle.dc_outside.specs.Programs.{Unstarted};
 
-use crate::ends::append_end;
 use crate::playing::{Played, Task, play, play_tired};
+use crate::ran::Ran;
 use crate::speaker::{Speaker, add_numbers, number_at};
-use crate::telling::{append_calls, append_file, append_lines, append_path, append_talk};
+use crate::telling::{append_calls, append_file, append_path, append_talk};
 use dc_outside::{Files, MemChild, MemFiles, MemLink, Pick};
 use dc_run::Settings;
 use dc_text::bytes::split_line;
@@ -179,25 +179,35 @@ impl Stage {
             self.words.push(word.copy().ok()?).ok()?;
         }
         self.io.say(text)?;
-        let mut io = self.io.link()?;
-        let mut child = self.child.program(self.child_status)?;
-        let mut err = MemLink::new(self.alloc, b"", &[], &[]).ok()?;
+        let ran = self.play_on()?;
+        ran.tell(self.alloc, told)?;
+        self.keep_talk(&ran)
+    }
+
+    // Plays the run over the files, and keeps these and what it did with them.
+    fn play_on(&mut self) -> Option<Ran> {
         let mut files = match self.files.take() {
             Some(files) => files,
             None => self.first_files()?,
         };
         let calls_before = files.calls().len();
-        let played = self.play(&mut io, &mut err, &mut child, &mut files).ok()?;
-        append_started(self.alloc, told, &child)?;
-        append_lines(self.alloc, told, b">", io.sent().bytes())?;
-        append_lines(self.alloc, told, b"!", err.sent().bytes())?;
-        append_end(self.alloc, told, &played.outcome)?;
-        told.append(played.held.bytes()).ok()?;
+        let ran = self.play_over(&mut files)?;
         self.keep_calls(&files, calls_before)?;
-        self.keep_talk(&io, &child)?;
         self.files = Some(files);
-        self.words = List::new(self.alloc);
-        Some(())
+        Some(ran)
+    }
+
+    fn play_over(&self, files: &mut MemFiles) -> Option<Ran> {
+        let mut io = self.io.link()?;
+        let mut child = self.child.program(self.child_status)?;
+        let mut err = MemLink::new(self.alloc, b"", &[], &[]).ok()?;
+        let played = self.play(&mut io, &mut err, &mut child, files).ok()?;
+        Some(Ran {
+            io,
+            err,
+            child,
+            played,
+        })
     }
 
     // Keeps what the run did with the files.
@@ -207,11 +217,16 @@ impl Stage {
     }
 
     // Keeps what was said, and has nothing more be said.
-    fn keep_talk(&mut self, io: &MemLink, child: &MemChild) -> Option<()> {
+    fn keep_talk(&mut self, ran: &Ran) -> Option<()> {
         self.talk = Text::new(self.alloc);
-        append_talk(self.alloc, &mut self.talk, io.talk().as_slice())?;
+        append_talk(self.alloc, &mut self.talk, ran.io.talk().as_slice())?;
         self.child_talk = Text::new(self.alloc);
-        append_talk(self.alloc, &mut self.child_talk, child.talk().as_slice())?;
+        append_talk(
+            self.alloc,
+            &mut self.child_talk,
+            ran.child.talk().as_slice(),
+        )?;
+        self.words = List::new(self.alloc);
         self.io = Speaker::new(self.alloc);
         self.child = Speaker::new(self.alloc);
         Some(())
@@ -293,20 +308,6 @@ impl Stage {
         }
         Some(())
     }
-}
-
-// With which words the program was started, and what was written to it, where it was.
-fn append_started(alloc: Global, told: &mut Text, child: &MemChild) -> Option<()> {
-    let Some(words) = child.words() else {
-        return Some(());
-    };
-    told.append(b"started:").ok()?;
-    for word in words.as_slice() {
-        told.push(b' ').ok()?;
-        told.append(word.bytes()).ok()?;
-    }
-    told.push(b'\n').ok()?;
-    append_lines(alloc, told, b"@", child.sent().bytes())
 }
 
 fn entry_of<'e>(entries: &'e [(Text, Text)], path: &Text) -> Option<&'e Text> {

@@ -120,7 +120,10 @@ pub fn append_talk(alloc: Global, told: &mut Text, talk: &[Piece]) -> Option<()>
         let (what, bytes) = match piece {
             Piece::Got(bytes) => (b"- got".as_slice(), bytes.bytes()),
             Piece::Sent(bytes) => (b"- sent".as_slice(), bytes.bytes()),
-            Piece::Cut(bytes) => (b"- sent, and then failed,".as_slice(), bytes.bytes()),
+            Piece::Cut(front) if front.bytes().is_empty() => {
+                (b"- failed to write".as_slice(), b"".as_slice())
+            }
+            Piece::Cut(front) => (b"- failed to write behind".as_slice(), front.bytes()),
             Piece::Lost => (b"- failed to read".as_slice(), b"".as_slice()),
         };
         append_line(alloc, told, what, bytes)?;
