@@ -1,0 +1,59 @@
+-- What the disk holds determines what template files are loaded, where no read of one failed.
+use Rattle.std.proofs.Common.{◌≡◌, ℕ, true, List, [], ◌∷◌, ◌++◌, Some, None, refl, ap, sym, subst, ◌∙◌, arith}
+use Rattle.std.specs.Prelude.{◌≤◌, ◌≢◌}
+use Rattle.dc_outside.specs.Disk.{Disk}
+use Rattle.dc_outside.specs.Steps.{after_look}
+use Rattle.dc_outside.specs.Told.{Told}
+use Rattle.dc_outside.specs.declared.files.FilesOp.TheVariants.{Read}
+use Rattle.dc_session.specs.Answers.{loading}
+use Rattle.dc_session.specs.SessionState.{FilesState, SessionState}
+use Rattle.dc_session.specs.TemplateFiles.{Finds}
+use Rattle.dc_session.specs.declared.template_files.Found.{Found}
+use Rattle.dc_session.specs.declared.template_files.Found.TheVariants.{Unreadable, Missing, Faulty, Templates}
+use Rattle.dc_session.proofs.Determined.{IsTold, one_looked}
+use Rattle.dc_run.specs.TemplateLoading.{FileTurn, IsFileTurn, IsFileCourse, paths_of, state_after}
+use Rattle.dc_theorem.proofs.CountLemmas.{still}
+use Rattle.dc_theorem.proofs.LineFiles.{files_read, read_so}
+
+found_so : (path : List ℕ) (old new : FilesState) (found : Found) → found ≢ Unreadable → Finds path old found new → new ≡ files_read path old
+found_so path old new Unreadable readable finds = absurd (readable refl)
+found_so path old new Missing readable finds = read_so path old new None finds
+found_so path old new (Faulty line) readable finds = read_so path old new (Some finds.0) finds.2
+found_so path old new (Templates templates) readable finds = read_so path old new (Some finds.0) finds.1
+
+turn_files : (start : SessionState) (turn : FileTurn) → IsFileTurn start turn → turn.new.files ≡ files_read turn.path start.files
+turn_files start turn is = found_so turn.path start.files turn.new.files turn.found is.readable is.finds
+
+pub loads_later : (start : SessionState) (turns : List FileTurn) → IsFileCourse start turns → start.files.counts.faults ≤ (state_after start turns).files.counts.faults
+loads_later start [] course = still start.files.counts start.files.counts refl
+loads_later start (turn ∷ turns) course =
+    let here : start.files.counts.faults ≤ turn.new.files.counts.faults = still start.files.counts turn.new.files.counts (ap (λ (f : FilesState). f.counts) (turn_files start turn course.0)) in
+    let rest : turn.new.files.counts.faults ≤ (state_after turn.new turns).files.counts.faults = loads_later turn.new turns course.1 in
+    omega arith
+
+module _ (disk : Disk) where
+  read_told : (path : List ℕ) (old new : FilesState) → new ≡ files_read path old → IsTold disk old.told → IsTold disk new.told
+  read_told path old new is told =
+      (told.0 ++ record { op = Read; path = path; ok = true } ∷ [], ap (λ (f : FilesState). f.told) is ∙ ap (λ (t : Told). after_look t Read path true) told.1)
+
+  one_turn : (start : SessionState) (one two : FileTurn) → IsTold disk start.files.told → IsFileTurn start one → IsFileTurn start two → one.path ≡ two.path → one ≡ two
+  one_turn start one two told first second path =
+      let one_files : one.new.files ≡ files_read two.path start.files = turn_files start one first ∙ ap (λ (p : List ℕ). files_read p start.files) path in
+      let files : one.new.files ≡ two.new.files = one_files ∙ sym (turn_files start two second) in
+      let one_finds : Finds two.path start.files one.found two.new.files
+      = subst (λ (f : FilesState). Finds two.path start.files one.found f) files (subst (λ (p : List ℕ). Finds p start.files one.found one.new.files) path first.finds) in
+      let found : one.found ≡ two.found = one_looked disk start.files two.new.files told (Some two.path) one.found two.found one_finds second.finds in
+      let new : one.new ≡ two.new = first.new_is ∙ (λ i. record start { store = (loading start start.owner (found i)).store; files = files i }) ∙ sym second.new_is in
+      λ i. record { path = path i; found = found i; new = new i }
+
+  pub one_course : (start : SessionState) (a b : List FileTurn) → IsTold disk start.files.told → IsFileCourse start a → IsFileCourse start b → paths_of a ≡ paths_of b → a ≡ b
+  one_course start [] [] told first second paths = refl
+  one_course start [] (turn ∷ b) told first second paths = absurd (cc)
+  one_course start (turn ∷ a) [] told first second paths = absurd (cc)
+  one_course start (one ∷ a) (two ∷ b) told first second paths =
+      let path : one.path ≡ two.path = cc in
+      let later : paths_of a ≡ paths_of b = cc in
+      let here = one_turn start one two told first.0 second.0 path in
+      let rest = one_course one.new a b (read_told one.path start.files one.new.files (turn_files start one first.0) told) first.1
+      (subst (λ (t : FileTurn). IsFileCourse t.new b) (sym here) second.1) later in
+      λ i. here i ∷ rest i

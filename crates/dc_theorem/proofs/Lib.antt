@@ -1,0 +1,10 @@
+pub mod CommunicateLaw
+pub mod CountLemmas
+pub mod EndLemmas
+pub mod FileCourses
+pub mod LineFiles
+pub mod LoadLaw
+pub mod RunLaw
+pub mod SameRuns
+pub mod StartLaws
+pub mod UsedLemmas
