@@ -21,6 +21,7 @@ use Rattle.dc_session.proofs.AlikeLaws.{heeds_alike}
 use Rattle.dc_session.proofs.Determined.{IsTold, heeds_told, determined}
 use Rattle.dc_session.proofs.RunLaws.{runs_alike}
 use Rattle.dc_session.proofs.TerminalLaws.{AsksNobody, steps_nobody}
+use Rattle.dc_theorem.specs.Runs.{NoneFailed}
 use Rattle.dc_theorem.proofs.LineFiles.{line_files, steps_later, steps_so, course_later}
 
 -- ---- the lines of a run
@@ -154,3 +155,13 @@ module _ (n : ℕ) (room : n < 2 ^ 64 - 1) (disk : Disk) (calls : List FilesCall
       (files_alike n room disk start other one.turns two.turns first.0 second.0 alike (calls, told) low
       (subst (λ (s : SessionState). s.files.counts.faults ≤ n) one.answered.are_said.state_is high) (subst (λ (s : SessionState). s.files.counts.faults ≤ n) two.answered.are_said.state_is other_high)
       one.course two.course (first.1 ∙ sym second.1))
+
+pub sessions_alike : (start other new last : SessionState) (disk : Disk) (calls : List FilesCall) (input : List ℕ) (talk new_talk other_talk last_talk : Option (List Piece)) (left other_left : Option (List ℕ)) (code number : ℕ)
+    → start.files.told ≡ record { disk = Some disk; calls = Some calls } → AreAlike start other → NoneFailed start.files.counts new.files.counts → NoneFailed other.files.counts last.files.counts
+    → (one : HasRun Heeds Breaks talk new_talk (Some input) left start Done new code) → (two : HasRun Heeds Breaks other_talk last_talk (Some input) other_left other Done last number)
+    → EndAlike one.pieces two.pieces code number new last
+sessions_alike start other new last disk calls input talk new_talk other_talk last_talk left other_left code number told alike sound other_sound one two =
+    let begun : other.files.counts.faults ≡ start.files.counts.faults = ap (λ (s : SessionState). s.files.counts.faults) alike.rest in
+    let same : new.files.counts.faults ≡ start.files.counts.faults = sound.same in
+    let other_same : last.files.counts.faults ≡ other.files.counts.faults = other_sound.same in
+    run_alike start.files.counts.faults sound.room disk calls input talk new_talk other_talk last_talk left other_left start other new last code number told alike (omega arith) (omega arith) (omega arith) one two
