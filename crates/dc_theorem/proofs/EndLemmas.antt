@@ -30,6 +30,8 @@ use Rattle.dc_run.specs.declared.outcome.Outcome.{Outcome}
 use Rattle.dc_run.specs.declared.outcome.ToolEnd.{ToolEnd}
 use Rattle.dc_run.specs.declared.outcome.ToolEnd.TheVariants as tool
 use Rattle.dc_run.specs.declared.settings.Settings.{Settings}
+use Rattle.dc_outside.specs.Disk.{Disk}
+use Rattle.dc_outside.specs.declared.files.FilesCall.{FilesCall}
 use Rattle.dc_outside.specs.declared.link.LinkError.{LinkError}
 use Rattle.dc_outside.specs.declared.link.LinkError.TheVariants.{Failed, OutOfMemory}
 use Rattle.dc_usage.specs.Tools.{Names}
@@ -78,8 +80,8 @@ used_tool words settings old new outcome used done named (inr ran) = elim (subst
   | inr has ↦ has
 ]
 
-pub was_used : (words : List (List ℕ)) (settings : Settings) (files : FilesState) (old new : World) (outcome : Outcome) (used : Tool) → Names words used → IsClean words settings files old new outcome → HasUsed used settings old new outcome
-was_used words settings files old new outcome used named clean = used_tool words settings old new outcome used clean.done named clean.ran
+pub was_used : (words : List (List ℕ)) (settings : Settings) (disk : Disk) (calls : List FilesCall) (old new : World) (outcome : Outcome) (used : Tool) → Names words used → IsClean words settings disk calls old new outcome → HasUsed used settings old new outcome
+was_used words settings disk calls old new outcome used named clean = used_tool words settings old new outcome used clean.done named clean.ran
 
 -- ---- how the run ended, but for the wait
 

@@ -6,7 +6,6 @@ use Rattle.dc_item.specs.Table.{table_of}
 use Rattle.dc_outside.specs.Disk.{Disk}
 use Rattle.dc_outside.specs.Steps.{after_look}
 use Rattle.dc_outside.specs.Told.{Told, Counts}
-use Rattle.dc_outside.specs.declared.files.FilesCall.{FilesCall}
 use Rattle.dc_outside.specs.declared.files.FilesOp.TheVariants.{Read}
 use Rattle.dc_conf.specs.Configuration.{Configuration, configuration, plan_of}
 use Rattle.dc_conf.specs.Stanzas.{stanzas, fields_of}
@@ -83,30 +82,29 @@ loads_told disk (spec ∷ specs) (layer ∷ old) (made ∷ new) files files_new 
     loads_told disk specs old new loads.1 files_new loads.2 now goes.1 (load_told disk spec files loads.1 _ _ loads.0 loads.4 loads.6 told)
 
 -- what loads leave is determined
-module _ (n : ℕ) (room : n < 2 ^ 64 - 1) (disk : Disk) where
-  loads_once : (specs : List LayerSpec) (old a b : List LayerState) (files a_files b_files : Told) (before a_now b_now : Counts) → files.disk ≡ Some disk → n ≤ before.faults → a_now.faults ≤ n → b_now.faults ≤ n
-      → LoadsAll specs old a files a_files before a_now (Ok tt) → LoadsAll specs old b files b_files before b_now (Ok tt) → (a ≡ b) × (a_files ≡ b_files) × (a_now ≡ b_now)
-  loads_once [] old a b files a_files b_files before a_now b_now told low a_high b_high first second =
-      (first.1 ∙ sym second.1, first.2 ∙ sym second.2, first.3 ∙ sym second.3)
-  loads_once (spec ∷ specs) [] a b files a_files b_files before a_now b_now told low a_high b_high first second = absurd first
-  loads_once (spec ∷ specs) (layer ∷ old) [] b files a_files b_files before a_now b_now told low a_high b_high first second = absurd first
-  loads_once (spec ∷ specs) (layer ∷ old) (made ∷ a) [] files a_files b_files before a_now b_now told low a_high b_high first second = absurd second
-  loads_once (spec ∷ specs) (layer ∷ old) (made ∷ a) (other ∷ b) files a_files b_files before a_now b_now told low a_high b_high first second =
+module _ (disk : Disk) (n m : ℕ) (room : n < 2 ^ 64 - 1) (other_room : m < 2 ^ 64 - 1) where
+  loads_once : (specs : List LayerSpec) (old a b : List LayerState) (files a_files b_files : Told) (before a_now other_before b_now : Counts) → files.disk ≡ Some disk → n ≤ before.faults → a_now.faults ≤ n → m ≤ other_before.faults → b_now.faults ≤ m
+      → LoadsAll specs old a files a_files before a_now (Ok tt) → LoadsAll specs old b files b_files other_before b_now (Ok tt) → (a ≡ b) × (a_files ≡ b_files)
+  loads_once [] old a b files a_files b_files before a_now other_before b_now told low high other_low other_high first second = (first.1 ∙ sym second.1, first.2 ∙ sym second.2)
+  loads_once (spec ∷ specs) [] a b files a_files b_files before a_now other_before b_now told low high other_low other_high first second = absurd first
+  loads_once (spec ∷ specs) (layer ∷ old) [] b files a_files b_files before a_now other_before b_now told low high other_low other_high first second = absurd first
+  loads_once (spec ∷ specs) (layer ∷ old) (made ∷ a) [] files a_files b_files before a_now other_before b_now told low high other_low other_high first second = absurd second
+  loads_once (spec ∷ specs) (layer ∷ old) (made ∷ a) (other ∷ b) files a_files b_files before a_now other_before b_now told low high other_low other_high first second =
       let one_goes = goes_later spec layer made files first.1 before first.2 _ _ first.0 first.5 first.6 in
-      let two_goes = goes_later spec layer other files second.1 before second.2 _ _ second.0 second.5 second.6 in
+      let two_goes = goes_later spec layer other files second.1 other_before second.2 _ _ second.0 second.5 second.6 in
+      let one_later : before.faults ≤ first.2.faults = one_goes.0 in
+      let two_later : other_before.faults ≤ second.2.faults = two_goes.0 in
       let one_rest : first.2.faults ≤ a_now.faults = loads_later specs old a first.1 a_files first.2 a_now one_goes.1 in
       let two_rest : second.2.faults ≤ b_now.faults = loads_later specs old b second.1 b_files second.2 b_now two_goes.1 in
       let one_is = goes_here spec layer made files first.1 before first.2 _ _ n room low (omega arith) first.0 first.3 first.4 first.5 first.6 in
-      let two_is = goes_here spec layer other files second.1 before second.2 _ _ n room low (omega arith) second.0 second.3 second.4 second.5 second.6 in
+      let two_is = goes_here spec layer other files second.1 other_before second.2 _ _ m other_room other_low (omega arith) second.0 second.3 second.4 second.5 second.6 in
       let then_told : Told = after_look files Read spec.place true in
-      let one_loads : LoadsAll specs old a then_told a_files before a_now (Ok tt)
-      = subst (λ (c : Counts). LoadsAll specs old a then_told a_files c a_now (Ok tt)) one_is.2 (subst (λ (t : Told). LoadsAll specs old a t a_files first.2 a_now (Ok tt)) one_is.1 one_goes.1) in
-      let two_loads : LoadsAll specs old b then_told b_files before b_now (Ok tt)
-      = subst (λ (c : Counts). LoadsAll specs old b then_told b_files c b_now (Ok tt)) two_is.2 (subst (λ (t : Told). LoadsAll specs old b t b_files second.2 b_now (Ok tt)) two_is.1 two_goes.1) in
-      let rest = loads_once specs old a b then_told a_files b_files before a_now b_now told low a_high b_high one_loads two_loads in
+      let one_loads : LoadsAll specs old a then_told a_files first.2 a_now (Ok tt) = subst (λ (t : Told). LoadsAll specs old a t a_files first.2 a_now (Ok tt)) one_is.1 one_goes.1 in
+      let two_loads : LoadsAll specs old b then_told b_files second.2 b_now (Ok tt) = subst (λ (t : Told). LoadsAll specs old b t b_files second.2 b_now (Ok tt)) two_is.1 two_goes.1 in
+      let rest = loads_once specs old a b then_told a_files b_files first.2 a_now second.2 b_now told (omega arith) high (omega arith) other_high one_loads two_loads in
       let here : made ≡ other
       = one_here disk spec layer made other (subst (λ (d : Option Disk). IsHere d spec layer made) told one_is.0) (subst (λ (d : Option Disk). IsHere d spec layer other) told two_is.0) in
-      ((λ i. here i ∷ rest.0 i), rest.1, rest.2)
+      ((λ i. here i ∷ rest.0 i), rest.1)
 
 -- ---- the start
 
@@ -124,21 +122,34 @@ started_told disk path files mid roots started told =
     loads_told disk (databases_of started.conf) (all_set_up (databases_of started.conf)) mid.used (conf_read files.told path) mid.files.told files.counts mid.files.counts started.loaded.loads
     (told.0 ++ record { op = Read; path = path; ok = true } ∷ [], ap (λ (t : Told). conf_read t path) told.1)
 
-module _ (files : FilesState) (room : files.counts.faults < 2 ^ 64 - 1) (disk : Disk) (calls : List FilesCall) (told : files.told ≡ record { disk = Some disk; calls = Some calls }) (path : List ℕ) (mid last : Stock) (roots others : Roots) where
-  pub one_start : mid.files.counts.faults ≤ files.counts.faults → last.files.counts.faults ≤ files.counts.faults → HasStarted path files mid roots → HasStarted path files last others → (mid ≡ last) × (roots ≡ others)
-  one_start high other_high first second =
-      let disk_told : files.told.disk ≡ Some disk = ap (λ (t : Told). t.disk) told in
-      let conf : first.conf ≡ second.conf
-      = one_conf disk path first.conf second.conf (subst (λ (d : Option Disk). IsConfiguration d path first.conf) disk_told first.loaded.conf_is) (subst (λ (d : Option Disk). IsConfiguration d path second.conf) disk_told second.loaded.conf_is) in
-      let loads : LoadsAll (databases_of second.conf) (all_set_up (databases_of second.conf)) mid.used (conf_read files.told path) mid.files.told files.counts mid.files.counts (Ok tt)
-      = subst (λ (c : Configuration). LoadsAll (databases_of c) (all_set_up (databases_of c)) mid.used (conf_read files.told path) mid.files.told files.counts mid.files.counts (Ok tt)) conf first.loaded.loads in
-      let once = loads_once files.counts.faults room disk (databases_of second.conf) (all_set_up (databases_of second.conf)) mid.used last.used (conf_read files.told path) mid.files.told last.files.told files.counts mid.files.counts last.files.counts
-      disk_told (omega arith) high other_high loads second.loaded.loads in (
-        (λ i. record { files = record { told = once.1 i; counts = once.2 i }; used = once.0 i }),
-        (λ i. record {
-          config = (first.config_is ∙ ap (λ (c : Configuration). plan_of c (databases_of c) c.config) conf ∙ sym second.config_is) i;
-          templates = (first.templates_is ∙ ap (λ (c : Configuration). plan_of c (databases_of c) c.templates) conf ∙ sym second.templates_is) i;
-          frontend = (first.frontend_is ∙ ap (λ (c : Configuration). c.frontend) conf ∙ sym second.frontend_is) i;
-          priority = (first.priority_is ∙ ap (λ (c : Configuration). c.priority) conf ∙ sym second.priority_is) i;
-        }),
-      )
+-- Two runs that began over files that tell the same, and counted no failure: they loaded the same layers, and take the same from the
+-- configuration.
+pub record StartAlike (mid last : Stock) (roots others : Roots) : Type 0 where
+  pub used : mid.used ≡ last.used
+  pub told : mid.files.told ≡ last.files.told
+  pub roots_are : roots ≡ others
+
+pub one_start : (disk : Disk) (path : List ℕ) (told : Told) (files other_files : FilesState) (mid last : Stock) (roots others : Roots) → told.disk ≡ Some disk → files.told ≡ told → other_files.told ≡ told
+    → files.counts.faults < 2 ^ 64 - 1 → other_files.counts.faults < 2 ^ 64 - 1 → mid.files.counts.faults ≤ files.counts.faults → last.files.counts.faults ≤ other_files.counts.faults
+    → HasStarted path files mid roots → HasStarted path other_files last others → StartAlike mid last roots others
+one_start disk path told files other_files mid last roots others disk_told files_told other_told room other_room high other_high first second =
+    let one_conf_is = subst (λ (d : Option Disk). IsConfiguration d path first.conf) (ap (λ (t : Told). t.disk) files_told ∙ disk_told) first.loaded.conf_is in
+    let other_conf_is = subst (λ (d : Option Disk). IsConfiguration d path second.conf) (ap (λ (t : Told). t.disk) other_told ∙ disk_told) second.loaded.conf_is in
+    let conf : first.conf ≡ second.conf = one_conf disk path first.conf second.conf one_conf_is other_conf_is in
+    let one_loads : LoadsAll (databases_of second.conf) (all_set_up (databases_of second.conf)) mid.used (conf_read told path) mid.files.told files.counts mid.files.counts (Ok tt)
+    = subst (λ (c : Configuration). LoadsAll (databases_of c) (all_set_up (databases_of c)) mid.used (conf_read told path) mid.files.told files.counts mid.files.counts (Ok tt)) conf
+    (subst (λ (t : Told). LoadsAll (databases_of first.conf) (all_set_up (databases_of first.conf)) mid.used (conf_read t path) mid.files.told files.counts mid.files.counts (Ok tt)) files_told first.loaded.loads) in
+    let other_loads : LoadsAll (databases_of second.conf) (all_set_up (databases_of second.conf)) last.used (conf_read told path) last.files.told other_files.counts last.files.counts (Ok tt)
+    = subst (λ (t : Told). LoadsAll (databases_of second.conf) (all_set_up (databases_of second.conf)) last.used (conf_read t path) last.files.told other_files.counts last.files.counts (Ok tt)) other_told second.loaded.loads in
+    let once = loads_once disk files.counts.faults other_files.counts.faults room other_room (databases_of second.conf) (all_set_up (databases_of second.conf)) mid.used last.used (conf_read told path) mid.files.told last.files.told
+    files.counts mid.files.counts other_files.counts last.files.counts disk_told (omega arith) high (omega arith) other_high one_loads other_loads in
+    record {
+      used = once.0;
+      told = once.1;
+      roots_are = λ i. record {
+        config = (first.config_is ∙ ap (λ (c : Configuration). plan_of c (databases_of c) c.config) conf ∙ sym second.config_is) i;
+        templates = (first.templates_is ∙ ap (λ (c : Configuration). plan_of c (databases_of c) c.templates) conf ∙ sym second.templates_is) i;
+        frontend = (first.frontend_is ∙ ap (λ (c : Configuration). c.frontend) conf ∙ sym second.frontend_is) i;
+        priority = (first.priority_is ∙ ap (λ (c : Configuration). c.priority) conf ∙ sym second.priority_is) i;
+      };
+    }

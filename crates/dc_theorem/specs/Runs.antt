@@ -6,7 +6,7 @@ use Rattle.dc_outside.specs.Told.{Counts}
 use Rattle.dc_outside.specs.declared.files.FilesCall.{FilesCall}
 use Rattle.dc_outside.specs.declared.link.Piece.{Piece}
 use Rattle.dc_serve.specs.Said.{said}
-use Rattle.dc_session.specs.SessionState.{FilesState, LinkState}
+use Rattle.dc_session.specs.SessionState.{LinkState}
 use Rattle.dc_run.specs.declared.outcome.End.TheVariants.{Done}
 use Rattle.dc_run.specs.declared.outcome.Outcome.{Outcome}
 use Rattle.dc_run.specs.declared.settings.Settings.{Settings}
@@ -16,23 +16,18 @@ use Rattle.dc_run.specs.World.{World}
 
 -- ---- what comes in
 
--- the files tell of the disk, and of the calls on them
-pub record AreTold (files : FilesState) : Type 0 where
-  pub disk : Disk
-  pub calls : List FilesCall
-  pub told_is : files.told ≡ record { disk = Some disk; calls = Some calls }
-
 -- no failure was counted, and the count wasn't at its last value, at which it stays
 pub record NoneFailed (before now : Counts) : Type 0 where
   pub same : now.faults ≡ before.faults
   pub room : before.faults < 2 ^ 64 - 1
 
--- A run with these words and settings began over these files. It did all that it was to do, and no call of the files failed.
-pub record IsClean (words : List (List ℕ)) (settings : Settings) (files : FilesState) (old new : World) (outcome : Outcome) : Type 0 where
-  pub files_are : old.stock.files ≡ files
+-- A run with these words and settings began over files that tell this disk and these calls on it. It did all that it was to do, and no
+-- call of the files failed.
+pub record IsClean (words : List (List ℕ)) (settings : Settings) (disk : Disk) (calls : List FilesCall) (old new : World) (outcome : Outcome) : Type 0 where
+  pub files_are : old.stock.files.told ≡ record { disk = Some disk; calls = Some calls }
   pub ran : HasRunWords words settings old new outcome
   pub done : outcome.end ≡ Done
-  pub none_failed : NoneFailed files.counts new.stock.files.counts
+  pub none_failed : NoneFailed old.stock.files.counts new.stock.files.counts
 
 -- all is told of two terminals: the same was said there before, and the same is typed, in whatever pieces
 pub record AreTypedAlike (one other : LinkState) : Type 0 where
@@ -69,9 +64,10 @@ pub record TellAlike (one new other last : LinkState) : Type 0 where
   pub one_is : HasSaidOn text one new
   pub other_is : HasSaidOn text other last
 
--- They left the same layers, the same on the disk by the same calls, and the same code of the last reply.
+-- They hold the same layers, left the same disk by the same calls, and had the same code of the last reply.
 pub record LeaveAlike (one new : World) (outcome : Outcome) (other last : World) (again : Outcome) : Type 0 where
-  pub stock : last.stock ≡ new.stock
+  pub used : last.stock.used ≡ new.stock.used
+  pub files : last.stock.files.told ≡ new.stock.files.told
   pub err : TellAlike one.err new.err other.err last.err
   pub code : again.last_code ≡ outcome.last_code
 
