@@ -1,0 +1,104 @@
+-- What comes in determines a run of `communicate`.
+use Rattle.std.proofs.Common.{◌≡◌, ℕ, List, Option, Some, refl, ap, sym, subst, ◌∙◌, arith}
+use Rattle.std.specs.Prelude.{◌≤◌}
+use Rattle.dc_serve.specs.Run.{HasRun}
+use Rattle.dc_serve.specs.declared.outcome.LinkEnd.TheVariants as link
+use Rattle.dc_session.specs.Asking.{finished}
+use Rattle.dc_session.specs.Machine.{Heeds, Breaks}
+use Rattle.dc_session.specs.SessionState.{FilesState, LinkState, SessionState}
+use Rattle.dc_run.specs.Ends.{status_of}
+use Rattle.dc_run.specs.Headline.{HasUsed}
+use Rattle.dc_run.specs.Starting.{begun}
+use Rattle.dc_run.specs.World.{World}
+use Rattle.dc_run.specs.declared.outcome.Outcome.{Outcome}
+use Rattle.dc_run.specs.declared.settings.Settings.{Settings}
+use Rattle.dc_usage.specs.Tools.{Names}
+use Rattle.dc_usage.specs.declared.tool.Tool.TheVariants.{Communicate}
+use Rattle.dc_theorem.specs.Runs.{IsClean, CommunicateAlike}
+use Rattle.dc_theorem.proofs.EndLemmas.{was_used, unwaited, WasServed, was_served}
+use Rattle.dc_outside.specs.Disk.{Disk}
+use Rattle.dc_outside.specs.declared.files.FilesCall.{FilesCall}
+use Rattle.dc_theorem.proofs.Recount.{with_counts, run_with}
+use Rattle.dc_theorem.proofs.StartLaws.{StartAlike}
+use Rattle.dc_theorem.proofs.SameRuns.{run_later, run_same}
+use Rattle.dc_theorem.proofs.UsedLemmas.{tool_done, left_sound, starts_low, starts_told, same_start, leave_alike}
+
+-- ---- one run
+
+module _ (words : List (List ℕ)) (owner : List ℕ) (settings : Settings) (disk : Disk) (calls : List FilesCall) (old new : World) (outcome : Outcome) (input : List ℕ) (clean : IsClean words settings disk calls old new outcome)
+    (has : HasUsed (Communicate owner) settings old new outcome) (input_is : old.links.io.input ≡ Some input) where
+  abbrev start : SessionState
+  start = begun (Communicate owner) has.mid has.roots settings old.links.io
+
+  served : WasServed start has.layers has.files has.uses.0.terminal old.links.io has.links.io has.answer.last_code
+  served = was_served start has.layers has.files has.uses.0.terminal old.links.io has.links.io has.uses.0.ended has.answer.last_code (sym has.uses.0.ended_is ∙ tool_done words (Communicate owner) settings disk calls old new outcome clean has) has.uses.0.served
+
+  ran : HasRun Heeds Breaks old.links.io.talk has.links.io.talk (Some input) has.links.io.input start link.Done served.state has.answer.last_code
+  ran = subst (λ (k : Option (List ℕ)). HasRun Heeds Breaks old.links.io.talk has.links.io.talk k has.links.io.input start link.Done served.state has.answer.last_code) input_is served.ran
+
+  high : served.state.files.counts.faults ≤ old.stock.files.counts.faults
+  high = subst (λ (f : FilesState). f.counts.faults ≤ old.stock.files.counts.faults) served.files_are (left_sound words (Communicate owner) settings disk calls old new outcome clean has)
+
+  mid_high : has.mid.files.counts.faults ≤ old.stock.files.counts.faults
+  mid_high =
+      let later : has.mid.files.counts.faults ≤ served.state.files.counts.faults
+      = run_later input old.links.io.talk has.links.io.talk has.links.io.input start served.state has.answer.last_code ran in
+      let low : served.state.files.counts.faults ≤ old.stock.files.counts.faults = high in
+      omega arith
+
+  status_is : outcome.status ≡ has.answer.last_code
+  status_is =
+      has.status_is ∙ (λ i. status_of (clean.done i) has.status)
+      ∙ unwaited has.answer.is_started has.links.child new.links.child has.how outcome.end has.answer.status has.status has.uses.0.waits has.awaits ∙ has.uses.0.status_is
+
+-- ---- both
+
+module _ (words : List (List ℕ)) (owner : List ℕ) (settings : Settings) (disk : Disk) (calls : List FilesCall) (one new other last : World) (outcome again : Outcome) (input : List ℕ)
+    (clean : IsClean words settings disk calls one new outcome) (other_clean : IsClean words settings disk calls other last again)
+    (has : HasUsed (Communicate owner) settings one new outcome) (other_has : HasUsed (Communicate owner) settings other last again)
+    (input_is : one.links.io.input ≡ Some input) (other_input_is : other.links.io.input ≡ Some input) where
+  starts : StartAlike has.mid other_has.mid has.roots other_has.roots
+  starts =
+      same_start words (Communicate owner) settings disk calls one new other last outcome again clean other_clean has other_has (mid_high words owner settings disk calls one new outcome input clean has input_is)
+      (mid_high words owner settings disk calls other last again input other_clean other_has other_input_is)
+
+  both_alike : CommunicateAlike one new outcome other last again
+  both_alike =
+      let first = served words owner settings disk calls one new outcome input clean has input_is in
+      let second = served words owner settings disk calls other last again input other_clean other_has other_input_is in
+      let one_ran = ran words owner settings disk calls one new outcome input clean has input_is in
+      let begins = begun (Communicate owner) has.mid has.roots settings one.links.io in
+      let other_begins = begun (Communicate owner) other_has.mid other_has.roots settings other.links.io in
+      let counts = has.mid.files.counts in
+      let recounted = run_with counts other.stock.files.counts.faults other_clean.none_failed.room other.links.io.talk other_has.links.io.talk (Some input) other_has.links.io.input other_begins second.state other_has.answer.last_code
+      (starts_low words (Communicate owner) settings disk calls other last again other_clean other_has) (high words owner settings disk calls other last again input other_clean other_has other_input_is)
+      (ran words owner settings disk calls other last again input other_clean other_has other_input_is) in
+      let begin : with_counts counts other_begins ≡ begins
+      = λ i. begun (Communicate owner) (record { files = record { told = sym starts.told i; counts = counts }; used = sym starts.used i }) (sym starts.roots_are i) settings one.links.io in
+      let other_ran : HasRun Heeds Breaks other.links.io.talk other_has.links.io.talk (Some input) other_has.links.io.input begins link.Done (with_counts counts second.state) other_has.answer.last_code
+      = subst (λ (s : SessionState). HasRun Heeds Breaks other.links.io.talk other_has.links.io.talk (Some input) other_has.links.io.input s link.Done (with_counts counts second.state) other_has.answer.last_code) begin recounted in
+      let disk_told = starts_told words (Communicate owner) settings disk calls one new outcome clean has in
+      let same = run_same one.stock.files.counts.faults clean.none_failed.room disk disk_told.0 input one.links.io.talk has.links.io.talk other.links.io.talk other_has.links.io.talk has.links.io.input other_has.links.io.input
+      begins first.state (with_counts counts second.state) has.answer.last_code other_has.answer.last_code disk_told.1 refl (starts_low words (Communicate owner) settings disk calls one new outcome clean has)
+      (high words owner settings disk calls one new outcome input clean has input_is) (mid_high words owner settings disk calls one new outcome input clean has input_is) one_ran other_ran in
+      let layers : has.layers ≡ other_has.layers = first.layers_are ∙ ap (λ (s : SessionState). (finished s).layers) same.2 ∙ sym second.layers_are in
+      let left : has.files.told ≡ other_has.files.told
+      = ap (λ (f : FilesState). f.told) first.files_are ∙ ap (λ (s : SessionState). s.files.told) same.2 ∙ sym (ap (λ (f : FilesState). f.told) second.files_are) in
+      record {
+        leave = leave_alike words (Communicate owner) settings disk calls one new other last outcome again clean other_clean has other_has layers left (has.uses.2 ∙ sym other_has.uses.2) same.1;
+        replies = record {
+          pieces = one_ran.pieces;
+          other_pieces = other_ran.pieces;
+          one_is = ap (λ (l : LinkState). l.talk) has.io_is ∙ one_ran.told_is;
+          other_is = ap (λ (l : LinkState). l.talk) other_has.io_is ∙ other_ran.told_is;
+          same = same.0;
+        };
+        status = status_is words owner settings disk calls other last again input other_clean other_has other_input_is ∙ sym same.1 ∙ sym (status_is words owner settings disk calls one new outcome input clean has input_is);
+      }
+
+pub communicate_alike : (words : List (List ℕ)) (owner : List ℕ) (settings : Settings) (disk : Disk) (calls : List FilesCall) (one new other last : World) (outcome again : Outcome) (input : List ℕ) → Names words (Communicate owner)
+    → IsClean words settings disk calls one new outcome → IsClean words settings disk calls other last again → one.links.io.input ≡ Some input → other.links.io.input ≡ Some input
+    → CommunicateAlike one new outcome other last again
+communicate_alike words owner settings disk calls one new other last outcome again input named clean other_clean input_is other_input_is =
+    both_alike words owner settings disk calls one new other last outcome again input clean other_clean
+    (was_used words settings disk calls one new outcome (Communicate owner) named clean) (was_used words settings disk calls other last again (Communicate owner) named other_clean) input_is other_input_is

@@ -1,0 +1,188 @@
+-- A run that did all: it used its tool, which was done, and what was left is saved.
+use Rattle.std.proofs.Common.{◌≡◌, inl, inr, ℕ, Bool, true, false, List, refl, sym, subst, ◌∙◌}
+use Rattle.std.specs.Prelude.{map as each}
+use Rattle.dc_conf.specs.declared.faults.ConfError.{ConfError}
+use Rattle.dc_conf.specs.declared.faults.ConfError.TheVariants as conf
+use Rattle.dc_layer.specs.State.{LayerState, saved}
+use Rattle.dc_layer.specs.declared.pattern.PatternError.{PatternError}
+use Rattle.dc_layer.specs.declared.pattern.PatternError.TheVariants as pattern
+use Rattle.dc_save.specs.Saving.{after_images}
+use Rattle.dc_save.specs.declared.loading.LoadError.{LoadError}
+use Rattle.dc_save.specs.declared.loading.LoadError.TheVariants as load
+use Rattle.dc_serve.specs.Run.{HasRun}
+use Rattle.dc_serve.specs.declared.outcome.LinkEnd.{LinkEnd}
+use Rattle.dc_serve.specs.declared.outcome.LinkEnd.TheVariants as link
+use Rattle.dc_session.specs.Asking.{finished}
+use Rattle.dc_session.specs.Machine.{Heeds, Breaks}
+use Rattle.dc_session.specs.Serving.{IsFinished, Finishes as FinishesSession, IsServed, end_broken}
+use Rattle.dc_session.specs.SessionState.{FilesState, LinkState, SessionState}
+use Rattle.dc_session.specs.declared.stepped.StepError.{StepError}
+use Rattle.dc_session.specs.declared.stepped.StepError.TheVariants as step
+use Rattle.dc_run.specs.Ends.{end_of_conf, end_of_pattern, end_of_load, tool_end_of, end_unwaited}
+use Rattle.dc_run.specs.Finishing.{images_of, IsSaved, Finishes}
+use Rattle.dc_run.specs.Headline.{HasUsed, HasRunTool, HasRunWords}
+use Rattle.dc_run.specs.Running.{Awaits, end_unstarted}
+use Rattle.dc_run.specs.Starting.{EndsBefore}
+use Rattle.dc_run.specs.World.{ChildState, Stock, World}
+use Rattle.dc_run.specs.declared.outcome.End.{End}
+use Rattle.dc_run.specs.declared.outcome.End.TheVariants as end
+use Rattle.dc_run.specs.declared.outcome.Outcome.{Outcome}
+use Rattle.dc_run.specs.declared.outcome.ToolEnd.{ToolEnd}
+use Rattle.dc_run.specs.declared.outcome.ToolEnd.TheVariants as tool
+use Rattle.dc_run.specs.declared.settings.Settings.{Settings}
+use Rattle.dc_outside.specs.Disk.{Disk}
+use Rattle.dc_outside.specs.declared.files.FilesCall.{FilesCall}
+use Rattle.dc_outside.specs.declared.link.LinkError.{LinkError}
+use Rattle.dc_outside.specs.declared.link.LinkError.TheVariants.{Failed, OutOfMemory}
+use Rattle.dc_usage.specs.Tools.{Names}
+use Rattle.dc_usage.specs.declared.tool.Tool.{Tool}
+use Rattle.dc_usage.proofs.AnswerLemmas.{one_tool}
+use Rattle.dc_theorem.specs.Runs.{IsClean}
+
+-- ---- an end before the tool is another
+
+conf_other : (error : ConfError) → end_of_conf error ≡ end.Done → ⊥
+conf_other (conf.Refused line kind) is = cc
+conf_other conf.OutOfMemory is = cc
+
+pattern_other : (place : ℕ) (error : PatternError) → end_of_pattern place error ≡ end.Done → ⊥
+pattern_other place pattern.Bad is = cc
+pattern_other place pattern.TooLarge is = cc
+pattern_other place pattern.OutOfMemory is = cc
+
+load_other : (error : LoadError) → end_of_load error ≡ end.Done → ⊥
+load_other (load.Failed path) is = cc
+load_other (load.Damaged path line) is = cc
+load_other load.OutOfMemory is = cc
+
+no_memory : end.OutOfMemory ≡ end.Done → ⊥
+no_memory is = cc
+
+no_fault : (path : List ℕ) → end.FilesFault path ≡ end.Done → ⊥
+no_fault path is = cc
+
+no_usage : (word : ℕ) → end.Usage word ≡ end.Done → ⊥
+no_usage word is = cc
+
+not_before : (path : List ℕ) (old : FilesState) (new : Stock) (how : End) → how ≡ end.Done → EndsBefore path old new how → ⊥
+not_before path old new how done (inl none) = no_memory (sym none.end_is ∙ done)
+not_before path old new how done (inr (inl unread)) = no_fault path (sym unread.end_is ∙ done)
+not_before path old new how done (inr (inr (inl refused))) = conf_other refused.error (sym refused.end_is ∙ done)
+not_before path old new how done (inr (inr (inr (inl patterns)))) = pattern_other patterns.refused.place patterns.refused.error (sym patterns.end_is ∙ done)
+not_before path old new how done (inr (inr (inr (inr loads)))) = load_other loads.error (sym loads.end_is ∙ done)
+
+-- ---- the tool was used
+
+used_tool : (words : List (List ℕ)) (settings : Settings) (old new : World) (outcome : Outcome) (used : Tool) → outcome.end ≡ end.Done → Names words used → HasRunWords words settings old new outcome → HasUsed used settings old new outcome
+used_tool words settings old new outcome used done named (inl refused) = absurd (no_usage refused.word (sym refused.end_is ∙ done))
+used_tool words settings old new outcome used done named (inr ran) = elim (subst (λ (t : Tool). HasRunTool t settings old new outcome) (one_tool words ran.0 used ran.1 named) ran.2) [
+  | inl before ↦ absurd (not_before settings.conf_path old.stock.files new.stock outcome.end done before.0)
+  | inr has ↦ has
+]
+
+pub was_used : (words : List (List ℕ)) (settings : Settings) (disk : Disk) (calls : List FilesCall) (old new : World) (outcome : Outcome) (used : Tool) → Names words used → IsClean words settings disk calls old new outcome → HasUsed used settings old new outcome
+was_used words settings disk calls old new outcome used named clean = used_tool words settings old new outcome used clean.done named clean.ran
+
+-- ---- how the run ended, but for the wait
+
+unwaited_other : (how : End) → end_unwaited how ≡ end.Done → ⊥
+unwaited_other end.Done is = cc
+unwaited_other (end.Usage word) is = cc
+unwaited_other (end.ConfRefused line kind) is = cc
+unwaited_other (end.BadPattern place) is = cc
+unwaited_other (end.PatternTooLarge place) is = cc
+unwaited_other (end.Damaged path line) is = cc
+unwaited_other end.OutOfMemory is = cc
+unwaited_other (end.FilesFault path) is = cc
+unwaited_other end.LinkFault is = cc
+unwaited_other end.TermFault is = cc
+unwaited_other end.ChildFault is = cc
+unwaited_other end.TooLong is = cc
+
+-- no wait failed, and the link to the program is as it was
+pub waited : (started : Bool) (old new : ChildState) (how ended : End) (before status : ℕ) → ended ≡ end.Done → Awaits started old new how ended before status → (how ≡ end.Done) × (new.link ≡ old.link)
+waited true old new how ended before status done (inl has) = (sym has.end_is ∙ done, has.link)
+waited true old new how ended before status done (inr failed) = absurd (unwaited_other how (sym failed.end_is ∙ done))
+waited false old new how ended before status done none = (sym none.end_is ∙ done, λ i. (none.child i).link)
+
+-- without a program there is no wait
+pub unwaited : (started : Bool) (old new : ChildState) (how ended : End) (before status : ℕ) → started ≡ false → Awaits started old new how ended before status → status ≡ before
+unwaited started old new how ended before status none awaits = (subst (λ (b : Bool). Awaits b old new how ended before status) none awaits).status_is
+
+-- ---- what it left is saved
+
+-- all is saved: what the files tell then, and the layers
+pub record HasSaved (layers used : List LayerState) (files new : FilesState) : Type 0 where
+  pub files_are : new.told ≡ after_images files.told (images_of layers)
+  pub counts : new.counts ≡ files.counts
+  pub used_are : used ≡ each saved layers
+
+module _ (layers used : List LayerState) (files new : FilesState) (how : End) (done : how ≡ end.Done) where
+  was_saved : (ended : ToolEnd) → IsSaved layers used files new ended how → HasSaved layers used files new
+  was_saved ended is = record { files_are = is.files_are; counts = is.counts; used_are = is.used_are }
+
+  pub saved_so : (ended : ToolEnd) → Finishes layers used ended files new how → (ended ≡ tool.Done) × HasSaved layers used files new
+  saved_so tool.Done (inl is) = (refl, was_saved tool.Done is)
+  saved_so tool.Done (inr (inl failed)) = absurd (no_fault failed.path (sym failed.end_is ∙ done))
+  saved_so tool.Done (inr (inr none)) = absurd (no_memory (sym none.end_is ∙ done))
+  saved_so tool.LinkFault (inl is) = absurd (let e : end.LinkFault ≡ end.Done = sym is.end_is ∙ done in cc)
+  saved_so tool.LinkFault (inr (inl failed)) = absurd (let e : end.LinkFault ≡ end.Done = sym failed.end_is ∙ done in cc)
+  saved_so tool.LinkFault (inr (inr none)) = absurd (no_memory (sym none.end_is ∙ done))
+  saved_so tool.TooLong (inl is) = absurd (let e : end.TooLong ≡ end.Done = sym is.end_is ∙ done in cc)
+  saved_so tool.TooLong (inr (inl failed)) = absurd (let e : end.TooLong ≡ end.Done = sym failed.end_is ∙ done in cc)
+  saved_so tool.TooLong (inr (inr none)) = absurd (no_memory (sym none.end_is ∙ done))
+  saved_so tool.TermFault broken = absurd (let e : end.TermFault ≡ end.Done = sym broken.end_is ∙ done in cc)
+  saved_so tool.ChildFault broken = absurd (let e : end.ChildFault ≡ end.Done = sym broken.end_is ∙ done in cc)
+  saved_so tool.OutOfMemory broken = absurd (no_memory (sym broken.end_is ∙ done))
+  saved_so (tool.FilesFault path) broken = absurd (no_fault path (sym broken.end_is ∙ done))
+
+-- ---- a session that was done
+
+pub unstarted_other : (error : LinkError) → end_unstarted error ≡ tool.Done → ⊥
+unstarted_other Failed is = cc
+unstarted_other OutOfMemory is = cc
+
+link_done : (ended : LinkEnd StepError) → tool_end_of ended ≡ tool.Done → ended ≡ link.Done
+link_done link.Done is = refl
+link_done link.LinkFault is = absurd (cc)
+link_done link.TooLong is = absurd (cc)
+link_done link.OutOfMemory is = absurd (cc)
+link_done (link.Broken step.Term) is = absurd (cc)
+link_done (link.Broken step.OutOfMemory) is = absurd (cc)
+
+no_link_memory : ◌≡◌ {A = LinkEnd StepError} link.OutOfMemory link.Done → ⊥
+no_link_memory is = cc
+
+broken_other : (error : StepError) → end_broken error ≡ link.Done → ⊥
+broken_other step.Term is = cc
+broken_other step.OutOfMemory is = cc
+
+finished_by : (state : SessionState) (layers : List LayerState) (served ended : LinkEnd StepError) → ended ≡ link.Done → IsFinished state served layers ended → (served ≡ link.Done) × (layers ≡ (finished state).layers)
+finished_by state layers served ended done (inl is) = (sym is.1 ∙ done, is.0)
+finished_by state layers served ended done (inr none) = absurd (no_link_memory (sym none.1 ∙ done))
+
+finished_so : (state : SessionState) (layers : List LayerState) (served ended : LinkEnd StepError) → ended ≡ link.Done → FinishesSession served state layers ended → (served ≡ link.Done) × (layers ≡ (finished state).layers)
+finished_so state layers link.Done ended done finishes = finished_by state layers link.Done ended done finishes
+finished_so state layers link.LinkFault ended done finishes = finished_by state layers link.LinkFault ended done finishes
+finished_so state layers link.TooLong ended done finishes = finished_by state layers link.TooLong ended done finishes
+finished_so state layers link.OutOfMemory ended done finishes = absurd (no_link_memory (sym finishes.1 ∙ done))
+finished_so state layers (link.Broken error) ended done finishes = absurd (broken_other error (sym finishes.1 ∙ done))
+
+-- it was served to its end, and finished
+pub record WasServed (start : SessionState) (layers : List LayerState) (files : FilesState) (terminal old new : LinkState) (code : ℕ) : Type 0 where
+  pub state : SessionState
+  pub ran : HasRun Heeds Breaks old.talk new.talk old.input new.input start link.Done state code
+  pub files_are : files ≡ state.files
+  pub terminal_is : terminal ≡ state.terminal.link
+  pub layers_are : layers ≡ (finished state).layers
+
+pub was_served : (start : SessionState) (layers : List LayerState) (files : FilesState) (terminal old new : LinkState) (ended : LinkEnd StepError) (code : ℕ) → tool_end_of ended ≡ tool.Done → IsServed start layers files terminal old new ended code → WasServed start layers files terminal old new code
+was_served start layers files terminal old new ended code done is =
+    let so = finished_so is.state layers is.served ended (link_done ended done) is.finishes in
+    record {
+      state = is.state;
+      ran = subst (λ (e : LinkEnd StepError). HasRun Heeds Breaks old.talk new.talk old.input new.input start e is.state code) so.0 is.ran;
+      files_are = is.files_are;
+      terminal_is = is.terminal_is;
+      layers_are = so.1;
+    }

@@ -1,0 +1,115 @@
+-- What the disk holds determines what template files are loaded, where no read of one failed.
+use Rattle.std.proofs.Common.{◌≡◌, ℕ, true, List, [], ◌∷◌, ◌++◌, Some, None, refl, ap, sym, subst, ◌∙◌, arith}
+use Rattle.std.specs.Prelude.{◌≤◌, ◌≢◌, ◌||◌, is_some, if◌then◌else◌, map as each}
+use Rattle.std.specs.Option.{option_map_or}
+use Rattle.dc_text.specs.Ascii.{newline}
+use Rattle.dc_outside.specs.Disk.{Disk}
+use Rattle.dc_outside.specs.Steps.{after_look}
+use Rattle.dc_outside.specs.Told.{Told, Counts}
+use Rattle.dc_outside.specs.declared.files.FilesOp.TheVariants.{Read}
+use Rattle.dc_session.specs.Answers.{loading}
+use Rattle.dc_session.specs.SessionState.{FilesState, SessionState}
+use Rattle.dc_session.specs.TemplateFiles.{Finds}
+use Rattle.dc_session.specs.declared.template_files.Found.{Found}
+use Rattle.dc_session.specs.declared.template_files.Found.TheVariants.{Unreadable, Missing, Faulty, Templates}
+use Rattle.dc_session.proofs.Determined.{IsTold, one_looked}
+use Rattle.dc_run.specs.TemplateLoading.{FileTurn, IsFileTurn, IsFileCourse, paths_of, state_after, refusal_of, lines_of, refuses, load_status}
+use Rattle.dc_theorem.proofs.CountLemmas.{still}
+use Rattle.dc_theorem.proofs.LineFiles.{files_read, read_so}
+use Rattle.dc_theorem.proofs.Recount.{files_with, with_counts, read_with}
+use Rattle.dc_theorem.proofs.SameAnswers.{loading_same}
+
+found_so : (path : List ℕ) (old new : FilesState) (found : Found) → found ≢ Unreadable → Finds path old found new → new ≡ files_read path old
+found_so path old new Unreadable readable finds = absurd (readable refl)
+found_so path old new Missing readable finds = read_so path old new None finds
+found_so path old new (Faulty line) readable finds = read_so path old new (Some finds.0) finds.2
+found_so path old new (Templates templates) readable finds = read_so path old new (Some finds.0) finds.1
+
+turn_files : (start : SessionState) (turn : FileTurn) → IsFileTurn start turn → turn.new.files ≡ files_read turn.path start.files
+turn_files start turn is = found_so turn.path start.files turn.new.files turn.found is.readable is.finds
+
+pub loads_later : (start : SessionState) (turns : List FileTurn) → IsFileCourse start turns → start.files.counts.faults ≤ (state_after start turns).files.counts.faults
+loads_later start [] course = still start.files.counts start.files.counts refl
+loads_later start (turn ∷ turns) course =
+    let here : start.files.counts.faults ≤ turn.new.files.counts.faults = still start.files.counts turn.new.files.counts (ap (λ (f : FilesState). f.counts) (turn_files start turn course.0)) in
+    let rest : turn.new.files.counts.faults ≤ (state_after turn.new turns).files.counts.faults = loads_later turn.new turns course.1 in
+    omega arith
+
+module _ (disk : Disk) where
+  read_told : (path : List ℕ) (old new : FilesState) → new ≡ files_read path old → IsTold disk old.told → IsTold disk new.told
+  read_told path old new is told =
+      (told.0 ++ record { op = Read; path = path; ok = true } ∷ [], ap (λ (f : FilesState). f.told) is ∙ ap (λ (t : Told). after_look t Read path true) told.1)
+
+  one_turn : (start : SessionState) (one two : FileTurn) → IsTold disk start.files.told → IsFileTurn start one → IsFileTurn start two → one.path ≡ two.path → one ≡ two
+  one_turn start one two told first second path =
+      let one_files : one.new.files ≡ files_read two.path start.files = turn_files start one first ∙ ap (λ (p : List ℕ). files_read p start.files) path in
+      let files : one.new.files ≡ two.new.files = one_files ∙ sym (turn_files start two second) in
+      let one_finds : Finds two.path start.files one.found two.new.files
+      = subst (λ (f : FilesState). Finds two.path start.files one.found f) files (subst (λ (p : List ℕ). Finds p start.files one.found one.new.files) path first.finds) in
+      let found : one.found ≡ two.found = one_looked disk start.files two.new.files told (Some two.path) one.found two.found one_finds second.finds in
+      let new : one.new ≡ two.new = first.new_is ∙ (λ i. record start { store = (loading start start.owner (found i)).store; files = files i }) ∙ sym second.new_is in
+      λ i. record { path = path i; found = found i; new = new i }
+
+  pub one_course : (start : SessionState) (a b : List FileTurn) → IsTold disk start.files.told → IsFileCourse start a → IsFileCourse start b → paths_of a ≡ paths_of b → a ≡ b
+  one_course start [] [] told first second paths = refl
+  one_course start [] (turn ∷ b) told first second paths = absurd (cc)
+  one_course start (turn ∷ a) [] told first second paths = absurd (cc)
+  one_course start (one ∷ a) (two ∷ b) told first second paths =
+      let path : one.path ≡ two.path = cc in
+      let later : paths_of a ≡ paths_of b = cc in
+      let here = one_turn start one two told first.0 second.0 path in
+      let rest = one_course one.new a b (read_told one.path start.files one.new.files (turn_files start one first.0) told) first.1
+      (subst (λ (t : FileTurn). IsFileCourse t.new b) (sym here) second.1) later in
+      λ i. here i ∷ rest i
+
+-- ---- whatever the files had counted before
+
+module _ (counts : Counts) where
+  abbrev file_with : FileTurn → FileTurn
+  file_with turn = record { path = turn.path; found = turn.found; new = with_counts counts turn.new }
+
+  abbrev pub files_with_counts : List FileTurn → List FileTurn
+  files_with_counts turns = each file_with turns
+
+  found_with : (path : List ℕ) (old new : FilesState) (found : Found) → found ≢ Unreadable → Finds path old found new → Finds path (files_with counts old) found (files_with counts new)
+  found_with path old new Unreadable readable finds = absurd (readable refl)
+  found_with path old new Missing readable finds = read_with counts path old new None finds
+  found_with path old new (Faulty line) readable finds = (finds.0, finds.1, read_with counts path old new (Some finds.0) finds.2, finds.3)
+  found_with path old new (Templates templates) readable finds = (finds.0, read_with counts path old new (Some finds.0) finds.1, finds.2)
+
+  turn_with : (start : SessionState) (turn : FileTurn) → IsFileTurn start turn → IsFileTurn (with_counts counts start) (file_with turn)
+  turn_with start turn is = record {
+    finds = found_with turn.path start.files turn.new.files turn.found is.readable is.finds;
+    readable = is.readable;
+    new_is = ap (with_counts counts) is.new_is ∙ (λ i. record start { store = (sym (loading_same start (files_with counts start.files) start.owner turn.found) i).store; files = files_with counts turn.new.files });
+  }
+
+  pub course_with : (start : SessionState) (turns : List FileTurn) → IsFileCourse start turns → IsFileCourse (with_counts counts start) (files_with_counts turns)
+  course_with start [] course = tt
+  course_with start (turn ∷ turns) course = (turn_with start turn course.0, course_with turn.new turns course.1)
+
+  pub paths_with : (turns : List FileTurn) → paths_of (files_with_counts turns) ≡ paths_of turns
+  paths_with [] = refl
+  paths_with (turn ∷ turns) = ap (λ (ps : List (List ℕ)). turn.path ∷ ps) (paths_with turns)
+
+  pub state_with : (start : SessionState) (turns : List FileTurn) → state_after (with_counts counts start) (files_with_counts turns) ≡ with_counts counts (state_after start turns)
+  state_with start [] = refl
+  state_with start (turn ∷ turns) = state_with turn.new turns
+
+  refusal_with : (state : SessionState) (path : List ℕ) (found : Found) → refusal_of (with_counts counts state) path found ≡ refusal_of state path found
+  refusal_with state path Unreadable = refl
+  refusal_with state path Missing = refl
+  refusal_with state path (Faulty line) = refl
+  refusal_with state path (Templates templates) = refl
+
+  pub told_with : (start : SessionState) (turns : List FileTurn) → lines_of (with_counts counts start) (files_with_counts turns) ≡ lines_of start turns
+  told_with start [] = refl
+  told_with start (turn ∷ turns) =
+      λ i. option_map_or (λ text. text ++ newline ∷ []) (refusal_with start turn.path turn.found i) [] ++ told_with turn.new turns i
+
+  refuses_with : (start : SessionState) (turns : List FileTurn) → refuses (with_counts counts start) (files_with_counts turns) ≡ refuses start turns
+  refuses_with start [] = refl
+  refuses_with start (turn ∷ turns) = λ i. is_some (refusal_with start turn.path turn.found i) || refuses_with turn.new turns i
+
+  pub status_with : (start : SessionState) (turns : List FileTurn) → load_status (with_counts counts start) (files_with_counts turns) ≡ load_status start turns
+  status_with start turns = λ i. if refuses_with start turns i then 1 else 0

@@ -1,0 +1,12 @@
+pub mod CommunicateLaw
+pub mod CountLemmas
+pub mod EndLemmas
+pub mod FileCourses
+pub mod LineFiles
+pub mod LoadLaw
+pub mod Recount
+pub mod RunLaw
+pub mod SameAnswers
+pub mod SameRuns
+pub mod StartLaws
+pub mod UsedLemmas

@@ -1,0 +1,97 @@
+-- What a line leaves of the files, where no failure of theirs is counted.
+use Rattle.std.proofs.Common.{◌≡◌, ℕ, Bool, true, List, [], ◌∷◌, Option, None, Some, refl, ap, arith}
+use Rattle.std.specs.Prelude.{◌-◌, ◌^◌, ◌<◌, ◌≤◌}
+use Rattle.dc_outside.specs.Steps.{after_look}
+use Rattle.dc_outside.specs.declared.files.FilesOp.TheVariants.{Read}
+use Rattle.dc_words.specs.declared.stream.Line.{Line}
+use Rattle.dc_words.specs.declared.stream.Line.TheVariants.{Whole, TooLong}
+use Rattle.dc_proto.specs.Commands.{heard}
+use Rattle.dc_proto.specs.declared.command.Heard.{Heard}
+use Rattle.dc_proto.specs.declared.command.Heard.TheVariants.{Nothing, Known, Refused}
+use Rattle.dc_serve.specs.Course.{Turn, state_after, IsCourse}
+use Rattle.dc_session.specs.Machine.{Heeds, Steps, StepsHeard, Looks, file_of}
+use Rattle.dc_session.specs.SessionState.{FilesState, SessionState}
+use Rattle.dc_session.specs.TemplateFiles.{Finds, HasRead}
+use Rattle.dc_session.specs.declared.stepped.Stepped.{Stepped}
+use Rattle.dc_session.specs.declared.template_files.Found.{Found}
+use Rattle.dc_session.specs.declared.template_files.Found.TheVariants.{Unreadable, Missing, Faulty, Templates}
+use Rattle.dc_theorem.proofs.CountLemmas.{no_rise, still}
+
+-- the files after a read that was answered
+abbrev pub files_read : List ℕ → FilesState → FilesState
+files_read path old = record { told = after_look old.told Read path true; counts = old.counts }
+
+pub read_so : (path : List ℕ) (old new : FilesState) (text : Option (List ℕ)) → HasRead path old new text → new ≡ files_read path old
+read_so path old new text read = λ i. record { told = read.told_is i; counts = read.counts i }
+
+-- ---- a file is looked for
+
+abbrev looked_for : Option (List ℕ) → FilesState → FilesState
+looked_for None old = old
+looked_for (Some path) old = files_read path old
+
+module _ (old new : FilesState) where
+  finds_later : (path : List ℕ) (found : Found) → Finds path old found new → old.counts.faults ≤ new.counts.faults
+  finds_later path Unreadable finds = finds.1.faults.later
+  finds_later path Missing finds = still old.counts new.counts finds.counts
+  finds_later path (Faulty line) finds = still old.counts new.counts finds.2.counts
+  finds_later path (Templates templates) finds = still old.counts new.counts finds.1.counts
+
+  looks_later : (path : Option (List ℕ)) (found : Found) → Looks path old found new → old.counts.faults ≤ new.counts.faults
+  looks_later None found looks = still old.counts new.counts (ap (λ (f : FilesState). f.counts) looks.1)
+  looks_later (Some path) found looks = finds_later path found looks
+
+  module _ (n : ℕ) (room : n < 2 ^ 64 - 1) (low : n ≤ old.counts.faults) (high : new.counts.faults ≤ n) where
+    finds_so : (path : List ℕ) (found : Found) → Finds path old found new → new ≡ files_read path old
+    finds_so path Unreadable finds = absurd (no_rise n old.counts new.counts room low high finds.1)
+    finds_so path Missing finds = read_so path old new None finds
+    finds_so path (Faulty line) finds = read_so path old new (Some finds.0) finds.2
+    finds_so path (Templates templates) finds = read_so path old new (Some finds.0) finds.1
+
+    looks_so : (path : Option (List ℕ)) (found : Found) → Looks path old found new → new ≡ looked_for path old
+    looks_so None found looks = looks.1
+    looks_so (Some path) found looks = finds_so path found looks
+
+-- ---- a line
+
+abbrev heard_files : Heard → FilesState → FilesState
+heard_files Nothing old = old
+heard_files (Known command) old = looked_for (file_of command) old
+heard_files (Refused reply) old = old
+
+-- the files that a line leaves
+abbrev pub line_files : Line → Bool → FilesState → FilesState
+line_files TooLong escape old = old
+line_files (Whole line) escape old = heard_files (heard escape line) old
+
+module _ (old new : SessionState) (did : Stepped) where
+  same_later : new ≡ old → old.files.counts.faults ≤ new.files.counts.faults
+  same_later same = still old.files.counts new.files.counts (ap (λ (s : SessionState). s.files.counts) same)
+
+  heard_later : (said : Heard) → StepsHeard said old did new → old.files.counts.faults ≤ new.files.counts.faults
+  heard_later Nothing steps = same_later steps.1
+  heard_later (Known command) steps = looks_later old.files new.files (file_of command) steps.given.found steps.gives.looks
+  heard_later (Refused reply) steps = same_later steps.1
+
+  pub steps_later : (line : Line) → Steps old line did new → old.files.counts.faults ≤ new.files.counts.faults
+  steps_later TooLong steps = same_later steps.1
+  steps_later (Whole line) steps = heard_later (heard old.asking.escape line) steps
+
+  module _ (n : ℕ) (room : n < 2 ^ 64 - 1) (low : n ≤ old.files.counts.faults) (high : new.files.counts.faults ≤ n) where
+    heard_so : (said : Heard) → StepsHeard said old did new → new.files ≡ heard_files said old.files
+    heard_so Nothing steps = ap (λ (s : SessionState). s.files) steps.1
+    heard_so (Known command) steps = looks_so old.files new.files n room low high (file_of command) steps.given.found steps.gives.looks
+    heard_so (Refused reply) steps = ap (λ (s : SessionState). s.files) steps.1
+
+    pub steps_so : (line : Line) → Steps old line did new → new.files ≡ line_files line old.asking.escape old.files
+    steps_so TooLong steps = ap (λ (s : SessionState). s.files) steps.1
+    steps_so (Whole line) steps = heard_so (heard old.asking.escape line) steps
+
+-- ---- lines
+
+pub course_later : (start : SessionState) (turns : List (Turn SessionState)) → IsCourse Heeds start turns → start.files.counts.faults ≤ (state_after start turns).files.counts.faults
+course_later start [] course = still start.files.counts start.files.counts refl
+course_later start (turn ∷ turns) course =
+    let here : start.files.counts.faults ≤ turn.new.files.counts.faults = steps_later start turn.new course.0.stepped turn.line course.0.steps in
+    let rest : turn.new.files.counts.faults ≤ (state_after turn.new turns).files.counts.faults = course_later turn.new turns course.2 in
+    omega arith

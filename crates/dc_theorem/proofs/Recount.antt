@@ -1,0 +1,159 @@
+-- A session goes on in the same way whatever its files had counted before it, where no failure of theirs is counted in it.
+use Rattle.std.proofs.Common.{◌≡◌, ℕ, Bool, List, [], ◌∷◌, ◌++◌, Option, None, Some, inl, inr, refl, ap, sym, subst, ◌∙◌, arith}
+use Rattle.std.specs.Prelude.{◌-◌, ◌^◌, ◌<◌, ◌≤◌, ◌||◌, Ok, map as each}
+use Rattle.dc_outside.specs.Told.{Counts}
+use Rattle.dc_outside.specs.declared.link.Piece.{Piece}
+use Rattle.dc_words.specs.declared.stream.Line.{Line}
+use Rattle.dc_words.specs.declared.stream.Line.TheVariants.{Whole, TooLong}
+use Rattle.dc_proto.specs.Commands.{heard}
+use Rattle.dc_proto.specs.declared.command.Command.{Command}
+use Rattle.dc_proto.specs.declared.command.Heard.{Heard}
+use Rattle.dc_proto.specs.declared.command.Heard.TheVariants.{Nothing, Known, Refused}
+use Rattle.dc_serve.specs.Course.{Turn, lines_of, state_after, is_stop, stops, replies, add_reply, last_code_from, code_after, IsCourse}
+use Rattle.dc_serve.specs.Run.{HasRun, AreServed}
+use Rattle.dc_serve.specs.Step.{IsCaughtUp}
+use Rattle.dc_serve.specs.declared.heeds.Heeded.{Heeded}
+use Rattle.dc_serve.specs.declared.outcome.LinkEnd.TheVariants.{Done}
+use Rattle.dc_session.specs.Answers.{answer}
+use Rattle.dc_session.specs.Displays.{Display, Shows}
+use Rattle.dc_session.specs.Machine.{Heeds, Breaks, Steps, StepsHeard, HasDone, Looks, file_of}
+use Rattle.dc_session.specs.SessionState.{FilesState, SessionState}
+use Rattle.dc_session.specs.TemplateFiles.{Finds, HasRead}
+use Rattle.dc_session.specs.declared.stepped.Stepped.{Stepped}
+use Rattle.dc_session.specs.declared.template_files.Found.{Found}
+use Rattle.dc_session.specs.declared.template_files.Found.TheVariants.{Unreadable, Missing, Faulty, Templates}
+use Rattle.dc_theorem.proofs.CountLemmas.{no_rise}
+use Rattle.dc_theorem.proofs.LineFiles.{steps_later, course_later}
+use Rattle.dc_theorem.proofs.SameAnswers.{same_answer, same_display}
+
+-- the files, with these counts
+abbrev pub files_with : Counts → FilesState → FilesState
+files_with counts files = record { told = files.told; counts = counts }
+
+-- the session, whose files have these counts
+abbrev pub with_counts : Counts → SessionState → SessionState
+with_counts counts state = record state { files = files_with counts state.files }
+
+abbrev turn_with : Counts → Turn SessionState → Turn SessionState
+turn_with counts turn = record { line = turn.line; did = turn.did; new = with_counts counts turn.new }
+
+abbrev turns_with : Counts → List (Turn SessionState) → List (Turn SessionState)
+turns_with counts turns = each (turn_with counts) turns
+
+pub read_with : (counts : Counts) (path : List ℕ) (old new : FilesState) (text : Option (List ℕ)) → HasRead path old new text → HasRead path (files_with counts old) (files_with counts new) text
+read_with counts path old new text read = record { told_is = read.told_is; counts = refl; found_is = read.found_is }
+
+module _ (counts : Counts) (n : ℕ) (room : n < 2 ^ 64 - 1) where
+  -- ---- one line
+
+  module _ (old new : SessionState) (low : n ≤ old.files.counts.faults) (high : new.files.counts.faults ≤ n) where
+    finds_with : (path : List ℕ) (found : Found) → Finds path old.files found new.files → Finds path (files_with counts old.files) found (files_with counts new.files)
+    finds_with path Unreadable finds = absurd (no_rise n old.files.counts new.files.counts room low high finds.1)
+    finds_with path Missing finds = read_with counts path old.files new.files None finds
+    finds_with path (Faulty line) finds = (finds.0, finds.1, read_with counts path old.files new.files (Some finds.0) finds.2, finds.3)
+    finds_with path (Templates templates) finds = (finds.0, read_with counts path old.files new.files (Some finds.0) finds.1, finds.2)
+
+    looks_with : (path : Option (List ℕ)) (found : Found) → Looks path old.files found new.files → Looks path (files_with counts old.files) found (files_with counts new.files)
+    looks_with None found looks = (looks.0, ap (files_with counts) looks.1)
+    looks_with (Some path) found looks = finds_with path found looks
+
+    done_with : (command : Command) (did : Stepped) → HasDone command old did new → HasDone command (with_counts counts old) did (with_counts counts new)
+    done_with command did done =
+        let same : answer (with_counts counts old) command done.given ≡ answer old command done.given = same_answer old (files_with counts old.files) command done.given in
+        record {
+          given = done.given;
+          gives = record {
+            looks = looks_with (file_of command) done.given.found done.gives.looks;
+            shows = subst (λ (d : Display). Shows old.asking d old.terminal (Ok done.given.asked) new.terminal) (sym (same_display old (files_with counts old.files) command)) done.gives.shows;
+          };
+          stepped_is = done.stepped_is ∙ sym (ap (λ o. o.stepped) same);
+          new_is = ap (with_counts counts) done.new_is ∙ (λ i. record old { store = (sym same i).store; files = files_with counts new.files; terminal = new.terminal; asking = (sym same i).asking });
+        }
+
+    heard_with : (said : Heard) (did : Stepped) → StepsHeard said old did new → StepsHeard said (with_counts counts old) did (with_counts counts new)
+    heard_with Nothing did steps = (steps.0, ap (with_counts counts) steps.1)
+    heard_with (Known command) did steps = done_with command did steps
+    heard_with (Refused reply) did steps = (steps.0, ap (with_counts counts) steps.1)
+
+    steps_with : (line : Line) (did : Stepped) → Steps old line did new → Steps (with_counts counts old) line did (with_counts counts new)
+    steps_with TooLong did steps = (steps.0, ap (with_counts counts) steps.1)
+    steps_with (Whole line) did steps = heard_with (heard old.asking.escape line) did steps
+
+    heeds_with : (line : Line) (did : Heeded) → Heeds old line did new → Heeds (with_counts counts old) line did (with_counts counts new)
+    heeds_with line did heeds = record { stepped = heeds.stepped; steps = steps_with line heeds.stepped heeds.steps; did_is = heeds.did_is }
+
+  -- ---- turns
+
+  course_with : (start : SessionState) (turns : List (Turn SessionState)) → n ≤ start.files.counts.faults → (state_after start turns).files.counts.faults ≤ n → IsCourse Heeds start turns
+      → IsCourse Heeds (with_counts counts start) (turns_with counts turns)
+  course_with start [] low high course = tt
+  course_with start (turn ∷ turns) low high course =
+      let here : start.files.counts.faults ≤ turn.new.files.counts.faults = steps_later start turn.new course.0.stepped turn.line course.0.steps in
+      let rest : turn.new.files.counts.faults ≤ (state_after turn.new turns).files.counts.faults = course_later turn.new turns course.2 in (
+        heeds_with start turn.new low (omega arith) turn.line turn.did course.0,
+        (λ stop. ap (turns_with counts) (course.1 stop)),
+        course_with turn.new turns (omega arith) high course.2,
+      )
+
+  turns_append : (a b : List (Turn SessionState)) → turns_with counts (a ++ b) ≡ turns_with counts a ++ turns_with counts b
+  turns_append [] b = refl
+  turns_append (turn ∷ a) b = ap (λ (ts : List (Turn SessionState)). turn_with counts turn ∷ ts) (turns_append a b)
+
+  lines_with : (turns : List (Turn SessionState)) → lines_of (turns_with counts turns) ≡ lines_of turns
+  lines_with [] = refl
+  lines_with (turn ∷ turns) = ap (λ (ls : List Line). turn.line ∷ ls) (lines_with turns)
+
+  stops_with : (turns : List (Turn SessionState)) → stops (turns_with counts turns) ≡ stops turns
+  stops_with [] = refl
+  stops_with (turn ∷ turns) = ap (λ (b : Bool). is_stop turn.did || b) (stops_with turns)
+
+  replies_with : (turns : List (Turn SessionState)) → replies (turns_with counts turns) ≡ replies turns
+  replies_with [] = refl
+  replies_with (turn ∷ turns) = ap (add_reply turn.did) (replies_with turns)
+
+  code_with : (code : ℕ) (turns : List (Turn SessionState)) → last_code_from code (turns_with counts turns) ≡ last_code_from code turns
+  code_with code [] = refl
+  code_with code (turn ∷ turns) = code_with (code_after code turn.did) turns
+
+  state_with : (start : SessionState) (turns : List (Turn SessionState)) → state_after (with_counts counts start) (turns_with counts turns) ≡ with_counts counts (state_after start turns)
+  state_with start [] = refl
+  state_with start (turn ∷ turns) = state_with turn.new turns
+
+  caught_with : (turns : List (Turn SessionState)) (talk : List Piece) → IsCaughtUp turns talk → IsCaughtUp (turns_with counts turns) talk
+  caught_with turns talk caught = record {
+    gone = turns_with counts caught.gone;
+    later = turns_with counts caught.later;
+    turns_are = ap (turns_with counts) caught.turns_are ∙ turns_append caught.gone caught.later;
+    lines_are = lines_with caught.gone ∙ caught.lines_are;
+    all_sent = caught.all_sent ∙ sym (replies_with caught.gone);
+    none_stops = stops_with caught.gone ∙ caught.none_stops;
+  }
+
+  -- ---- a run
+
+  pub run_with : (talk new_talk : Option (List Piece)) (input left : Option (List ℕ)) (start new : SessionState) (code : ℕ) → n ≤ start.files.counts.faults → new.files.counts.faults ≤ n
+      → HasRun Heeds Breaks talk new_talk input left start Done new code → HasRun Heeds Breaks talk new_talk input left (with_counts counts start) Done (with_counts counts new) code
+  run_with talk new_talk input left start new code low high run =
+      let are_said = run.answered.are_said in
+      record {
+        pieces = run.pieces;
+        told_is = run.told_is;
+        took = run.took;
+        turns = turns_with counts run.turns;
+        rest = run.rest;
+        course = course_with start run.turns low (subst (λ (s : SessionState). s.files.counts.faults ≤ n) are_said.state_is high) run.course;
+        served = subst (λ (ls : List Line). AreServed run.pieces input (ls ++ run.rest)) (sym (lines_with run.turns)) run.served;
+        in_step = λ before piece later is read. caught_with run.turns before (run.in_step before piece later is read);
+        calls = run.calls;
+        answered = record {
+          are_said = record {
+            pieces_are = are_said.pieces_are ∙ sym (replies_with run.turns);
+            state_is = ap (with_counts counts) are_said.state_is ∙ sym (state_with start run.turns);
+            code_is = are_said.code_is ∙ sym (code_with 0 run.turns);
+          };
+          read = elim run.answered.read [
+            | inl stop ↦ inl (stops_with run.turns ∙ stop)
+            | inr read ↦ inr (lines_with run.turns ∙ read.0, read.1)
+          ];
+        };
+      }

@@ -1,0 +1,137 @@
+-- What comes in determines a run of `run`.
+use Rattle.std.proofs.Common.{◌≡◌, ℕ, false, true, List, [], Option, Some, inl, inr, refl, ap, sym, subst, ◌∙◌, arith}
+use Rattle.std.specs.Prelude.{◌≤◌}
+use Rattle.dc_frontend.specs.declared.frontend.Frontend.{Frontend}
+use Rattle.dc_proto.specs.declared.priority.Priority.{Priority}
+use Rattle.dc_serve.specs.Run.{HasRun}
+use Rattle.dc_serve.specs.declared.outcome.LinkEnd.TheVariants as link
+use Rattle.dc_session.specs.Alike.{AreAlike}
+use Rattle.dc_session.specs.Asking.{finished}
+use Rattle.dc_session.specs.Machine.{Heeds, Breaks}
+use Rattle.dc_session.specs.SessionState.{FilesState, LinkState, SessionState, nothing_typed}
+use Rattle.dc_run.specs.Headline.{HasUsed}
+use Rattle.dc_run.specs.Running.{IsStarted}
+use Rattle.dc_run.specs.Starting.{begun}
+use Rattle.dc_run.specs.World.{World}
+use Rattle.dc_run.specs.declared.outcome.Outcome.{Outcome}
+use Rattle.dc_run.specs.declared.settings.Settings.{Settings}
+use Rattle.dc_usage.specs.Tools.{Names}
+use Rattle.dc_usage.specs.declared.tool.Tool.TheVariants.{Run}
+use Rattle.dc_theorem.specs.Runs.{IsClean, AreTypedAlike, RunAlike}
+use Rattle.dc_theorem.proofs.EndLemmas.{was_used, unstarted_other, WasServed, was_served}
+use Rattle.dc_outside.specs.Disk.{Disk}
+use Rattle.dc_outside.specs.declared.files.FilesCall.{FilesCall}
+use Rattle.dc_theorem.proofs.Recount.{with_counts, run_with}
+use Rattle.dc_theorem.proofs.StartLaws.{StartAlike}
+use Rattle.dc_theorem.proofs.SameRuns.{run_later, run_alike}
+use Rattle.dc_theorem.proofs.UsedLemmas.{wait_is, tool_done, left_sound, starts_low, starts_told, same_start, leave_alike}
+
+module _ (words : List (List ℕ)) (owner : List ℕ) (frontend : Option Frontend) (priority : Option Priority) (command : List (List ℕ)) (settings : Settings) (disk : Disk) (calls : List FilesCall) where
+  -- ---- one run
+
+  module _ (old new : World) (outcome : Outcome) (input : List ℕ) (clean : IsClean words settings disk calls old new outcome) (has : HasUsed (Run owner frontend priority command) settings old new outcome) (input_is : old.links.child.link.input ≡ Some input) where
+    abbrev start : SessionState
+    start = begun (Run owner frontend priority command) has.mid has.roots settings old.links.io
+
+    -- its program was started
+    started : IsStarted command start old.links has.links has.answer has.layers has.files
+    started = elim has.uses.0 [
+      | inl none ↦ absurd (unstarted_other none.error (sym none.ended_is ∙ tool_done words (Run owner frontend priority command) settings disk calls old new outcome clean has))
+      | inr is ↦ is
+    ]
+
+    served : WasServed start has.layers has.files has.links.io old.links.child.link has.links.child.link has.answer.last_code
+    served =
+        was_served start has.layers has.files has.links.io old.links.child.link has.links.child.link started.ended has.answer.last_code
+        (sym started.ended_is ∙ tool_done words (Run owner frontend priority command) settings disk calls old new outcome clean has) started.served
+
+    ran : HasRun Heeds Breaks old.links.child.link.talk has.links.child.link.talk (Some input) has.links.child.link.input start link.Done served.state has.answer.last_code
+    ran = subst (λ (k : Option (List ℕ)). HasRun Heeds Breaks old.links.child.link.talk has.links.child.link.talk k has.links.child.link.input start link.Done served.state has.answer.last_code) input_is served.ran
+
+    high : served.state.files.counts.faults ≤ old.stock.files.counts.faults
+    high = subst (λ (f : FilesState). f.counts.faults ≤ old.stock.files.counts.faults) served.files_are (left_sound words (Run owner frontend priority command) settings disk calls old new outcome clean has)
+
+    mid_high : has.mid.files.counts.faults ≤ old.stock.files.counts.faults
+    mid_high =
+        let later : has.mid.files.counts.faults ≤ served.state.files.counts.faults
+        = run_later input old.links.child.link.talk has.links.child.link.talk has.links.child.link.input start served.state has.answer.last_code ran in
+        let low : served.state.files.counts.faults ≤ old.stock.files.counts.faults = high in
+        omega arith
+
+    link_is : new.links.child.link.talk ≡ has.links.child.link.talk
+    link_is = ap (λ (l : LinkState). l.talk) (wait_is words (Run owner frontend priority command) settings disk calls old new outcome clean has).1
+
+  -- ---- both
+
+  module _ (one new other last : World) (outcome again : Outcome) (input : List ℕ)
+      (clean : IsClean words settings disk calls one new outcome) (other_clean : IsClean words settings disk calls other last again)
+      (has : HasUsed (Run owner frontend priority command) settings one new outcome) (other_has : HasUsed (Run owner frontend priority command) settings other last again)
+      (input_is : one.links.child.link.input ≡ Some input) (other_input_is : other.links.child.link.input ≡ Some input) (terminals : AreTypedAlike one.links.io other.links.io) where
+    starts : StartAlike has.mid other_has.mid has.roots other_has.roots
+    starts =
+        same_start words (Run owner frontend priority command) settings disk calls one new other last outcome again clean other_clean has other_has (mid_high one new outcome input clean has input_is)
+        (mid_high other last again input other_clean other_has other_input_is)
+
+    never : (bytes : List ℕ) → false ≡ true → bytes ≡ []
+    never bytes is = absurd (cc)
+
+    -- the sessions began alike
+    starts_alike : AreAlike (begun (Run owner frontend priority command) has.mid has.roots settings one.links.io) (begun (Run owner frontend priority command) has.mid has.roots settings other.links.io)
+    starts_alike = record {
+      rest = refl;
+      terminals = record {
+        first = record { ahead = nothing_typed; talk = terminals.talk; input = terminals.input };
+        second = record { ahead = nothing_typed; talk = terminals.other_talk; input = terminals.input };
+        one_is = record { ahead = refl; talk = terminals.one_talk_is; input = terminals.one_input_is; used_up = never terminals.input };
+        other_is = record { ahead = refl; talk = terminals.other_talk_is; input = terminals.other_input_is; used_up = never terminals.input };
+        said = terminals.said;
+        same = refl;
+      };
+    }
+
+    both_alike : RunAlike one new outcome other last again
+    both_alike =
+        let first = served one new outcome input clean has input_is in
+        let second = served other last again input other_clean other_has other_input_is in
+        let one_ran = ran one new outcome input clean has input_is in
+        let begins = begun (Run owner frontend priority command) has.mid has.roots settings other.links.io in
+        let other_begins = begun (Run owner frontend priority command) other_has.mid other_has.roots settings other.links.io in
+        let counts = has.mid.files.counts in
+        let recounted = run_with counts other.stock.files.counts.faults other_clean.none_failed.room other.links.child.link.talk other_has.links.child.link.talk (Some input) other_has.links.child.link.input other_begins second.state other_has.answer.last_code
+        (starts_low words (Run owner frontend priority command) settings disk calls other last again other_clean other_has) (high other last again input other_clean other_has other_input_is) (ran other last again input other_clean other_has other_input_is) in
+        let begin : with_counts counts other_begins ≡ begins
+        = λ i. begun (Run owner frontend priority command) (record { files = record { told = sym starts.told i; counts = counts }; used = sym starts.used i }) (sym starts.roots_are i) settings other.links.io in
+        let other_ran : HasRun Heeds Breaks other.links.child.link.talk other_has.links.child.link.talk (Some input) other_has.links.child.link.input begins link.Done (with_counts counts second.state) other_has.answer.last_code
+        = subst (λ (s : SessionState). HasRun Heeds Breaks other.links.child.link.talk other_has.links.child.link.talk (Some input) other_has.links.child.link.input s link.Done (with_counts counts second.state) other_has.answer.last_code) begin recounted in
+        let disk_told = starts_told words (Run owner frontend priority command) settings disk calls one new outcome clean has in
+        let same = run_alike one.stock.files.counts.faults clean.none_failed.room disk disk_told.0 input one.links.child.link.talk has.links.child.link.talk other.links.child.link.talk other_has.links.child.link.talk has.links.child.link.input other_has.links.child.link.input
+        (begun (Run owner frontend priority command) has.mid has.roots settings one.links.io) begins first.state (with_counts counts second.state) has.answer.last_code other_has.answer.last_code
+        disk_told.1 starts_alike (starts_low words (Run owner frontend priority command) settings disk calls one new outcome clean has)
+        (high one new outcome input clean has input_is) (mid_high one new outcome input clean has input_is) one_ran other_ran in
+        let layers : has.layers ≡ other_has.layers = first.layers_are ∙ ap (λ (s : SessionState). (finished s).layers) (sym same.states.rest) ∙ sym second.layers_are in
+        let left : has.files.told ≡ other_has.files.told
+        = ap (λ (f : FilesState). f.told) first.files_are ∙ ap (λ (s : SessionState). s.files.told) (sym same.states.rest) ∙ sym (ap (λ (f : FilesState). f.told) second.files_are) in
+        record {
+          leave = leave_alike words (Run owner frontend priority command) settings disk calls one new other last outcome again clean other_clean has other_has layers left (has.uses.1 ∙ sym other_has.uses.1) same.code_is;
+          replies = record {
+            pieces = one_ran.pieces;
+            other_pieces = other_ran.pieces;
+            one_is = link_is one new outcome input clean has input_is ∙ one_ran.told_is;
+            other_is = link_is other last again input other_clean other_has other_input_is ∙ other_ran.told_is;
+            same = same.replies;
+          };
+          shown = record {
+            talk = same.states.terminals.first.talk;
+            other_talk = same.states.terminals.second.talk;
+            one_is = ap (λ (l : LinkState). l.talk) (has.io_is ∙ first.terminal_is) ∙ same.states.terminals.one_is.talk;
+            other_is = ap (λ (l : LinkState). l.talk) (other_has.io_is ∙ second.terminal_is) ∙ same.states.terminals.other_is.talk;
+            said = same.states.terminals.said;
+          };
+        }
+
+  pub program_alike : (one new other last : World) (outcome again : Outcome) (input : List ℕ) → Names words (Run owner frontend priority command)
+      → IsClean words settings disk calls one new outcome → IsClean words settings disk calls other last again → one.links.child.link.input ≡ Some input → other.links.child.link.input ≡ Some input
+      → AreTypedAlike one.links.io other.links.io → RunAlike one new outcome other last again
+  program_alike one new other last outcome again input named clean other_clean input_is other_input_is terminals =
+      both_alike one new other last outcome again input clean other_clean
+      (was_used words settings disk calls one new outcome (Run owner frontend priority command) named clean) (was_used words settings disk calls other last again (Run owner frontend priority command) named other_clean) input_is other_input_is terminals

@@ -1,0 +1,155 @@
+-- What the files hold determines what a run begins from, where no call of them failed.
+use Rattle.std.proofs.Common.{◌≡◌, ℕ, Bool, List, [], ◌∷◌, ◌++◌, Option, Some, ap, sym, subst, ◌∙◌, arith}
+use Rattle.std.specs.Prelude.{◌-◌, ◌^◌, ◌<◌, ◌≤◌, true, false, map as each, Result, Ok, Err}
+use Rattle.dc_item.specs.Records.{Reads}
+use Rattle.dc_item.specs.Table.{table_of}
+use Rattle.dc_outside.specs.Disk.{Disk}
+use Rattle.dc_outside.specs.Steps.{after_look}
+use Rattle.dc_outside.specs.Told.{Told, Counts}
+use Rattle.dc_outside.specs.declared.files.FilesOp.TheVariants.{Read}
+use Rattle.dc_conf.specs.Configuration.{Configuration, configuration, plan_of}
+use Rattle.dc_conf.specs.Stanzas.{stanzas, fields_of}
+use Rattle.dc_conf.specs.declared.spec.LayerSpec.{LayerSpec}
+use Rattle.dc_layer.specs.State.{LayerState}
+use Rattle.dc_save.specs.Loading.{LoadsLayer, LoadsFiles, LoadCounts, IsHere, with_loaded, text_in}
+use Rattle.dc_save.specs.declared.loading.Loaded.{Loaded}
+use Rattle.dc_save.specs.declared.loading.Loaded.TheVariants.{Here, LeftOut}
+use Rattle.dc_save.specs.declared.loading.LoadError.{LoadError}
+use Rattle.dc_shelf.specs.Shelves.{all_set_up, GoesOn, LoadsAll}
+use Rattle.dc_session.specs.SessionState.{FilesState}
+use Rattle.dc_session.proofs.Determined.{IsTold}
+use Rattle.dc_run.specs.Starting.{IsConfiguration, databases_of, conf_read, HasStarted}
+use Rattle.dc_run.specs.World.{Stock}
+use Rattle.dc_run.specs.declared.starting.Roots.{Roots}
+use Rattle.dc_theorem.proofs.CountLemmas.{no_rise, still}
+
+no_error : (error : LoadError) → ◌≡◌ {A = Result (Unit {0}) LoadError} (Ok tt) (Err error) → ⊥
+no_error error is = cc
+
+-- ---- one load
+
+module _ (spec : LayerSpec) (layer made : LayerState) (files mid : Told) (before counts : Counts) (more last : Type 0) where
+  -- the counts don't fall, and the other loads follow
+  goes_later : (first : Result Loaded LoadError) → LoadCounts files mid first before counts → GoesOn first (Ok tt) more last → (before.faults ≤ counts.faults) × more
+  goes_later (Ok Here) counted goes = (still before counts counted, goes)
+  goes_later (Ok LeftOut) counted goes = (counted.faults.later, goes)
+  goes_later (Err error) counted goes = absurd (no_error error goes.0)
+
+  -- where no failure is counted, the layer is here
+  abbrev GoesHere : Type 0
+  GoesHere = IsHere files.disk spec layer made × (mid ≡ after_look files Read spec.place true) × (counts ≡ before)
+
+  goes_here : (n : ℕ) → n < 2 ^ 64 - 1 → n ≤ before.faults → counts.faults ≤ n → (first : Result Loaded LoadError)
+      → LoadsLayer files.disk spec layer made first → LoadsFiles files mid spec.place first → LoadCounts files mid first before counts → GoesOn first (Ok tt) more last → GoesHere
+  goes_here n room low high (Ok Here) loads looks counted goes = (loads, looks, counted)
+  goes_here n room low high (Ok LeftOut) loads looks counted goes = absurd (no_rise n before counts room low high counted)
+  goes_here n room low high (Err error) loads looks counted goes = absurd (no_error error goes.0)
+
+one_here : (disk : Disk) (spec : LayerSpec) (layer made other : LayerState) → IsHere (Some disk) spec layer made → IsHere (Some disk) spec layer other → made ≡ other
+one_here disk spec layer made other first second =
+    let found : first.found ≡ second.found = first.found_is ∙ sym second.found_is in
+    let reads : Reads (text_in second.found) first.records = subst (λ (f : Option (List ℕ)). Reads (text_in f) first.records) found first.reads in
+    let records : first.records ≡ second.records = reads.are ∙ sym second.reads.are in
+    first.layer_is ∙ (λ i. with_loaded spec layer (table_of (records i)) (found i)) ∙ sym second.layer_is
+
+-- ---- all loads
+
+loads_later : (specs : List LayerSpec) (old new : List LayerState) (files files_new : Told) (before now : Counts) → LoadsAll specs old new files files_new before now (Ok tt) → before.faults ≤ now.faults
+loads_later [] old new files files_new before now loads = still before now loads.3
+loads_later (spec ∷ specs) [] new files files_new before now loads = absurd loads
+loads_later (spec ∷ specs) (layer ∷ old) [] files files_new before now loads = absurd loads
+loads_later (spec ∷ specs) (layer ∷ old) (made ∷ new) files files_new before now loads =
+    let goes = goes_later spec layer made files loads.1 before loads.2 _ _ loads.0 loads.5 loads.6 in
+    let here : before.faults ≤ loads.2.faults = goes.0 in
+    let rest : loads.2.faults ≤ now.faults = loads_later specs old new loads.1 files_new loads.2 now goes.1 in
+    omega arith
+
+-- the files tell as before
+look_told : (disk : Disk) (spec : LayerSpec) (files mid : Told) (ok : Bool) → mid ≡ after_look files Read spec.place ok → IsTold disk files → IsTold disk mid
+look_told disk spec files mid ok is told = (told.0 ++ record { op = Read; path = spec.place; ok = ok } ∷ [], is ∙ ap (λ (t : Told). after_look t Read spec.place ok) told.1)
+
+load_told : (disk : Disk) (spec : LayerSpec) (files mid : Told) (more last : Type 0) (first : Result Loaded LoadError) → LoadsFiles files mid spec.place first → GoesOn first (Ok tt) more last → IsTold disk files → IsTold disk mid
+load_told disk spec files mid more last (Ok Here) looks goes told = look_told disk spec files mid true looks told
+load_told disk spec files mid more last (Ok LeftOut) looks goes told = look_told disk spec files mid false looks told
+load_told disk spec files mid more last (Err error) looks goes told = absurd (no_error error goes.0)
+
+loads_told : (disk : Disk) (specs : List LayerSpec) (old new : List LayerState) (files files_new : Told) (before now : Counts) → LoadsAll specs old new files files_new before now (Ok tt) → IsTold disk files → IsTold disk files_new
+loads_told disk [] old new files files_new before now loads told = subst (λ (t : Told). IsTold disk t) (sym loads.2) told
+loads_told disk (spec ∷ specs) [] new files files_new before now loads told = absurd loads
+loads_told disk (spec ∷ specs) (layer ∷ old) [] files files_new before now loads told = absurd loads
+loads_told disk (spec ∷ specs) (layer ∷ old) (made ∷ new) files files_new before now loads told =
+    let goes = goes_later spec layer made files loads.1 before loads.2 _ _ loads.0 loads.5 loads.6 in
+    loads_told disk specs old new loads.1 files_new loads.2 now goes.1 (load_told disk spec files loads.1 _ _ loads.0 loads.4 loads.6 told)
+
+-- what loads leave is determined
+module _ (disk : Disk) (n m : ℕ) (room : n < 2 ^ 64 - 1) (other_room : m < 2 ^ 64 - 1) where
+  loads_once : (specs : List LayerSpec) (old a b : List LayerState) (files a_files b_files : Told) (before a_now other_before b_now : Counts) → files.disk ≡ Some disk → n ≤ before.faults → a_now.faults ≤ n → m ≤ other_before.faults → b_now.faults ≤ m
+      → LoadsAll specs old a files a_files before a_now (Ok tt) → LoadsAll specs old b files b_files other_before b_now (Ok tt) → (a ≡ b) × (a_files ≡ b_files)
+  loads_once [] old a b files a_files b_files before a_now other_before b_now told low high other_low other_high first second = (first.1 ∙ sym second.1, first.2 ∙ sym second.2)
+  loads_once (spec ∷ specs) [] a b files a_files b_files before a_now other_before b_now told low high other_low other_high first second = absurd first
+  loads_once (spec ∷ specs) (layer ∷ old) [] b files a_files b_files before a_now other_before b_now told low high other_low other_high first second = absurd first
+  loads_once (spec ∷ specs) (layer ∷ old) (made ∷ a) [] files a_files b_files before a_now other_before b_now told low high other_low other_high first second = absurd second
+  loads_once (spec ∷ specs) (layer ∷ old) (made ∷ a) (other ∷ b) files a_files b_files before a_now other_before b_now told low high other_low other_high first second =
+      let one_goes = goes_later spec layer made files first.1 before first.2 _ _ first.0 first.5 first.6 in
+      let two_goes = goes_later spec layer other files second.1 other_before second.2 _ _ second.0 second.5 second.6 in
+      let one_later : before.faults ≤ first.2.faults = one_goes.0 in
+      let two_later : other_before.faults ≤ second.2.faults = two_goes.0 in
+      let one_rest : first.2.faults ≤ a_now.faults = loads_later specs old a first.1 a_files first.2 a_now one_goes.1 in
+      let two_rest : second.2.faults ≤ b_now.faults = loads_later specs old b second.1 b_files second.2 b_now two_goes.1 in
+      let one_is = goes_here spec layer made files first.1 before first.2 _ _ n room low (omega arith) first.0 first.3 first.4 first.5 first.6 in
+      let two_is = goes_here spec layer other files second.1 other_before second.2 _ _ m other_room other_low (omega arith) second.0 second.3 second.4 second.5 second.6 in
+      let then_told : Told = after_look files Read spec.place true in
+      let one_loads : LoadsAll specs old a then_told a_files first.2 a_now (Ok tt) = subst (λ (t : Told). LoadsAll specs old a t a_files first.2 a_now (Ok tt)) one_is.1 one_goes.1 in
+      let two_loads : LoadsAll specs old b then_told b_files second.2 b_now (Ok tt) = subst (λ (t : Told). LoadsAll specs old b t b_files second.2 b_now (Ok tt)) two_is.1 two_goes.1 in
+      let rest = loads_once specs old a b then_told a_files b_files first.2 a_now second.2 b_now told (omega arith) high (omega arith) other_high one_loads two_loads in
+      let here : made ≡ other
+      = one_here disk spec layer made other (subst (λ (d : Option Disk). IsHere d spec layer made) told one_is.0) (subst (λ (d : Option Disk). IsHere d spec layer other) told two_is.0) in
+      ((λ i. here i ∷ rest.0 i), rest.1)
+
+-- ---- the start
+
+one_conf : (disk : Disk) (path : List ℕ) (conf other : Configuration) → IsConfiguration (Some disk) path conf → IsConfiguration (Some disk) path other → conf ≡ other
+one_conf disk path conf other first second =
+    first.reads.1 ∙ ap (λ (t : List ℕ). configuration (each fields_of (stanzas t))) (first.text_is ∙ sym second.text_is) ∙ sym second.reads.1
+
+-- a run that has started counts no less than before
+pub started_later : (path : List ℕ) (files : FilesState) (mid : Stock) (roots : Roots) → HasStarted path files mid roots → files.counts.faults ≤ mid.files.counts.faults
+started_later path files mid roots started = loads_later (databases_of started.conf) (all_set_up (databases_of started.conf)) mid.used (conf_read files.told path) mid.files.told files.counts mid.files.counts started.loaded.loads
+
+-- and its files tell as before
+pub started_told : (disk : Disk) (path : List ℕ) (files : FilesState) (mid : Stock) (roots : Roots) → HasStarted path files mid roots → IsTold disk files.told → IsTold disk mid.files.told
+started_told disk path files mid roots started told =
+    loads_told disk (databases_of started.conf) (all_set_up (databases_of started.conf)) mid.used (conf_read files.told path) mid.files.told files.counts mid.files.counts started.loaded.loads
+    (told.0 ++ record { op = Read; path = path; ok = true } ∷ [], ap (λ (t : Told). conf_read t path) told.1)
+
+-- Two runs that began over files that tell the same, and counted no failure: they loaded the same layers, and take the same from the
+-- configuration.
+pub record StartAlike (mid last : Stock) (roots others : Roots) : Type 0 where
+  pub used : mid.used ≡ last.used
+  pub told : mid.files.told ≡ last.files.told
+  pub roots_are : roots ≡ others
+
+pub one_start : (disk : Disk) (path : List ℕ) (told : Told) (files other_files : FilesState) (mid last : Stock) (roots others : Roots) → told.disk ≡ Some disk → files.told ≡ told → other_files.told ≡ told
+    → files.counts.faults < 2 ^ 64 - 1 → other_files.counts.faults < 2 ^ 64 - 1 → mid.files.counts.faults ≤ files.counts.faults → last.files.counts.faults ≤ other_files.counts.faults
+    → HasStarted path files mid roots → HasStarted path other_files last others → StartAlike mid last roots others
+one_start disk path told files other_files mid last roots others disk_told files_told other_told room other_room high other_high first second =
+    let one_conf_is = subst (λ (d : Option Disk). IsConfiguration d path first.conf) (ap (λ (t : Told). t.disk) files_told ∙ disk_told) first.loaded.conf_is in
+    let other_conf_is = subst (λ (d : Option Disk). IsConfiguration d path second.conf) (ap (λ (t : Told). t.disk) other_told ∙ disk_told) second.loaded.conf_is in
+    let conf : first.conf ≡ second.conf = one_conf disk path first.conf second.conf one_conf_is other_conf_is in
+    let one_loads : LoadsAll (databases_of second.conf) (all_set_up (databases_of second.conf)) mid.used (conf_read told path) mid.files.told files.counts mid.files.counts (Ok tt)
+    = subst (λ (c : Configuration). LoadsAll (databases_of c) (all_set_up (databases_of c)) mid.used (conf_read told path) mid.files.told files.counts mid.files.counts (Ok tt)) conf
+    (subst (λ (t : Told). LoadsAll (databases_of first.conf) (all_set_up (databases_of first.conf)) mid.used (conf_read t path) mid.files.told files.counts mid.files.counts (Ok tt)) files_told first.loaded.loads) in
+    let other_loads : LoadsAll (databases_of second.conf) (all_set_up (databases_of second.conf)) last.used (conf_read told path) last.files.told other_files.counts last.files.counts (Ok tt)
+    = subst (λ (t : Told). LoadsAll (databases_of second.conf) (all_set_up (databases_of second.conf)) last.used (conf_read t path) last.files.told other_files.counts last.files.counts (Ok tt)) other_told second.loaded.loads in
+    let once = loads_once disk files.counts.faults other_files.counts.faults room other_room (databases_of second.conf) (all_set_up (databases_of second.conf)) mid.used last.used (conf_read told path) mid.files.told last.files.told
+    files.counts mid.files.counts other_files.counts last.files.counts disk_told (omega arith) high (omega arith) other_high one_loads other_loads in
+    record {
+      used = once.0;
+      told = once.1;
+      roots_are = λ i. record {
+        config = (first.config_is ∙ ap (λ (c : Configuration). plan_of c (databases_of c) c.config) conf ∙ sym second.config_is) i;
+        templates = (first.templates_is ∙ ap (λ (c : Configuration). plan_of c (databases_of c) c.templates) conf ∙ sym second.templates_is) i;
+        frontend = (first.frontend_is ∙ ap (λ (c : Configuration). c.frontend) conf ∙ sym second.frontend_is) i;
+        priority = (first.priority_is ∙ ap (λ (c : Configuration). c.priority) conf ∙ sym second.priority_is) i;
+      };
+    }

@@ -1,0 +1,77 @@
+-- What is known of a run that did all and at which no call of the files failed, and what two such runs leave.
+use Rattle.std.proofs.Common.{◌≡◌, ℕ, List, ◌++◌, Some, refl, ap, sym, subst, ◌∙◌, arith}
+use Rattle.std.specs.Prelude.{◌≤◌, map as each}
+use Rattle.dc_layer.specs.State.{LayerState, saved}
+use Rattle.dc_save.specs.Saving.{after_images}
+use Rattle.dc_outside.specs.Disk.{Disk}
+use Rattle.dc_outside.specs.Told.{Counts}
+use Rattle.dc_outside.specs.declared.files.FilesCall.{FilesCall}
+use Rattle.dc_session.proofs.Determined.{IsTold}
+use Rattle.dc_run.specs.EndLines.{end_line, HasSaidOn}
+use Rattle.dc_run.specs.Finishing.{images_of}
+use Rattle.dc_run.specs.Headline.{HasUsed}
+use Rattle.dc_run.specs.World.{World}
+use Rattle.dc_run.specs.declared.outcome.End.TheVariants as end
+use Rattle.dc_run.specs.declared.outcome.Outcome.{Outcome}
+use Rattle.dc_run.specs.declared.outcome.ToolEnd.TheVariants as tool
+use Rattle.dc_run.specs.declared.settings.Settings.{Settings}
+use Rattle.dc_usage.specs.declared.tool.Tool.{Tool}
+use Rattle.dc_theorem.specs.Runs.{IsClean, LeaveAlike}
+use Rattle.dc_theorem.proofs.EndLemmas.{HasSaved, waited, saved_so}
+use Rattle.dc_theorem.proofs.StartLaws.{StartAlike, started_later, started_told, one_start}
+
+module _ (words : List (List ℕ)) (used : Tool) (settings : Settings) (disk : Disk) (calls : List FilesCall) where
+  -- ---- one run
+
+  module _ (old new : World) (outcome : Outcome) (clean : IsClean words settings disk calls old new outcome) (has : HasUsed used settings old new outcome) where
+    pub wait_is : (has.how ≡ end.Done) × (new.links.child.link ≡ has.links.child.link)
+    wait_is = waited has.answer.is_started has.links.child new.links.child has.how outcome.end has.answer.status has.status clean.done has.awaits
+
+    save_is : (has.answer.ended ≡ tool.Done) × HasSaved has.layers new.stock.used has.files new.stock.files
+    save_is = saved_so has.layers new.stock.used has.files new.stock.files has.how wait_is.0 has.answer.ended has.finishes
+
+    pub tool_done : has.answer.ended ≡ tool.Done
+    tool_done = save_is.0
+
+    saves : HasSaved has.layers new.stock.used has.files new.stock.files
+    saves = save_is.1
+
+    -- the tool counted no failure of the files
+    pub left_sound : has.files.counts.faults ≤ old.stock.files.counts.faults
+    left_sound =
+        let at_save : new.stock.files.counts.faults ≡ has.files.counts.faults = ap (λ (c : Counts). c.faults) saves.counts in
+        let at_end : new.stock.files.counts.faults ≡ old.stock.files.counts.faults = clean.none_failed.same in
+        omega arith
+
+    pub starts_low : old.stock.files.counts.faults ≤ has.mid.files.counts.faults
+    starts_low = started_later settings.conf_path old.stock.files has.mid has.roots has.started
+
+    pub starts_told : IsTold disk has.mid.files.told
+    starts_told = started_told disk settings.conf_path old.stock.files has.mid has.roots has.started (calls, clean.files_are)
+
+  -- ---- both
+
+  module _ (one new other last : World) (outcome again : Outcome) (clean : IsClean words settings disk calls one new outcome) (other_clean : IsClean words settings disk calls other last again)
+      (has : HasUsed used settings one new outcome) (other_has : HasUsed used settings other last again) where
+    -- they began from the same
+    pub same_start : has.mid.files.counts.faults ≤ one.stock.files.counts.faults → other_has.mid.files.counts.faults ≤ other.stock.files.counts.faults → StartAlike has.mid other_has.mid has.roots other_has.roots
+    same_start high other_high =
+        one_start disk settings.conf_path (record { disk = Some disk; calls = Some calls }) one.stock.files other.stock.files has.mid other_has.mid has.roots other_has.roots refl clean.files_are other_clean.files_are
+        clean.none_failed.room other_clean.none_failed.room high other_high has.started other_has.started
+
+    -- where the tools left the same, the runs do
+    pub leave_alike : has.layers ≡ other_has.layers → has.files.told ≡ other_has.files.told → has.told ≡ other_has.told → has.answer.last_code ≡ other_has.answer.last_code → LeaveAlike one new outcome other last again
+    leave_alike layers left told code =
+        let first = saves one new outcome clean has in
+        let second = saves other last again other_clean other_has in
+        let text : other_has.told ++ end_line again.end ≡ has.told ++ end_line outcome.end = λ i. sym told i ++ end_line ((other_clean.done ∙ sym clean.done) i) in
+        record {
+          used = second.used_are ∙ ap (λ (ls : List LayerState). each saved ls) (sym layers) ∙ sym first.used_are;
+          files = second.files_are ∙ (λ i. after_images (sym left i) (images_of (sym layers i))) ∙ sym first.files_are;
+          err = record {
+            text = has.told ++ end_line outcome.end;
+            one_is = has.said;
+            other_is = subst (λ (t : List ℕ). HasSaidOn t other.err last.err) text other_has.said;
+          };
+          code = other_has.code_is ∙ sym code ∙ sym has.code_is;
+        }

@@ -1,0 +1,13 @@
+use Rattle.dc_theorem.proofs.CommunicateLaw.{communicate_alike}
+use Rattle.dc_theorem.proofs.LoadLaw.{load_alike}
+use Rattle.dc_theorem.proofs.RunLaw.{program_alike}
+use Rattle.dc_theorem.proofs.laws.what_comes_in_determines_the_run.Goals as goal
+
+pub returns-clause-communicate : goal.returns-clause-communicate
+returns-clause-communicate c words owner settings disk calls one new other last outcome again input = communicate_alike words owner settings disk calls one new other last outcome again input
+
+pub returns-clause-run : goal.returns-clause-run
+returns-clause-run c words owner frontend priority command settings disk calls one new other last outcome again input = program_alike words owner frontend priority command settings disk calls one new other last outcome again input
+
+pub returns-clause-loadtemplate : goal.returns-clause-loadtemplate
+returns-clause-loadtemplate c words owner paths settings disk calls one new other last outcome again = load_alike words owner paths settings disk calls one new other last outcome again
