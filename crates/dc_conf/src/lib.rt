@@ -21,6 +21,3 @@ pub use conf::{Conf, read_conf};
 pub use faults::{ConfError, ConfKind};
 pub use plans::{Base, Plan, ResolveError, Resolved};
 pub use spec::{LayerSort, LayerSpec, StackSpec};
-
-#[cfg(test)]
-mod tests;

@@ -10,6 +10,3 @@ pub use frontend::Frontend;
 pub use noninteractive::Noninteractive;
 pub use showing::is_shown;
 pub use shown::Shown;
-
-#[cfg(test)]
-mod tests;

@@ -1,5 +1,5 @@
 -- What an item keeps, when something is put into it, and owners in order.
-use Rattle.std.proofs.Common.{◌≡◌, ℕ, ◌+◌, ◌<◌, length, take, get_or, Bool, true, false, cond, List, [], ◌∷◌, ◌++◌, Some, None, Option, map as each, refl, sym, ap, ◌∙◌, subst}
+use Rattle.std.proofs.Common.{◌≡◌, ℕ, ◌+◌, ◌<◌, ◌≤◌, arith, length, take, get_or, Bool, true, false, cond, List, [], ◌∷◌, ◌++◌, Some, None, Option, map as each, refl, sym, ap, ◌∙◌, subst}
 use Rattle.std.specs.Prelude.{is_some, not, ◌&&◌, ◌||◌}
 use Rattle.std.specs.List.{filter, list_all, list_any}
 use Rattle.std.proofs.lemmas.List.{take_more}
@@ -287,6 +287,17 @@ set_turn p ts items i x key set new same h is copy good so_far all put =
       put ∙ (λ j. insert (so_far j) (copy j) tt) ∙ sym (set_of-push (take i ts) x) ∙ ap set_of (sym more),
       ap (list_all p) more ∙ list_all-push p (take i ts) x all (ap p (sym copy) ∙ good),
     )
+
+-- ---- a list of at most one
+
+pub keys-none : (ts : List (List ℕ)) → length ts < 1 → ts ≡ keys (set_of ts)
+keys-none [] h = sym (ap (λ es. each (λ (e : List ℕ × Unit {0}). e.0) es) (entries-in_order [] tt))
+keys-none (t ∷ ts) h = absurd (omega arith)
+
+pub keys-one : (ts : List (List ℕ)) → 1 ≤ length ts → length ts < 2 → ts ≡ keys (set_of ts)
+keys-one [] some few = absurd (omega arith)
+keys-one (t ∷ []) some few = sym (ap (λ es. each (λ (e : List ℕ × Unit {0}). e.0) es) (entries-in_order ((t, tt) ∷ []) tt))
+keys-one (t ∷ u ∷ ts) some few = absurd (omega arith)
 
 -- ---- owners by their names
 

@@ -26,7 +26,7 @@ pub record IsItem (parts : ItemParts) : Type 0 where
   pub owners : (owner : List ℕ) → map.contains_key parts.owners owner ≡ true → is_name owner ≡ true
 
 -- a set of texts and a map of texts as data
-abbrev set_code : Coded TextSet
+abbrev pub set_code : Coded TextSet
 set_code = map.code (coded_list coded_ℕ) coded_unit
 
 abbrev texts_code : Coded (Texts (List ℕ))

@@ -222,8 +222,8 @@ impl Item {
     }
 
     // Makes these the flags that are true.
-    pub(crate) fn put_flags(&mut self, flags: &List<FlagName>) -> Mem<()>
-        ensures ok { OnOk result (self.new ≡ record self.old { flags = set_of flags.now }) }
+    pub(crate) fn put_flags(&mut self, flags: List<FlagName>) -> Mem<()>
+        ensures ok { OnOk result (self.new ≡ record self.old { flags = set_of flags }) }
         ensures err { OnErr result (self.new ≡ self.old) }
     {
         self.flags = set_of_flags(self.alloc, flags)?;
@@ -231,8 +231,8 @@ impl Item {
     }
 
     // Makes these the owners.
-    pub(crate) fn put_owners(&mut self, owners: &List<Name>) -> Mem<()>
-        ensures ok { OnOk result (self.new ≡ record self.old { owners = set_of owners.now }) }
+    pub(crate) fn put_owners(&mut self, owners: List<Name>) -> Mem<()>
+        ensures ok { OnOk result (self.new ≡ record self.old { owners = set_of owners }) }
         ensures err { OnErr result (self.new ≡ self.old) }
     {
         self.owners = in_order(self.alloc, owners)?;
@@ -240,13 +240,14 @@ impl Item {
     }
 }
 
-fn set_of_flags(alloc: Global, flags: &List<FlagName>) -> Mem<SmallMap<()>>
-    ensures value { IfOk result (λ set. set ≡ set_of flags.now) }
-    ensures flags { IfOk result (λ set. list_all is_flag_name flags.now ≡ true) }
+fn set_of_flags(alloc: Global, flags: List<FlagName>) -> Mem<SmallMap<()>>
+    ensures value { IfOk result (λ set. set ≡ set_of flags) }
+    ensures flags { IfOk result (λ set. list_all is_flag_name flags ≡ true) }
 {
+    let mut left = flags;
     let mut set = SmallMap::new(alloc);
-    for flag in flags.as_slice() {
-        set.insert(flag.copy()?.into_text(), ())?;
+    while let Some(flag) = left.pop() {
+        set.insert(flag.into_text(), ())?;
     }
     Ok(set)
 }

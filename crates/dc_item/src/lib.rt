@@ -5,6 +5,7 @@ pub mod effect;
 pub mod entry;
 pub mod item;
 pub mod laws;
+mod names_read;
 pub mod op;
 mod owners;
 mod printing;
@@ -21,6 +22,3 @@ pub use op::{After, Op};
 pub use owners::in_order;
 pub use printing::{print_records, print_table};
 pub use records::{RecordError, read_records};
-
-#[cfg(test)]
-mod tests;

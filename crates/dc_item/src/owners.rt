@@ -13,8 +13,22 @@ use dc_text::{List, Mem, Name, TextMap};
 use std::alloc::Global;
 use std::cmp::Ordering;
 
-/// The names in byte order, each of them once.
-pub fn in_order(alloc: Global, names: &List<Name>) -> Mem<List<Name>>
+/// The names in byte order, each of them once. A list of at most one is handed back.
+pub fn in_order(alloc: Global, names: List<Name>) -> Mem<List<Name>>
+    ensures value { IfOk result (λ list. list ≡ map.keys (set_of names)) }
+    ensures names { IfOk result (λ list. list_all is_name list ≡ true) }
+{
+    match names.as_slice() {
+        [] => Ok(names),
+        [first] => {
+            let _name = first.bytes();
+            Ok(names)
+        }
+        _ => sorted(alloc, &names),
+    }
+}
+
+fn sorted(alloc: Global, names: &List<Name>) -> Mem<List<Name>>
     ensures value { IfOk result (λ list. list ≡ map.keys (set_of names.now)) }
     ensures names { IfOk result (λ list. list_all is_name list ≡ true) }
 {

@@ -3,8 +3,9 @@ ghost use Rattle.std.specs.Prelude.{◌≡◌, IfOk, OnOk, None, Some, if◌then
 
 use crate::entry::Entry;
 use crate::item::Item;
+use crate::names_read::NamesRead;
 use crate::record_line::RecordLine;
-use dc_text::{FieldKey, FlagName, List, Mem, Name, Settled, TextMap, VarKey};
+use dc_text::{FieldKey, FlagName, List, Mem, Name, Settled, VarKey};
 use std::alloc::Global;
 
 /// A record of which some lines were read.
@@ -43,8 +44,8 @@ impl Open {
     {
         match part {
             RecordLine::Field(key, value) => self.add_field(key, value),
-            RecordLine::Owners(names) => self.add_owners(&names),
-            RecordLine::Flags(flags) => self.add_flags(&flags),
+            RecordLine::Owners(names) => self.add_owners(names),
+            RecordLine::Flags(flags) => self.add_flags(flags),
             RecordLine::Variables => Ok(self.begin_variables()),
             RecordLine::Variable(key, value) => self.add_variable(key, value),
             _ => Ok(false),
@@ -62,8 +63,8 @@ impl Open {
         Ok(true)
     }
 
-    fn add_owners(&mut self, names: &List<Name>) -> Mem<bool>
-        ensures { IfOk result (λ stands. added self.old (RecordLine.Owners names.now) ≡ (if stands then Some self.new else None)) }
+    fn add_owners(&mut self, names: List<Name>) -> Mem<bool>
+        ensures { IfOk result (λ stands. added self.old (RecordLine.Owners names) ≡ (if stands then Some self.new else None)) }
     {
         if self.has_owners {
             return Ok(false);
@@ -74,8 +75,8 @@ impl Open {
         Ok(true)
     }
 
-    fn add_flags(&mut self, flags: &List<FlagName>) -> Mem<bool>
-        ensures { IfOk result (λ stands. added self.old (RecordLine.Flags flags.now) ≡ (if stands then Some self.new else None)) }
+    fn add_flags(&mut self, flags: List<FlagName>) -> Mem<bool>
+        ensures { IfOk result (λ stands. added self.old (RecordLine.Flags flags) ≡ (if stands then Some self.new else None)) }
     {
         if self.has_flags {
             return Ok(false);
@@ -113,7 +114,7 @@ impl Open {
 pub struct Reader {
     pub done: List<Entry>,
     /// The names of the records, that of the open one among them.
-    pub names: TextMap<()>,
+    pub names: NamesRead,
     pub current: Option<Open>,
 }
 
@@ -126,7 +127,7 @@ impl Reader {
     {
         Reader {
             done: List::new(alloc),
-            names: TextMap::new(alloc),
+            names: NamesRead::new(alloc),
             current: None,
         }
     }
@@ -141,10 +142,9 @@ impl Reader {
                 Ok(true)
             }
             RecordLine::Name(name) => {
-                if self.current.is_some() || self.names.contains(name.bytes()) {
+                if self.current.is_some() || !self.names.add(&name)? {
                     return Ok(false);
                 }
-                self.names.insert(name.copy()?.into_text(), ())?;
                 self.current = Some(Open::new(alloc, name, line));
                 Ok(true)
             }

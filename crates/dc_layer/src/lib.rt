@@ -19,8 +19,3 @@ pub use layer::{Layer, LayerError, Taken};
 pub use pattern::{Pattern, PatternError};
 pub use rules::LayerRules;
 pub use tired::TiredLayer;
-
-#[cfg(test)]
-mod layer_tests;
-#[cfg(test)]
-mod pattern_tests;

@@ -18,6 +18,3 @@ pub use link::{Link, LinkError, Piece};
 pub use memory_child::MemChild;
 pub use memory_files::MemFiles;
 pub use memory_link::MemLink;
-
-#[cfg(test)]
-mod tests;

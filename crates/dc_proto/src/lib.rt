@@ -12,6 +12,3 @@ pub mod session_arguments;
 pub use command::{Command, Heard, read_command};
 pub use priority::Priority;
 pub use reply::{Reply, print_reply};
-
-#[cfg(test)]
-mod tests;

@@ -13,7 +13,7 @@ pub fn grouped(alloc: Global, pairs: &[(Name, Name)]) -> Mem<List<(Name, List<Na
 {
     let firsts = firsts(alloc, pairs)?;
     let held = by_first(alloc, pairs)?;
-    grouped_by(alloc, in_order(alloc, &firsts)?.as_slice(), &held)
+    grouped_by(alloc, in_order(alloc, firsts)?.as_slice(), &held)
 }
 
 // Each of the names with those that are held at it.

@@ -24,10 +24,3 @@ pub use fields::{field, localised};
 pub use questions::Questions;
 pub use setting::Setting;
 pub use values::{kind, value};
-
-#[cfg(test)]
-mod ownership_tests;
-#[cfg(test)]
-mod store_tests;
-#[cfg(test)]
-mod tests;

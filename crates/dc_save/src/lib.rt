@@ -7,6 +7,3 @@ pub mod saving;
 
 pub use loading::{LoadError, Loaded, load};
 pub use saving::{SaveError, save_images};
-
-#[cfg(test)]
-mod tests;

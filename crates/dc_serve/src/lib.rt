@@ -9,6 +9,3 @@ pub mod serving;
 pub use heeds::{Heeded, Heeds};
 pub use outcome::{Conversation, LinkEnd};
 pub use serving::serve_link;
-
-#[cfg(test)]
-mod tests;

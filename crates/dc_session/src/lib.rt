@@ -26,6 +26,3 @@ pub use stepped::{StepError, Stepped};
 pub use template_files::{Found, find_templates};
 pub use template_loading::FileEnd;
 pub use terminal::NoTerminal;
-
-#[cfg(test)]
-mod tests;

@@ -15,6 +15,3 @@ mod writing;
 pub use bases::places;
 pub use rows::Write;
 pub use store::{Store, StoreError};
-
-#[cfg(test)]
-mod tests;

@@ -166,7 +166,7 @@ impl Store {
         ensures { IfOk result (λ list. list ≡ names (each state self.now.layers.items) plan.now) }
     {
         let names = names_in(self.alloc, self.layers.as_slice(), places(&plan.base))?;
-        in_order(self.alloc, &names)
+        in_order(self.alloc, names)
     }
 
     /// Those of the names of which the item of the topmost layer has the owner. Only names that some layer has for the owner
@@ -178,7 +178,7 @@ impl Store {
         let layers = self.layers.as_slice();
         let places = places(&plan.base);
         let listed = owned_names_in(self.alloc, layers, places, owner)?;
-        let names = in_order(self.alloc, &listed)?;
+        let names = in_order(self.alloc, listed)?;
         owned_in(self.alloc, layers, places, &names, owner)
     }
 

@@ -21,6 +21,3 @@ pub use languages::keys_tried;
 pub use printing::print_templates;
 pub use reading::read_templates;
 pub use template::Template;
-
-#[cfg(test)]
-mod tests;

@@ -20,6 +20,3 @@ pub use names::{Name, NameRefused};
 pub use settling::{Settled, settle, show_newlines};
 pub use small_maps::SmallMap;
 pub use texts::Text;
-
-#[cfg(test)]
-mod tests;

@@ -10,6 +10,3 @@ pub mod tool;
 
 pub use reading::read_tool;
 pub use tool::{Tool, ToolError};
-
-#[cfg(test)]
-mod tests;

@@ -11,6 +11,3 @@ pub use choices::{join_choices, split_choices};
 pub use escaping::{escape, unescape_words};
 pub use stream::{Line, Lines, MAX_LINE, MAX_PIECE};
 pub use wording::plain_words;
-
-#[cfg(test)]
-mod tests;

@@ -1,13 +1,9 @@
-use Rattle.std.proofs.Common.{ap, ◌∙◌, ◌++◌, map as each}
-use Rattle.std.specs.List.{list_all}
-use Rattle.dc_text.specs.Names.{is_name}
-use Rattle.dc_item.proofs.ItemLemmas.{second-selves, second-seen}
+use Rattle.std.proofs.Common.{ap, ◌∙◌, sym}
+use Rattle.dc_item.proofs.ItemLemmas.{keys-none, keys-one}
 use Rattle.dc_item.proofs.owners.in_order.Goals as goal
 
-pub loop-name-init : goal.loop-name-init
-loop-name-init c = record {
-  so_far = ap (λ l. l ++ each (λ e. e.1) c.into_iter-name-iterator.result) c.new-list.ensures
-      ∙ ap (each (λ e. e.1)) c.into_iter-name-iterator.ensures.into_iter_gives ∙ second-seen (λ k. k.items) c.iter-name-items.result
-      ∙ ap (each (λ e. e.1)) (c.iter-name-items.ensures ∙ c.in_ok-held.ensures) ∙ second-selves _;
-  good = ap (list_all is_name) c.new-list.ensures;
-}
+pub returns-in-empty-clause-value : goal.returns-in-empty-clause-value
+returns-in-empty-clause-value c = keys-none c.args.names (rw (sym c.as_slice.ensures) c.in-empty.len_below)
+
+pub returns-in-len1-clause-value : goal.returns-in-len1-clause-value
+returns-in-len1-clause-value c = keys-one c.args.names (rw (sym c.as_slice.ensures) c.in-len1.len_at_least) (rw (sym c.as_slice.ensures) c.in-len1.len_below)

@@ -3,7 +3,7 @@ use Rattle.std.specs.List.{list_all}
 use Rattle.std.specs.FinMap as map
 use Rattle.dc_text.specs.Maps.{set_of}
 use Rattle.dc_text.specs.Names.{is_name}
-use Rattle.dc_item.proofs.owners.in_order.Given as goal
+use Rattle.dc_item.proofs.owners.sorted.Given as goal
 
 abbrev pub invariant-loop-name : goal.invariant-loop-name
 invariant-loop-name l = record {
