@@ -5,4 +5,5 @@ pub mod LineLemmas
 pub mod MapLemmas
 pub mod SettledLemmas
 pub mod SmallMapLemmas
+pub mod TableLemmas
 pub mod TextLines
