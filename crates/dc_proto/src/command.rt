@@ -1,5 +1,6 @@
 // Command lines.
 ghost use Rattle.std.specs.Prelude.{◌≡◌, IfOk, map, drop};
+ghost use Rattle.std.specs.Str.{bytes_eq};
 ghost use Rattle.dc_text.specs.Bytes.{lower};
 ghost use Rattle.dc_proto.specs.Commands.{heard, commands, read_by, words_of, is_comment as is_comment_of};
 
@@ -13,7 +14,6 @@ use crate::reply::Reply;
 use crate::session_arguments::{
     read_alone, read_capb, read_input, read_set_title, read_title, read_version,
 };
-use dc_text::bytes::lowered;
 use dc_text::{FlagName, List, Mem, Name, Text, VarKey};
 use dc_words::{plain_words, unescape_words};
 use std::alloc::Global;
@@ -131,33 +131,32 @@ fn words(alloc: Global, line: &[u8], escape: bool) -> Mem<List<Text>>
 fn read_words(alloc: Global, word: &Text, arguments: &[Text]) -> Mem<Heard>
     ensures { IfOk result (λ said. said ≡ read_by commands (map lower word.now) arguments.now) }
 {
-    let word = lowered(alloc, word.bytes())?;
     read_session_words(alloc, word.bytes(), arguments)
 }
 
 // The commands on the session, and behind them those on questions.
 fn read_session_words(alloc: Global, word: &[u8], arguments: &[Text]) -> Mem<Heard>
-    ensures { IfOk result (λ said. said ≡ read_by commands word.now arguments.now) }
+    ensures { IfOk result (λ said. said ≡ read_by commands (map lower word.now) arguments.now) }
 {
-    if word == b"version".as_slice() {
+    if is_word(word, b"version") {
         read_version(alloc, arguments)
-    } else if word == b"capb".as_slice() {
+    } else if is_word(word, b"capb") {
         read_capb(alloc, arguments)
-    } else if word == b"settitle".as_slice() {
+    } else if is_word(word, b"settitle") {
         read_set_title(alloc, arguments)
-    } else if word == b"title".as_slice() {
+    } else if is_word(word, b"title") {
         read_title(alloc, arguments)
-    } else if word == b"input".as_slice() {
+    } else if is_word(word, b"input") {
         read_input(alloc, arguments)
-    } else if word == b"beginblock".as_slice() {
+    } else if is_word(word, b"beginblock") {
         read_alone(alloc, Command::BeginBlock, arguments)
-    } else if word == b"endblock".as_slice() {
+    } else if is_word(word, b"endblock") {
         read_alone(alloc, Command::EndBlock, arguments)
-    } else if word == b"go".as_slice() {
+    } else if is_word(word, b"go") {
         read_alone(alloc, Command::Go, arguments)
-    } else if word == b"clear".as_slice() {
+    } else if is_word(word, b"clear") {
         read_alone(alloc, Command::Clear, arguments)
-    } else if word == b"stop".as_slice() {
+    } else if is_word(word, b"stop") {
         read_alone(alloc, Command::Stop, arguments)
     } else {
         read_question_words(alloc, word, arguments)
@@ -166,33 +165,40 @@ fn read_session_words(alloc: Global, word: &[u8], arguments: &[Text]) -> Mem<Hea
 
 // The rows of the table from GET on.
 fn read_question_words(alloc: Global, word: &[u8], arguments: &[Text]) -> Mem<Heard>
-    ensures { IfOk result (λ said. said ≡ read_by (drop 10 commands) word.now arguments.now) }
+    ensures { IfOk result (λ said. said ≡ read_by (drop 10 commands) (map lower word.now) arguments.now) }
 {
-    if word == b"get".as_slice() {
+    if is_word(word, b"get") {
         read_get(alloc, arguments)
-    } else if word == b"set".as_slice() {
+    } else if is_word(word, b"set") {
         read_set(alloc, arguments)
-    } else if word == b"reset".as_slice() {
+    } else if is_word(word, b"reset") {
         read_reset(alloc, arguments)
-    } else if word == b"subst".as_slice() {
+    } else if is_word(word, b"subst") {
         read_subst(alloc, arguments)
-    } else if word == b"fget".as_slice() {
+    } else if is_word(word, b"fget") {
         read_fget(alloc, arguments)
-    } else if word == b"fset".as_slice() {
+    } else if is_word(word, b"fset") {
         read_fset(alloc, arguments)
-    } else if word == b"metaget".as_slice() {
+    } else if is_word(word, b"metaget") {
         read_metaget(alloc, arguments)
-    } else if word == b"register".as_slice() {
+    } else if is_word(word, b"register") {
         read_register(alloc, arguments)
-    } else if word == b"unregister".as_slice() {
+    } else if is_word(word, b"unregister") {
         read_unregister(alloc, arguments)
-    } else if word == b"purge".as_slice() {
+    } else if is_word(word, b"purge") {
         read_alone(alloc, Command::Purge, arguments)
-    } else if word == b"progress".as_slice() {
+    } else if is_word(word, b"progress") {
         read_progress(alloc, arguments)
-    } else if word == b"x_loadtemplatefile".as_slice() {
+    } else if is_word(word, b"x_loadtemplatefile") {
         read_load_template_file(alloc, arguments)
     } else {
         refuse(alloc, b"unsupported command")
     }
+}
+
+// Whether the bytes spell the word, without regard to case.
+fn is_word(bytes: &[u8], word: &[u8]) -> bool
+    ensures { result ≡ bytes_eq (map lower bytes.now) (map lower word.now) }
+{
+    bytes.eq_ignore_ascii_case(word)
 }

@@ -36,6 +36,13 @@ pub fn says(alloc: Global, code: u8, text: &[u8]) -> Mem<Stepped>
     Ok(Stepped::Replied(Reply::new(alloc, code, text)?))
 }
 
+// This is replied, of a text that is owned.
+fn says_text(code: u8, text: Text) -> Stepped
+    ensures { result ≡ Replied (reply_of code text) }
+{
+    Stepped::Replied(Reply::of(code, text))
+}
+
 // A refusal of code 10 that tells a word, between these texts.
 fn refuses(alloc: Global, before: &[u8], word: &[u8], after: &[u8]) -> Mem<Stepped>
     ensures { IfOk result (λ stepped. stepped ≡ Replied (reply_of 10 (before.now ++ (word.now ++ after.now)))) }
@@ -43,7 +50,7 @@ fn refuses(alloc: Global, before: &[u8], word: &[u8], after: &[u8]) -> Mem<Stepp
     let mut text = Text::from_bytes(alloc, before)?;
     text.append(word)?;
     text.append(after)?;
-    says(alloc, 10, text.bytes())
+    Ok(says_text(10, text))
 }
 
 /// No question has the name.
@@ -118,7 +125,7 @@ pub fn tell(
     ensures { Tells field.now (reply_of code) said result }
 {
     match said {
-        Ok(text) => says(alloc, code, text.bytes()),
+        Ok(text) => Ok(says_text(code, text)),
         Err(error) => refused(alloc, field, error),
     }
 }
