@@ -3,30 +3,19 @@ use Rattle.std.proofs.Common.{◌≡◌, ℕ, Bool, true, false, cond, List, [],
 use Rattle.std.specs.Prelude.{◌||◌, not}
 use Rattle.std.specs.List.{list_any}
 use Rattle.std.specs.Str.{bytes_eq}
-use Rattle.std.specs.Ordering.{eq_by_cmp, is_eq}
+use Rattle.std.specs.Ordering.{eq_by_cmp}
 use Rattle.std.specs.Cmp.Lexicographic.{nat_list_cmp_total}
 use Rattle.std.specs.FinMap.{get, insert, contains_key, same_map, get-insert}
-use Rattle.std.proofs.lemmas.Cmp.{tied_itself}
 use Rattle.std.proofs.lemmas.List.{map-append}
-use Rattle.std.proofs.lemmas.Slice.Eq.{bytes_eq-Decides}
 use Rattle.indexmap.specs.IndexSet.{insert_key}
 use Rattle.dc_text.specs.Maps.{set_of, text_cmp}
 use Rattle.dc_text.proofs.MapLemmas.{exact_texts, get-set_of, set_of-push}
+use Rattle.dc_text.proofs.TableLemmas.{same_test}
 use Rattle.dc_item.proofs.ItemLemmas.{same_key, contains_key-set_of}
 
 -- the bytes of each key
 abbrev pub marks_in : List (Vec ℕ Global) → List (List ℕ)
 marks_in keys = each (λ k. k.items) keys
-
--- to be the same text is to tie with it
-same_test : (a b : List ℕ) → bytes_eq a b ≡ eq_by_cmp text_cmp a b
-same_test a b = elim (bytes_eq a b) as (λ t. bytes_eq a b ≡ t → t ≡ eq_by_cmp text_cmp a b) [
-  | true ↦ λ e. sym (ap (λ x. is_eq (text_cmp a x)) (sym ((bytes_eq-Decides a b).0 e)) ∙ ap is_eq (tied_itself nat_list_cmp_total a))
-  | false ↦ λ e. elim (eq_by_cmp text_cmp a b) as (λ t. eq_by_cmp text_cmp a b ≡ t → false ≡ t) [
-    | true ↦ λ f. absurd (let both : false ≡ true = sym e ∙ (bytes_eq-Decides a b).1 (same_key a b f) in cc)
-    | false ↦ λ f. refl
-  ] refl
-] refl
 
 pub any_marks : (eq : Vec ℕ Global → Vec ℕ Global → Bool) → ((k j : Vec ℕ Global) → eq k j ≡ bytes_eq k.items j.items) → (ks : List (Vec ℕ Global)) (k : Vec ℕ Global)
     → list_any (eq k) ks ≡ list_any (eq_by_cmp text_cmp k.items) (marks_in ks)

@@ -11,7 +11,7 @@ ghost use Rattle.dc_item.specs.Table.{names_of, table_of, IsEntry, IsInOrder, Re
 
 use crate::entry::Entry;
 use crate::item::Item;
-use dc_text::{List, Mem, Name, Settled, SmallMap, Text, TextMap, show_newlines};
+use dc_text::{List, Mem, Name, Settled, SmallMap, Text, TextTable, show_newlines};
 use std::alloc::Global;
 
 /// The printed text of the records, one after another. Where no two have one name, it is read again as the same names and
@@ -26,11 +26,12 @@ pub fn print_records(alloc: Global, list: &List<Entry>) -> Mem<Text>
 }
 
 /// The printed text of a table: its records in byte order of their names.
-pub fn print_table(alloc: Global, table: &TextMap<Item>) -> Mem<Text>
+pub fn print_table(alloc: Global, table: &TextTable<Item>) -> Mem<Text>
     ensures { IfOk result (λ text. text ≡ table_text table.now) }
 {
+    let order = table.in_order()?;
     let mut text = Text::new(alloc);
-    for (name, item) in table.iter() {
+    for (name, item) in order.iter() {
         print_record(alloc, &mut text, name, item)?;
     }
     Ok(text)

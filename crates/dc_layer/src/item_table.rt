@@ -9,7 +9,7 @@ ghost use Rattle.dc_item.specs.declared.op.After.TheVariants.{Changed};
 ghost use Rattle.dc_layer.specs.State.{owned as owned_of};
 
 use dc_item::{Item, Op};
-use dc_text::{List, Mem, Name, NameRefused, OutOfMemory, TextMap};
+use dc_text::{List, Mem, Name, NameRefused, OutOfMemory, TextTable};
 use std::alloc::Global;
 use std::marker::Model;
 
@@ -17,7 +17,7 @@ use std::marker::Model;
 #[derive(Drop)]
 pub struct ItemTable {
     alloc: Global,
-    items: TextMap<Item>,
+    items: TextTable<Item>,
 }
 
 impl Model for ItemTable {
@@ -42,11 +42,11 @@ impl ItemTable {
     {
         ItemTable {
             alloc,
-            items: TextMap::new(alloc),
+            items: TextTable::new(alloc),
         }
     }
 
-    pub fn items(&self) -> &TextMap<Item>
+    pub fn items(&self) -> &TextTable<Item>
         ensures { result.now ≡ self.now }
     {
         &self.items
@@ -109,8 +109,9 @@ impl ItemTable {
     pub fn names(&self) -> Mem<List<Name>>
         ensures { IfOk result (λ names. names ≡ map.keys self.now) }
     {
+        let order = self.items.in_order()?;
         let mut names = List::new(self.alloc);
-        for (name, _) in self.items.iter() {
+        for (name, _) in order.iter() {
             names.push(name_of(self.alloc, name)?)?;
         }
         Ok(names)
@@ -120,8 +121,9 @@ impl ItemTable {
     pub fn owned(&self, owner: &Name) -> Mem<List<Name>>
         ensures { IfOk result (λ names. names ≡ owned_of self.now owner.now) }
     {
+        let order = self.items.in_order()?;
         let mut names = List::new(self.alloc);
-        for (name, item) in self.items.iter() {
+        for (name, item) in order.iter() {
             if is_owned(item, owner) {
                 names.push(name_of(self.alloc, name)?)?;
             }

@@ -216,7 +216,8 @@ module _ {Y K X Z : Type 0} (f : Y → List ℕ) (g : K → List ℕ) (h : X →
   next_in_order all n y rest es fs k v at distinct so_far is key =
       let next : (take (suc n) all ≡ take n all ++ (y, h v) ∷ []) × (drop (suc n) all ≡ rest) × (all ≡ take n all ++ (y, h v) ∷ rest) = taken_next all n (y, h v) rest at in
       let before : List (List ℕ × Z) = seen f (take n all) in
-      let new : find text_cmp (f y) before ≡ None = not_before f eq same (take n all) rest (y, h v) (subst (λ xs. IsDistinct eq (map (λ (d : Y × Z). d.0) xs)) next.2 distinct) in
-      (next.1,
+      let new : find text_cmp (f y) before ≡ None = not_before f eq same (take n all) rest (y, h v) (subst (λ xs. IsDistinct eq (map (λ (d : Y × Z). d.0) xs)) next.2 distinct) in (
+        next.1,
         shown-grows g h es fs before k v so_far is (ap (λ q. find text_cmp q before) key ∙ new)
-        ∙ ap (λ l. from_entries l) ((λ i. before ++ (key i, h v) ∷ []) ∙ sym (map-append (λ (e : Y × Z). (f e.0, e.1)) (take n all) ((y, h v) ∷ [])) ∙ ap (seen f) (sym next.0)))
+            ∙ ap (λ l. from_entries l) ((λ i. before ++ (key i, h v) ∷ []) ∙ sym (map-append (λ (e : Y × Z). (f e.0, e.1)) (take n all) ((y, h v) ∷ [])) ∙ ap (seen f) (sym next.0)),
+      )

@@ -20,7 +20,7 @@ use std::rt::Files as SystemFiles;
 pub const MAX_FILE: usize = 67_108_864;
 
 // How many bytes are read at once.
-const PIECE: usize = 65_536;
+const PIECE: usize = 16_384;
 
 /// The files of the host. Each error of a call is a fault but for a file that isn't there, and so are a file that is too
 /// large, what isn't a file in the place of one, a file that another program has locked, and a path or the name of a file

@@ -10,7 +10,7 @@ loop-key-preserved g c =
     let n = c.loop-key.invariant.0 in
     let facts = c.loop-key.invariant.1 in
     let next = next_in_order (λ y. y.items) (λ k. k.now) (λ v. v.now) (λ a b. bytes_eq a.items b.items) (λ a b. refl) c.into_iter-key-iterator.result n c.in-Some.key.now c.next.new.self
-        c.loop-key.order.entries c.insert.new.self.entries c.as_slice.result c.in-Some.value (facts.rest ∙ c.in-Some.ensures.steps) facts.distinct facts.so_far c.in_ok-insert.ensures.entries c.as_slice.ensures.value in
+    c.loop-key.order.entries c.insert.new.self.entries c.as_slice.result c.in-Some.value (facts.rest ∙ c.in-Some.ensures.steps) facts.distinct facts.so_far c.in_ok-insert.ensures.entries c.as_slice.ensures.value in
     (suc n, record { rest = next.0; so_far = next.1; rises = c.in_ok-insert.ensures.ordered; distinct = facts.distinct; all = facts.all })
 
 pub returns : goal.returns
