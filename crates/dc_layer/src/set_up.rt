@@ -10,11 +10,11 @@ use dc_text::{Mem, Name};
 use std::alloc::Global;
 use std::marker::Model;
 
-/// A spec with the rules that it says.
+/// A spec with the rules that it says. The rules are large, so they stand apart.
 #[derive(Drop)]
 pub struct SetUp {
     spec: LayerSpec,
-    rules: LayerRules,
+    rules: Box<LayerRules>,
 }
 
 impl Model for SetUp {
@@ -26,7 +26,7 @@ impl Model for SetUp {
 
     ghost view = { λ s. s.spec };
 
-    ghost invariant = { λ s. s.rules ≡ rules_of s.spec };
+    ghost invariant = { λ s. s.rules.value ≡ rules_of s.spec };
 }
 
 impl SetUp {
@@ -38,7 +38,10 @@ impl SetUp {
         ensures too_large { result ≡ Err PatternError.TooLarge → are_plain (rules_of spec) ≡ false }
     {
         match LayerRules::build(alloc, &spec) {
-            Ok(rules) => Ok(SetUp { spec, rules }),
+            Ok(rules) => match Box::new(alloc, rules) {
+                Ok(rules) => Ok(SetUp { spec, rules }),
+                Err(_) => Err(PatternError::OutOfMemory),
+            },
             Err(error) => Err(error),
         }
     }
