@@ -3,7 +3,7 @@ ghost use Rattle.std.specs.Prelude.{◌≡◌, length};
 ghost use Rattle.dc_conf.specs.Plans.{IsOver};
 
 use dc_conf::{Base, LayerSort, LayerSpec, Plan, ResolveError, Resolved, read_conf};
-use dc_item::{After, Op, read_records};
+use dc_item::{After, Entry, Op, read_records};
 use dc_layer::{FileLayer, Image, Layer, Pattern};
 use dc_outside::{Child, Files, Link, LinkError, MemChild, MemFiles, WaitFault};
 use dc_question::Questions;
@@ -207,10 +207,13 @@ fn put(alloc: Global, store: &mut Store, plan: &Plan, record: &[u8]) -> Option<(
     requires { IsOver plan.now (length store.old.layers.items) }
     ensures { IsOver plan.now (length store.new.layers.items) }
 {
-    let entry = read_records(alloc, record).ok()?.pop()?;
-    store
-        .change(plan, &entry.name, None, &Op::Put(entry.item))
-        .ok()
+    let Entry {
+        name,
+        item,
+        line: _,
+    } = read_records(alloc, record).ok()?.pop()?;
+    let op = Op::Put(item);
+    store.change(plan, &name, None, &op).ok()
 }
 
 #[test]
