@@ -4,7 +4,7 @@ ghost use Rattle.dc_text.specs.Bytes.{lower, trimmed};
 
 use crate::faults::{ConfError, ConfKind};
 use crate::fields::Field;
-use dc_text::bytes::{is_blank, lowered, split_at_byte, split_line, trim};
+use dc_text::bytes::{is_blank, split_at_byte, split_line, trim};
 use dc_text::{List, Mem, Text, TextMap};
 use std::alloc::Global;
 
@@ -131,7 +131,7 @@ fn is_comment(line: &[u8]) -> bool
 fn read_field(alloc: Global, line: u64, key: &[u8], value: &[u8]) -> Mem<Field>
     ensures { IfOk result (λ field. field ≡ record { line = line; key = each lower (trimmed key.now); value = trimmed value.now }) }
 {
-    let key = lowered(alloc, trim(key))?;
+    let key = Text::lowered(alloc, trim(key))?;
     let value = Text::from_bytes(alloc, trim(value))?;
     Ok(Field { line, key, value })
 }

@@ -60,7 +60,7 @@ fn change_touched(
     ensures same_table { OnErr result (table.new ≡ table.old) }
     ensures same_touched { OnErr result (each (λ k. k.items) touched.new.keys ≡ each (λ k. k.items) touched.old.keys) }
 {
-    let mark = name.copy()?.into_text().into_vec();
+    let mark = name.copy()?.into_text().into_vec()?;
     touched.reserve(1)?;
     table.change(name, op)?;
     match touched.insert(mark) {
@@ -76,7 +76,7 @@ fn remove_touched(table: &mut ItemTable, touched: &mut IndexSet<Vec<u8>>, name: 
     ensures same_table { OnErr result (table.new ≡ table.old) }
     ensures same_touched { OnErr result (each (λ k. k.items) touched.new.keys ≡ each (λ k. k.items) touched.old.keys) }
 {
-    let mark = name.copy()?.into_text().into_vec();
+    let mark = name.copy()?.into_text().into_vec()?;
     touched.insert(mark)?;
     table.remove(name.bytes());
     Ok(())

@@ -7,7 +7,6 @@ use crate::arguments::{WRONG_NUMBER, refuse};
 use crate::command::{Command, Heard};
 use crate::numbers::read_number;
 use crate::session_arguments::read_alone;
-use dc_text::bytes::lowered;
 use dc_text::{Mem, Text};
 use std::alloc::Global;
 
@@ -27,7 +26,7 @@ pub fn read_progress(alloc: Global, arguments: &[Text]) -> Mem<Heard>
 fn read_bar(alloc: Global, word: &Text, arguments: &[Text]) -> Mem<Heard>
     ensures { IfOk result (λ said. said ≡ read_by progress_commands (map lower word.now) arguments.now) }
 {
-    let word = lowered(alloc, word.bytes())?;
+    let word = Text::lowered(alloc, word.bytes())?;
     let word = word.bytes();
     if word == b"start".as_slice() {
         read_start(alloc, arguments)

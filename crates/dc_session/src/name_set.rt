@@ -47,7 +47,7 @@ impl NameSet {
         ensures added { OnOk result (self.new ≡ with_name self.old name.now) }
         ensures err { OnErr result (self.new ≡ self.old) }
     {
-        let mark = name.copy()?.into_text().into_vec();
+        let mark = name.copy()?.into_text().into_vec()?;
         self.marks.insert(mark)?;
         Ok(())
     }

@@ -9,7 +9,7 @@ ghost use Rattle.dc_teletype.specs.Answers.{answer_to, text_answer, without_retu
 use crate::keys::{all_beside, beside, is_one_of, numerals};
 use dc_frontend::Shown;
 use dc_template::Kind;
-use dc_text::bytes::{is_space, lowered, trim};
+use dc_text::bytes::{is_space, trim};
 use dc_text::{List, Mem, Text};
 use dc_words::choices::join_choices;
 use std::alloc::Global;
@@ -70,7 +70,7 @@ fn without_return(line: &[u8]) -> &[u8]
 fn read_boolean(alloc: Global, answer: &[u8]) -> Mem<Reading>
     ensures { IfOk result (λ reading. reading ≡ boolean_answer (each lower answer.now)) }
 {
-    let word = lowered(alloc, answer)?;
+    let word = Text::lowered(alloc, answer)?;
     if is_yes(word.bytes()) {
         Ok(Reading::Value(Text::from_bytes(alloc, b"true")?))
     } else if is_no(word.bytes()) {

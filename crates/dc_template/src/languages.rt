@@ -6,7 +6,7 @@ ghost use Rattle.dc_text.specs.Bytes.{lower};
 ghost use Rattle.dc_text.specs.Names.{is_field_key};
 ghost use Rattle.dc_template.specs.Languages.{is_language as is_language_of, is_language_byte as is_language_byte_of, localised_keys, with_shorter, is_short, keys_tried_of};
 
-use dc_text::bytes::{lowered, split_at_byte};
+use dc_text::bytes::split_at_byte;
 use dc_text::{FieldKey, List, Mem, Text};
 use std::alloc::Global;
 
@@ -17,7 +17,7 @@ pub fn keys_tried(alloc: Global, lang: &[u8], key: &FieldKey) -> Mem<List<FieldK
     ensures { IfOk result (λ keys. keys ≡ keys_tried_of lang.now key.now) }
 {
     let mut keys = List::new(alloc);
-    let language = lowered(alloc, without_encoding(lang))?;
+    let language = Text::lowered(alloc, without_encoding(lang))?;
     if is_language(language.bytes()) {
         add_languages(&mut keys, key, language.bytes())?;
     }

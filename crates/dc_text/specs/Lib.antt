@@ -6,3 +6,4 @@ pub mod Maps
 pub mod Names
 pub mod Places
 pub mod Settled
+pub mod Texts

@@ -1,13 +1,10 @@
 // Small steps over bytes, which the readers of all formats share.
-ghost use Rattle.std.specs.Prelude.{◌≡◌, ◌∷◌, ◌<◌, ◌≤◌, ◌==◌, [], length, drop, map, position, IfOk, MatchOption, true, false};
+ghost use Rattle.std.specs.Prelude.{◌≡◌, ◌∷◌, ◌<◌, ◌≤◌, ◌==◌, [], length, drop, position, MatchOption, true, false};
 ghost use Rattle.std.specs.List.{list_any, list_all, before_first, after_first};
-ghost use Rattle.dc_text.specs.Bytes.{is_space as is_space_of, is_blank as is_blank_of, is_indented as is_indented_of, without_space as without_space_of, trimmed, drop_front, drop_back, lower as lower_of, upper as upper_of};
+ghost use Rattle.dc_text.specs.Bytes.{is_space as is_space_of, is_blank as is_blank_of, is_indented as is_indented_of, without_space as without_space_of, trimmed, drop_front, drop_back, upper as upper_of};
 ghost use Rattle.dc_text.specs.Lines.{lines_of, text_lines};
 
-use crate::memory::Mem;
-use crate::texts::Text;
 use bstr::ByteSlice;
-use std::alloc::Global;
 
 /// Whether the byte is whitespace: space, tab, line tabulation, form feed or carriage return.
 pub fn is_space(byte: u8) -> bool
@@ -125,12 +122,4 @@ pub fn upper(byte: u8) -> u8
     } else {
         byte
     }
-}
-
-/// The bytes with upper-case letters in lower case.
-pub fn lowered(alloc: Global, bytes: &[u8]) -> Mem<Text>
-    ensures { IfOk result (λ text. text ≡ map lower_of bytes.now) }
-{
-    let lowered = bytes.to_ascii_lowercase(alloc)?;
-    Ok(Text::from_vec(lowered))
 }

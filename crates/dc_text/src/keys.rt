@@ -5,7 +5,6 @@ ghost use Rattle.std.specs.Str.{bytes_eq};
 ghost use Rattle.dc_text.specs.Bytes.{lower as lower_of};
 ghost use Rattle.dc_text.specs.Names.{is_field_key as is_field_key_of, is_flag_name as is_flag_name_of, is_variable_key as is_variable_key_of, is_key_byte as is_key_byte_of, is_variable_byte as is_variable_byte_of, is_lower_letter as is_lower_letter_of, begins_with_letter as begins_with_letter_of, is_reserved as is_reserved_of};
 
-use crate::bytes::lowered;
 use crate::lists::Copied;
 use crate::memory::Mem;
 use crate::names::{NameRefused, has_length, has_name_bytes, is_visible};
@@ -38,7 +37,7 @@ impl FieldKey {
         ensures ok { OnOk result (is_field_key_of (map lower_of bytes.now) ≡ true) }
         ensures bad { result ≡ Err NameRefused.Bad → is_field_key_of (map lower_of bytes.now) ≡ false }
     {
-        let text = lowered(alloc, bytes)?;
+        let text = Text::lowered(alloc, bytes)?;
         if !is_field_key(text.bytes()) {
             return Err(NameRefused::Bad);
         }

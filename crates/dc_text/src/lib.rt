@@ -9,6 +9,7 @@ pub mod maps;
 pub mod memory;
 pub mod names;
 pub mod settling;
+mod short;
 pub mod small_maps;
 pub mod tables;
 pub mod texts;

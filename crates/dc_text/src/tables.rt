@@ -62,7 +62,8 @@ impl<V: Drop> TextTable<V> {
         ensures ok { OnOk result (self.new ≡ map.insert self.old key value) }
         ensures err { OnErr result (self.new ≡ self.old) }
     {
-        self.entries.insert(key.into_vec(), value)?;
+        let bytes = key.into_vec()?;
+        self.entries.insert(bytes, value)?;
         Ok(())
     }
 

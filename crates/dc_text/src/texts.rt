@@ -1,25 +1,35 @@
 // Bytes that grow, seen as their list.
-ghost use Rattle.std.specs.Prelude.{◌≡◌, ◌∷◌, ◌++◌, [], OnOk, OnErr, IfOk};
-ghost use Rattle.dc_text.specs.Bytes.{capital};
+ghost use Rattle.std.specs.Prelude.{◌≡◌, ◌∷◌, ◌++◌, ◌<◌, [], length, map, slice_set, OnOk, OnErr, IfOk};
+ghost use Rattle.dc_text.specs.Bytes.{capital, lower};
 
 use crate::bytes::upper;
 use crate::lists::Copied;
 use crate::memory::Mem;
+use crate::short::Short;
 use std::alloc::Global;
 use std::marker::Model;
 
-/// Bytes, which need not be UTF-8.
+// Where the bytes are: few of them, as most names and values have, in place.
+#[derive(Drop)]
+enum Kept {
+    InPlace(Short),
+    InVector(Vec<u8>),
+}
+
+/// Bytes, which need not be UTF-8. At most 30 of them take no memory.
 #[derive(Drop)]
 pub struct Text {
-    bytes: Vec<u8>,
+    alloc: Global,
+    kept: Kept,
 }
 
 impl Model for Text {
     ghost use Rattle.std.specs.Prelude.{List, ℕ};
+    ghost use Rattle.dc_text.specs.Texts.{bytes_in};
 
     ghost Value = { List ℕ };
 
-    ghost view = { λ t. t.bytes.items };
+    ghost view = { λ t. bytes_in t.kept };
 }
 
 impl Text {
@@ -28,7 +38,8 @@ impl Text {
         ensures { result ≡ [] }
     {
         Text {
-            bytes: Vec::new(alloc),
+            alloc,
+            kept: Kept::InPlace(Short::new()),
         }
     }
 
@@ -36,51 +47,90 @@ impl Text {
     pub fn with_capacity(alloc: Global, count: usize) -> Mem<Self>
         ensures { IfOk result (λ text. text ≡ []) }
     {
-        let bytes = Vec::with_capacity(alloc, count)?;
-        Ok(Text { bytes })
+        let mut text = Text::new(alloc);
+        if !Short::new().has_room(count) {
+            text.kept = Kept::InVector(Vec::with_capacity(alloc, count)?);
+        }
+        Ok(text)
     }
 
     /// A copy of the bytes.
     pub fn from_bytes(alloc: Global, bytes: &[u8]) -> Mem<Self>
         ensures { IfOk result (λ text. text ≡ bytes.now) }
     {
-        let bytes = bytes.to_vec(alloc)?;
-        Ok(Text { bytes })
+        let kept = match Short::from_bytes(bytes) {
+            Some(short) => Kept::InPlace(short),
+            None => Kept::InVector(bytes.to_vec(alloc)?),
+        };
+        Ok(Text { alloc, kept })
+    }
+
+    /// The bytes with upper-case letters in lower case.
+    pub fn lowered(alloc: Global, bytes: &[u8]) -> Mem<Self>
+        ensures { IfOk result (λ text. text ≡ map lower bytes.now) }
+    {
+        let kept = match Short::from_bytes(bytes) {
+            Some(mut short) => {
+                short.lower();
+                Kept::InPlace(short)
+            }
+            None => Kept::InVector(bytes.to_ascii_lowercase(alloc)?),
+        };
+        Ok(Text { alloc, kept })
     }
 
     /// The bytes of the vector, which isn't copied.
     pub fn from_vec(bytes: Vec<u8>) -> Self
         ensures { result ≡ bytes.items }
     {
-        Text { bytes }
+        Text {
+            alloc: *bytes.allocator(),
+            kept: Kept::InVector(bytes),
+        }
     }
 
-    /// The bytes as a vector, which isn't copied.
-    pub fn into_vec(self) -> Vec<u8>
-        ensures { result.items ≡ self }
+    /// The bytes as a vector. Those that aren't in place aren't copied.
+    pub fn into_vec(self) -> Mem<Vec<u8>>
+        ensures { IfOk result (λ bytes. bytes.items ≡ self) }
     {
-        self.bytes
+        let Text { alloc, kept } = self;
+        match kept {
+            Kept::InPlace(short) => Ok(short.bytes().to_vec(alloc)?),
+            Kept::InVector(bytes) => Ok(bytes),
+        }
     }
 
     pub fn bytes(&self) -> &[u8]
         ensures { result.now ≡ self.now }
     {
-        &self.bytes
+        match &self.kept {
+            Kept::InPlace(short) => short.bytes(),
+            Kept::InVector(bytes) => bytes,
+        }
     }
 
     pub fn push(&mut self, byte: u8) -> Mem<()>
         ensures ok { OnOk result (self.new ≡ self.old ++ byte ∷ []) }
         ensures err { OnErr result (self.new ≡ self.old) }
     {
-        self.bytes.push(byte)?;
-        Ok(())
+        self.append(&[byte])
     }
 
     pub fn append(&mut self, bytes: &[u8]) -> Mem<()>
         ensures ok { OnOk result (self.new ≡ self.old ++ bytes.now) }
         ensures err { OnErr result (self.new ≡ self.old) }
     {
-        self.bytes.extend_from_slice(bytes)?;
+        match &mut self.kept {
+            Kept::InVector(long) => long.extend_from_slice(bytes)?,
+            Kept::InPlace(short) => {
+                if short.has_room(bytes.len()) {
+                    short.append(bytes);
+                } else {
+                    let long = joined(self.alloc, short.bytes(), bytes)?;
+                    self.kept = Kept::InVector(long);
+                }
+            }
+        }
         Ok(())
     }
 
@@ -92,20 +142,47 @@ impl Text {
         match bytes {
             [] => Ok(()),
             [first, ..] => {
-                let place = self.bytes.len();
-                self.bytes.extend_from_slice(bytes)?;
-                self.bytes[place] = upper(*first);
+                let place = self.bytes().len();
+                self.append(bytes)?;
+                self.set(place, upper(*first));
                 Ok(())
             }
+        }
+    }
+
+    // Writes the byte at the place.
+    fn set(&mut self, place: usize, byte: u8)
+        requires { place < length self.old }
+        ensures { self.new ≡ slice_set self.old place byte }
+    {
+        match &mut self.kept {
+            Kept::InPlace(short) => short.set(place, byte),
+            Kept::InVector(long) => long[place] = byte,
         }
     }
 
     pub fn copy(&self) -> Mem<Self>
         ensures { IfOk result (λ text. text ≡ self.now) }
     {
-        let bytes = self.bytes.clone()?;
-        Ok(Text { bytes })
+        let kept = match &self.kept {
+            Kept::InPlace(short) => Kept::InPlace(short.copy()),
+            Kept::InVector(bytes) => Kept::InVector(bytes.clone()?),
+        };
+        Ok(Text {
+            alloc: self.alloc,
+            kept,
+        })
     }
+}
+
+// The bytes of both, the first before the others.
+fn joined(alloc: Global, first: &[u8], others: &[u8]) -> Mem<Vec<u8>>
+    ensures { IfOk result (λ bytes. bytes.items ≡ first.now ++ others.now) }
+{
+    let mut bytes = Vec::with_capacity(alloc, first.len().saturating_add(others.len()))?;
+    bytes.extend_from_slice(first)?;
+    bytes.extend_from_slice(others)?;
+    Ok(bytes)
 }
 
 impl Copied for Text {

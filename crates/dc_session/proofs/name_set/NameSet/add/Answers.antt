@@ -8,7 +8,7 @@ use Rattle.dc_session.proofs.name_set.NameSet.add.Goals as goal
 added : (c : goal.In_ok-insert) → names_in c.insert.new.self.keys ≡ with_name (names_in c.self.inside.marks.keys) c.args.name.now
 added c =
     ap names_in c.in_ok-insert.ensures.keys ∙ names_in-insert_key _ (λ k j. refl) c.self.inside.marks.keys _
-    ∙ ap (with_name (names_in c.self.inside.marks.keys)) (c.into_vec-mark.ensures ∙ c.into_text.ensures.value ∙ c.in_ok-copy.ensures)
+    ∙ ap (with_name (names_in c.self.inside.marks.keys)) (c.in_ok-mark.ensures ∙ c.into_text.ensures.value ∙ c.in_ok-copy.ensures)
 
 pub invariant_of-self-2 : goal.invariant_of-self-2
 invariant_of-self-2 c =
