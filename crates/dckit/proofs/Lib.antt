@@ -1,3 +1,1 @@
-pub mod FolderLemmas
 pub mod ShelfLemmas
-pub mod StreamLemmas

@@ -1,25 +1,10 @@
 //! The program: the edge to the host, and the call of the run.
 #![tactic(auto)]
 
-mod host_child;
-mod host_counts;
-mod host_err;
-mod host_files;
-mod host_folders;
-mod host_guard;
-mod host_io;
-mod host_limits;
-mod host_link;
-mod host_output;
-mod host_paths;
 mod surroundings;
 
-use crate::host_child::HostChild;
-use crate::host_err::HostErr;
-use crate::host_files::HostFiles;
-use crate::host_link::HostLink;
-use crate::host_output::HostOutput;
 use crate::surroundings::{read_settings, read_words};
+use dc_host::{HostChild, HostErr, HostFiles, HostLink, HostOutput};
 use dc_layer::{FileLayer, Layer};
 use dc_run::{Settings, Shelf, run_words};
 use dc_text::{List, Mem, Text};
@@ -95,6 +80,3 @@ fn open_to_all(alloc: Global, settings: &Settings, words: &List<Text>) -> Mem<Li
     }
     Ok(paths)
 }
-
-#[cfg(test)]
-mod tests;

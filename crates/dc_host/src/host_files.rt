@@ -1,0 +1,251 @@
+// The files of the host. They tell nothing of what they hold.
+ghost use Rattle.std.specs.Prelude.{◌≡◌, ◌≤◌, ◌<◌, None, length, IfOk, IfSome, OnErr, OnOk};
+ghost use Rattle.std.specs.FinMap as map;
+ghost use Rattle.dc_outside.specs.Counts.{Counted};
+ghost use Rattle.dc_host.specs.Folders.{IsKept, Keeps};
+
+use crate::host_counts::CallCounts;
+use crate::host_folders::{ChangedFolders, files_below, sync_folder_of};
+use crate::host_guard::Guard;
+use crate::host_io;
+use crate::host_paths::{failed, is_missing, path_of};
+use dc_outside::{Files, FilesError};
+use dc_text::{List, Text};
+use std::alloc::{AllocError, Global};
+use std::fs::File;
+use std::io::Read;
+use std::rt::Files as SystemFiles;
+
+/// A file with more bytes than these isn't read.
+pub const MAX_FILE: usize = 67_108_864;
+
+// How many bytes are read at once.
+const PIECE: usize = 16_384;
+
+/// The files of the host. Each error of a call is a fault but for a file that isn't there, and so are a file that is too
+/// large, what isn't a file in the place of one, a file that another program has locked, and a path or the name of a file
+/// that isn't UTF-8. The files that are read and those that take their places stay locked to the end.
+#[derive(Drop)]
+pub struct HostFiles<R> {
+    alloc: Global,
+    rt: R,
+    changed: ChangedFolders,
+    guard: Guard,
+    counts: CallCounts,
+}
+
+impl<R: SystemFiles> HostFiles<R> {
+    /// Files of which no call failed and no folder changed. Those at the paths of `open_to_all` are read without a lock.
+    pub fn new(alloc: Global, rt: R, open_to_all: List<Text>) -> HostFiles<R>
+        ensures changed { result.changed ≡ map.empty }
+        ensures counts { result.counts ≡ record { faults = 0; refusals = 0 } }
+    {
+        HostFiles {
+            alloc,
+            rt,
+            changed: ChangedFolders::new(alloc),
+            guard: Guard::new(alloc, open_to_all),
+            counts: CallCounts::new(),
+        }
+    }
+}
+
+impl<R: SystemFiles<File = File> + Alloc + Clone + Drop> Files for HostFiles<R> {
+    ghost told = { λ _. record { disk = None; calls = None } };
+
+    ghost counts = { λ h. h.counts };
+
+    fn read(&mut self, path: &Text) -> Result<Option<Text>, FilesError>
+        ensures small { IfOk result (λ found. IfSome found (λ bytes. length bytes ≤ MAX_FILE)) }
+        ensures changed { self.new.changed ≡ self.old.changed }
+        ensures counts { Counted self.old.counts self.new.counts result }
+    {
+        let answer = read_file(self.alloc, &self.rt, &mut self.guard, path);
+        self.counts.count(answer)
+    }
+
+    fn list(&mut self, dir: &Text) -> Result<List<Text>, FilesError>
+        ensures changed { self.new.changed ≡ self.old.changed }
+        ensures counts { Counted self.old.counts self.new.counts result }
+    {
+        let answer = list_files(self.alloc, &self.rt, dir);
+        self.counts.count(answer)
+    }
+
+    fn write(&mut self, path: &Text, bytes: &[u8], mode: u16) -> Result<(), FilesError>
+        ensures kept { OnOk result (IsKept self.new.changed path.now) }
+        ensures changed { Keeps self.old.changed self.new.changed }
+        ensures counts { Counted self.old.counts self.new.counts result }
+    {
+        let answer = write_file(
+            &self.rt,
+            &mut self.changed,
+            &mut self.guard,
+            path,
+            bytes,
+            mode,
+        );
+        self.counts.count(answer)
+    }
+
+    fn sync(&mut self, path: &Text) -> Result<(), FilesError>
+        ensures changed { self.new.changed ≡ self.old.changed }
+        ensures counts { Counted self.old.counts self.new.counts result }
+    {
+        let answer = sync_file(&self.rt, &self.guard, path);
+        self.counts.count(answer)
+    }
+
+    fn rename(&mut self, from: &Text, to: &Text) -> Result<(), FilesError>
+        ensures from { OnOk result (IsKept self.new.changed from.now) }
+        ensures to { OnOk result (IsKept self.new.changed to.now) }
+        ensures changed { Keeps self.old.changed self.new.changed }
+        ensures counts { Counted self.old.counts self.new.counts result }
+    {
+        let answer = rename_file(&self.rt, &mut self.changed, &mut self.guard, from, to);
+        self.counts.count(answer)
+    }
+
+    fn sync_names(&mut self) -> Result<(), FilesError>
+        ensures none { OnOk result (self.new.changed ≡ map.empty) }
+        ensures err { OnErr result (self.new.changed ≡ self.old.changed) }
+        ensures counts { Counted self.old.counts self.new.counts result }
+    {
+        let answer = self.changed.sync(&self.rt);
+        self.counts.count(answer)
+    }
+
+    fn remove(&mut self, path: &Text) -> Result<(), FilesError>
+        ensures kept { OnOk result (IsKept self.new.changed path.now) }
+        ensures changed { Keeps self.old.changed self.new.changed }
+        ensures counts { Counted self.old.counts self.new.counts result }
+    {
+        let answer = remove_file(&self.rt, &mut self.changed, path);
+        self.counts.count(answer)
+    }
+}
+
+fn read_file<R: SystemFiles<File = File>>(
+    alloc: Global,
+    rt: &R,
+    guard: &mut Guard,
+    path: &Text,
+) -> Result<Option<Text>, FilesError>
+    ensures { IfOk result (λ found. IfSome found (λ bytes. length bytes ≤ MAX_FILE)) }
+{
+    match guard.open(rt, path, path_of(path)?)? {
+        Some(mut file) => Ok(Some(read_all(alloc, &mut file)?)),
+        None => Ok(None),
+    }
+}
+
+fn make_buffer(alloc: Global) -> Result<Vec<u8>, AllocError>
+    ensures { IfOk result (λ piece. length piece.items ≡ PIECE) }
+{
+    vec![in alloc; 0u8; PIECE]
+}
+
+// The bytes of the file, unless there are too many.
+fn read_all<F: Read>(alloc: Global, file: &mut F) -> Result<Text, FilesError>
+    ensures small { IfOk result (λ bytes. length bytes ≤ MAX_FILE) }
+    ensures whole { IfOk result (λ bytes. IfSome (F.remaining file.old) (λ all. bytes ≡ all)) }
+{
+    match make_buffer(alloc) {
+        Ok(mut piece) => read_pieces(alloc, file, piece.as_mut_slice()),
+        Err(_) => Err(FilesError::OutOfMemory),
+    }
+}
+
+fn read_pieces<F: Read>(alloc: Global, file: &mut F, piece: &mut [u8]) -> Result<Text, FilesError>
+    requires { 0 < length piece.old }
+    ensures small { IfOk result (λ bytes. length bytes ≤ MAX_FILE) }
+    ensures whole { IfOk result (λ bytes. IfSome (F.remaining file.old) (λ all. bytes ≡ all)) }
+{
+    let mut bytes = Text::new(alloc);
+    for _ in 0..u64::MAX {
+        match host_io::read_some(file, piece) {
+            Ok(count) if count == 0 => return Ok(bytes),
+            Ok(count) if count <= MAX_FILE.saturating_sub(bytes.bytes().len()) => {
+                bytes.append(&piece[..count])?;
+            }
+            Ok(_) | Err(_) => return Err(FilesError::Failed),
+        }
+    }
+    Err(FilesError::Failed)
+}
+
+fn list_files<R: SystemFiles + Alloc + Clone + Drop>(
+    alloc: Global,
+    rt: &R,
+    dir: &Text,
+) -> Result<List<Text>, FilesError> {
+    let found = files_below(alloc, rt, path_of(dir)?)?;
+    let mut paths = List::new(alloc);
+    for (path, _) in found.iter() {
+        paths.push(Text::from_bytes(alloc, path)?)?;
+    }
+    Ok(paths)
+}
+
+#[tactic(auto, using(crate::proofs::FolderLemmas::keeps_same, crate::proofs::FolderLemmas::keeps_on, crate::proofs::FolderLemmas::kept_on))]
+fn write_file<R: SystemFiles<File = File> + Alloc>(
+    rt: &R,
+    changed: &mut ChangedFolders,
+    guard: &mut Guard,
+    path: &Text,
+    bytes: &[u8],
+    mode: u16,
+) -> Result<(), FilesError>
+    ensures kept { OnOk result (IsKept changed.new path.now) }
+    ensures changed { Keeps changed.old changed.new }
+{
+    let name = path_of(path)?;
+    changed.prepare(rt, name)?;
+    guard.write(rt, path, name, bytes, mode)
+}
+
+// The folder is synced too, since the file may be new in it.
+fn sync_file<R: SystemFiles<File = File>>(
+    rt: &R,
+    guard: &Guard,
+    path: &Text,
+) -> Result<(), FilesError> {
+    let name = path_of(path)?;
+    guard.sync(rt, path, name)?;
+    sync_folder_of(rt, name)
+}
+
+#[tactic(auto, using(crate::proofs::FolderLemmas::keeps_same, crate::proofs::FolderLemmas::keeps_on, crate::proofs::FolderLemmas::kept_on))]
+fn rename_file<R: SystemFiles<File = File>>(
+    rt: &R,
+    changed: &mut ChangedFolders,
+    guard: &mut Guard,
+    from: &Text,
+    to: &Text,
+) -> Result<(), FilesError>
+    ensures from { OnOk result (IsKept changed.new from.now) }
+    ensures to { OnOk result (IsKept changed.new to.now) }
+    ensures changed { Keeps changed.old changed.new }
+{
+    let old = path_of(from)?;
+    let new = path_of(to)?;
+    changed.mark_both(old, new)?;
+    guard.rename(rt, (from, old), (to, new))
+}
+
+#[tactic(auto, using(crate::proofs::FolderLemmas::keeps_same, crate::proofs::FolderLemmas::keeps_on, crate::proofs::FolderLemmas::kept_on))]
+fn remove_file<R: SystemFiles>(
+    rt: &R,
+    changed: &mut ChangedFolders,
+    path: &Text,
+) -> Result<(), FilesError>
+    ensures kept { OnOk result (IsKept changed.new path.now) }
+    ensures changed { Keeps changed.old changed.new }
+{
+    let path = path_of(path)?;
+    changed.mark(path)?;
+    match std::fs::remove_file(rt, path) {
+        Err(error) if !is_missing(&error) => Err(failed(&error)),
+        _ => Ok(()),
+    }
+}

@@ -1,5 +1,0 @@
-use Rattle.dckit.proofs.StreamLemmas.{written-more}
-use Rattle.dckit.proofs.host_io.write_all.Goals as goal
-
-pub loop-preserved : goal.loop-preserved
-loop-preserved g c = written-more _ _ _ _ _ _ c.loop.invariant c.in_ok-rest.ensures
