@@ -40,7 +40,7 @@ impl NamesRead {
         ensures new { IfOk result (λ is_new. is_new ≡ not (map.contains_key self.old name.now)) }
         ensures added { OnOk result (self.new ≡ map.insert self.old name.now tt) }
     {
-        let mark = name.copy()?.into_text().into_vec();
+        let mark = name.copy()?.into_text().into_vec()?;
         let is_new = self.marks.insert(mark)?;
         Ok(is_new)
     }

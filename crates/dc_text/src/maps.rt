@@ -62,7 +62,7 @@ impl<V: Drop> TextMap<V> {
         ensures ok { OnOk result (self.new ≡ map.insert self.old key value) }
         ensures err { OnErr result (self.new ≡ self.old) }
     {
-        self.entries.insert(key.into_vec(), value)?;
+        self.entries.insert(key.into_vec()?, value)?;
         Ok(())
     }
 

@@ -56,10 +56,10 @@ impl Text {
     }
 
     /// The bytes as a vector, which isn't copied.
-    pub fn into_vec(self) -> Vec<u8>
-        ensures { result.items ≡ self }
+    pub fn into_vec(self) -> Mem<Vec<u8>>
+        ensures { IfOk result (λ bytes. bytes.items ≡ self) }
     {
-        self.bytes
+        Ok(self.bytes)
     }
 
     pub fn bytes(&self) -> &[u8]

@@ -5,5 +5,5 @@ use Rattle.dc_text.proofs.maps.TextMap.insert.Goals as goal
 
 pub returns-clause-ok : goal.returns-clause-ok
 returns-clause-ok g c =
-    map-insert (λ k. k.items) c.self.inside.entries.entries c.insert.new.self.entries c.into_vec.result c.args.value c.in_ok-insert.ensures.entries
-    ∙ ap (λ k. map.insert (map.from_entries (seen (λ k. k.items) c.self.inside.entries.entries)) k c.args.value) c.into_vec.ensures ∙ ap (λ m. map.insert m c.args.key c.args.value) c.self.view_is
+    map-insert (λ k. k.items) c.self.inside.entries.entries c.insert.new.self.entries c.in_ok-into_vec.field-0 c.args.value c.in_ok-insert.ensures.entries
+    ∙ ap (λ k. map.insert (map.from_entries (seen (λ k. k.items) c.self.inside.entries.entries)) k c.args.value) c.in_ok-into_vec.ensures ∙ ap (λ m. map.insert m c.args.key c.args.value) c.self.view_is
