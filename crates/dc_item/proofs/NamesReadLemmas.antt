@@ -10,7 +10,7 @@ use Rattle.std.proofs.lemmas.List.{map-append}
 use Rattle.indexmap.specs.IndexSet.{insert_key}
 use Rattle.dc_text.specs.Maps.{set_of, text_cmp}
 use Rattle.dc_text.proofs.MapLemmas.{exact_texts, get-set_of, set_of-push}
-use Rattle.dc_text.proofs.TableLemmas.{same_test}
+use Rattle.dc_item.proofs.TextTableLemmas.{same_test}
 use Rattle.dc_item.proofs.ItemLemmas.{same_key, contains_key-set_of}
 
 -- the bytes of each key

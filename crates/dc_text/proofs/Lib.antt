@@ -5,5 +5,4 @@ pub mod LineLemmas
 pub mod MapLemmas
 pub mod SettledLemmas
 pub mod SmallMapLemmas
-pub mod TableLemmas
 pub mod TextLines

@@ -10,7 +10,6 @@ pub mod memory;
 pub mod names;
 pub mod settling;
 pub mod small_maps;
-pub mod tables;
 pub mod texts;
 
 pub use keys::{FieldKey, FlagName, VarKey};
@@ -20,5 +19,4 @@ pub use memory::{Mem, OutOfMemory};
 pub use names::{Name, NameRefused};
 pub use settling::{Settled, settle, show_newlines};
 pub use small_maps::SmallMap;
-pub use tables::TextTable;
 pub use texts::Text;

@@ -18,7 +18,7 @@ use Rattle.std.proofs.lemmas.List.{map-append}
 use Rattle.std.proofs.lemmas.Slice.Eq.{bytes_eq-Decides}
 use Rattle.indexmap.specs.IndexMap.{insert_entry}
 use Rattle.dc_text.specs.Maps.{text_cmp}
-use Rattle.dc_text.proofs.MapLemmas.{exact_texts, seen, find-seen, map-insert, map-set_value, entries-in_order, rises}
+use Rattle.dc_text.proofs.MapLemmas.{exact_texts, seen, map-set_value, entries-in_order}
 
 is_equal : (o : Ordering) → is_eq o ≡ true → o ≡ Equal
 is_equal Less e = absurd (cc)

@@ -5,8 +5,8 @@ use Rattle.std.specs.Str.{bytes_eq}
 use Rattle.std.specs.FinMap as map
 use Rattle.dc_text.specs.Maps.{text_cmp}
 use Rattle.dc_text.proofs.MapLemmas.{seen}
-use Rattle.dc_text.proofs.TableLemmas.{shown}
-use Rattle.dc_text.proofs.tables.TextTable.in_order.Given as goal
+use Rattle.dc_item.proofs.TextTableLemmas.{shown}
+use Rattle.dc_item.proofs.text_table.TextTable.in_order.Given as goal
 
 abbrev pub invariant-loop-key : goal.invariant-loop-key
 invariant-loop-key g l = (n : ℕ) × record {

@@ -1,7 +1,7 @@
 use Rattle.std.proofs.Common.{ap, ◌∙◌, refl}
 use Rattle.std.specs.FinMap as map
-use Rattle.dc_text.proofs.TableLemmas.{table-remove}
-use Rattle.dc_text.proofs.tables.TextTable.remove.Goals as goal
+use Rattle.dc_item.proofs.TextTableLemmas.{table-remove}
+use Rattle.dc_item.proofs.text_table.TextTable.remove.Goals as goal
 
 pub returns : goal.returns
 returns g c =

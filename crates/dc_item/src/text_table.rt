@@ -4,8 +4,7 @@ ghost use Rattle.std.specs.Option.{option_copied};
 ghost use Rattle.std.specs.FinMap as map;
 ghost use Rattle.dc_text.specs.Bytes.{is_nil};
 
-use crate::memory::Mem;
-use crate::texts::Text;
+use dc_text::{Mem, Text};
 use indexmap::IndexMap;
 use std::alloc::Global;
 use std::collections::BTreeMap;

@@ -2,8 +2,8 @@ use Rattle.std.proofs.Common.{suc, refl, ap, ◌∙◌}
 use Rattle.std.specs.Str.{bytes_eq}
 use Rattle.std.specs.FinMap as map
 use Rattle.dc_text.proofs.MapLemmas.{seen}
-use Rattle.dc_text.proofs.TableLemmas.{next_in_order, shown-in_order, taken_all}
-use Rattle.dc_text.proofs.tables.TextTable.in_order.Goals as goal
+use Rattle.dc_item.proofs.TextTableLemmas.{next_in_order, shown-in_order, taken_all}
+use Rattle.dc_item.proofs.text_table.TextTable.in_order.Goals as goal
 
 pub loop-key-preserved : goal.loop-key-preserved
 loop-key-preserved g c =

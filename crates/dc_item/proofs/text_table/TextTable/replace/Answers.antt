@@ -4,8 +4,8 @@ use Rattle.std.specs.Option.{option_copied_mut}
 use Rattle.std.specs.Cmp.Lexicographic.{nat_list_cmp_total}
 use Rattle.std.specs.FinMap as map
 use Rattle.dc_text.proofs.MapLemmas.{seen}
-use Rattle.dc_text.proofs.TableLemmas.{lookup-seen, table-set_value}
-use Rattle.dc_text.proofs.tables.TextTable.replace.Goals as goal
+use Rattle.dc_item.proofs.TextTableLemmas.{lookup-seen, table-set_value}
+use Rattle.dc_item.proofs.text_table.TextTable.replace.Goals as goal
 
 pub unreachable-requires : goal.unreachable-requires
 unreachable-requires g c =

@@ -1,8 +1,8 @@
 use Rattle.std.proofs.Common.{sym, ap, ◌∙◌, refl}
 use Rattle.std.specs.Cmp.Lexicographic.{nat_list_cmp_total}
 use Rattle.std.specs.FinMap as map
-use Rattle.dc_text.proofs.TableLemmas.{lookup-seen}
-use Rattle.dc_text.proofs.tables.TextTable.get.Goals as goal
+use Rattle.dc_item.proofs.TextTableLemmas.{lookup-seen}
+use Rattle.dc_item.proofs.text_table.TextTable.get.Goals as goal
 
 pub returns : goal.returns
 returns g c =

@@ -1,8 +1,8 @@
 use Rattle.std.proofs.Common.{ap, ◌∙◌, refl}
 use Rattle.std.specs.FinMap as map
 use Rattle.dc_text.proofs.MapLemmas.{seen}
-use Rattle.dc_text.proofs.TableLemmas.{table-insert}
-use Rattle.dc_text.proofs.tables.TextTable.insert.Goals as goal
+use Rattle.dc_item.proofs.TextTableLemmas.{table-insert}
+use Rattle.dc_item.proofs.text_table.TextTable.insert.Goals as goal
 
 pub returns-clause-ok : goal.returns-clause-ok
 returns-clause-ok g c =
