@@ -1,6 +1,6 @@
 -- What a search finds among entries whose keys rise, and what an edit at that place does.
 use Rattle.std.proofs.Common.{◌≡◌, ℕ, zero, suc, ◌<◌, Bool, true, false, cond, not, List, [], ◌∷◌, length, get_or, set, Some, None, Option, Result, Ok, Err, refl, sym, ap, subst, ◌∙◌, arith, add-one}
-use Rattle.std.specs.Prelude.{T, ◌&&◌, ◌==◌, MatchResult}
+use Rattle.std.specs.Prelude.{T, ◌&&◌, ◌==◌, MatchResult, is_some}
 use Rattle.std.specs.List as holes
 use Rattle.std.specs.List.{filter}
 use Rattle.std.specs.List.Sorted.{IsSearchInRange, IsBinarySearchResult, IsNonDecreasingBy}
@@ -90,6 +90,10 @@ module _ {X : Type 0} where
   find_at q [] i d h at = absurd (omega (arith, at.in_range))
   find_at q (e ∷ es) zero d h at = ap (λ o. cond (is_eq o) (Some e.1) (find text_cmp q es)) (tied e.0 q (at.has_key e))
   find_at q (e ∷ es) (suc i) d h at = ap (λ o. cond (is_eq o) (Some e.1) (find text_cmp q es)) (first_below q e es i h at) ∙ find_at q es i d (second _ _ h) (is_at_tail q e es i at)
+
+  pub is_found : (q : List ℕ) (es : List (List ℕ × X)) (i : ℕ) → T (is_sorted text_cmp es) → IsAt q es i → is_some (find text_cmp q es) ≡ true
+  is_found q [] i h at = absurd (omega (arith, at.in_range))
+  is_found q (e ∷ es) i h at = ap is_some (find_at q (e ∷ es) i e h at)
 
   find_below : (q : List ℕ) (es : List (List ℕ × X)) → T (below_all text_cmp q es) → find text_cmp q es ≡ None
   find_below q [] h = refl

@@ -1,5 +1,6 @@
 // Maps from texts that have few entries.
-ghost use Rattle.std.specs.Prelude.{◌≡◌, T, OnOk, OnErr, IfOk, MatchResult};
+ghost use Rattle.std.specs.Prelude.{◌≡◌, ◌≤◌, T, OnOk, OnErr, IfOk, MatchResult, if◌then◌else◌, length, not};
+ghost use Rattle.std.specs.List as holes;
 ghost use Rattle.std.specs.Option.{option_copied};
 ghost use Rattle.std.specs.FinMap as map;
 ghost use Rattle.dc_text.specs.Bytes.{is_nil};
@@ -42,8 +43,31 @@ fn search<V>(entries: &[(Text, V)], key: &[u8]) -> Result<usize, usize>
     entries.binary_search_by(
         |entry: &(Text, V)| -> Ordering
             ensures { result ≡ text_cmp entry.now.0 key.entry.now }
-        { entry.0.bytes().cmp(key) },
+        { compare(entry.0.bytes(), key) },
     )
+}
+
+// The order of two texts. Most are told apart by their first bytes.
+fn compare(one: &[u8], other: &[u8]) -> Ordering
+    ensures { result ≡ text_cmp one.now other.now }
+{
+    match (one, other) {
+        ([first, ..], [second, ..]) if *first != *second => first.cmp(second),
+        _ => one.cmp(other),
+    }
+}
+
+// Puts the entry at the place, before those that stand from there on. The first one takes room for two: most maps stay as small.
+fn add_entry<V: Drop>(entries: &mut Vec<(Text, V)>, place: usize, key: Text, value: V) -> Mem<()>
+    requires { place ≤ length entries.old.items }
+    ensures ok { OnOk result (entries.new.items ≡ holes.insert entries.old.items place (key, value)) }
+    ensures err { OnErr result (entries.new.items ≡ entries.old.items) }
+{
+    if entries.is_empty() {
+        entries.reserve_exact(2)?;
+    }
+    entries.insert(place, (key, value))?;
+    Ok(())
 }
 
 impl<V> SmallMap<V> {
@@ -106,7 +130,25 @@ impl<V: Drop> SmallMap<V> {
                 self.entries[place].1 = value;
                 Ok(())
             }
-            Err(place) => Ok(self.entries.insert(place, (key, value))?),
+            Err(place) => {
+                add_entry(&mut self.entries, place, key, value)?;
+                Ok(())
+            }
+        }
+    }
+
+    /// Puts the value at a key that isn't there, and answers whether it wasn't.
+    pub fn insert_new(&mut self, key: Text, value: V) -> Mem<bool>
+        ensures new { IfOk result (λ is_new. is_new ≡ not (map.contains_key self.old key)) }
+        ensures put { IfOk result (λ is_new. self.new ≡ (if is_new then map.insert self.old key value else self.old)) }
+        ensures err { OnErr result (self.new ≡ self.old) }
+    {
+        match search(&self.entries, key.bytes()) {
+            Ok(_) => Ok(false),
+            Err(place) => {
+                add_entry(&mut self.entries, place, key, value)?;
+                Ok(true)
+            }
         }
     }
 

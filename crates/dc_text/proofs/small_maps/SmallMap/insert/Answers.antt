@@ -19,10 +19,10 @@ returns-in-Ok-clause-ok g c =
 pub invariant_of-self-in-Err : goal.invariant_of-self-in-Err
 invariant_of-self-in-Err g c =
     let added = insert_gap c.args.key c.args.value c.self.inside.entries.items c.in-Err.place (rw (← c.deref.ensures.value, ← c.bytes.ensures) c.in-Err.ensures) in
-    is_sorted_put c.args.key c.args.value c.self.inside.entries.items _ c.self.invariant (c.in_ok-insert-in-Err.ensures.items ∙ added)
+    is_sorted_put c.args.key c.args.value c.self.inside.entries.items _ c.self.invariant (c.in_ok-add_entry-in-Err.ensures.ok ∙ added)
 
-pub returns-in_ok-insert-in-Err-clause-ok : goal.returns-in_ok-insert-in-Err-clause-ok
-returns-in_ok-insert-in-Err-clause-ok g c =
+pub returns-in_ok-add_entry-in-Err-clause-ok : goal.returns-in_ok-add_entry-in-Err-clause-ok
+returns-in_ok-add_entry-in-Err-clause-ok g c =
     let added = insert_gap c.args.key c.args.value c.self.inside.entries.items c.in-Err.place (rw (← c.deref.ensures.value, ← c.bytes.ensures) c.in-Err.ensures) in
-    from_sorted_put c.args.key c.args.value c.self.inside.entries.items _ c.self.invariant (c.in_ok-insert-in-Err.ensures.items ∙ added)
+    from_sorted_put c.args.key c.args.value c.self.inside.entries.items _ c.self.invariant (c.in_ok-add_entry-in-Err.ensures.ok ∙ added)
     ∙ ap (λ m. map.insert m c.args.key c.args.value) c.self.view_is
