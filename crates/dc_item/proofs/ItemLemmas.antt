@@ -115,6 +115,15 @@ with_variable f v w s os k x kept is key value = (
   kept.1,
 )
 
+-- a field that is put if there is none with its key
+pub with_new_field : (b : Bool) (f g v : Texts (List ℕ)) (s : TextSet) (os : List (List ℕ)) (k x : List ℕ) → Kept f s v os → g ≡ cond b (insert f k x) f → is_field_key k ≡ true → is_settled x ≡ true → Kept g s v os
+with_new_field true f g v s os k x kept is key value = with_field f g v s os k x kept is key value
+with_new_field false f g v s os k x kept is key value = subst (λ m. Kept m s v os) (sym is) kept
+
+pub with_new_variable : (b : Bool) (f v w : Texts (List ℕ)) (s : TextSet) (os : List (List ℕ)) (k x : List ℕ) → Kept f s v os → w ≡ cond b (insert v k x) v → is_variable_key k ≡ true → is_settled x ≡ true → Kept f s w os
+with_new_variable true f v w s os k x kept is key value = with_variable f v w s os k x kept is key value
+with_new_variable false f v w s os k x kept is key value = subst (λ m. Kept f s m os) (sym is) kept
+
 pub with_flags : (f v : Texts (List ℕ)) (s t : TextSet) (os flags : List (List ℕ)) → Kept f s v os → t ≡ set_of flags → list_all is_flag_name flags ≡ true → Kept f t v os
 with_flags f v s t os flags kept is all = (
   record { fields = kept.0.fields; flags = subst (KeepsAll is_flag_name) (sym is) (KeepsAll-set_of is_flag_name flags all); variables = kept.0.variables; owners = kept.0.owners },
@@ -218,6 +227,16 @@ without_owner f v s os ps k kept is = with_set f v s (remove (set_of os) k) os p
 
 abbrev parts_of : Texts (List ℕ) → TextSet → Texts (List ℕ) → List (List ℕ) → ItemParts
 parts_of f s v os = record { fields = f; flags = s; variables = v; owners = set_of os }
+
+pub new_field : (b : Bool) (f g v : Texts (List ℕ)) (s : TextSet) (os : List (List ℕ)) (k x : List ℕ) (item : ItemParts) → parts_of f s v os ≡ item → g ≡ cond b (insert f k x) f
+    → parts_of g s v os ≡ cond b (record item { fields = insert item.fields k x }) item
+new_field true f g v s os k x item seen is = ap (λ m. parts_of m s v os) is ∙ ap (λ (p : ItemParts). record p { fields = insert p.fields k x }) seen
+new_field false f g v s os k x item seen is = ap (λ m. parts_of m s v os) is ∙ seen
+
+pub new_variable : (b : Bool) (f v w : Texts (List ℕ)) (s : TextSet) (os : List (List ℕ)) (k x : List ℕ) (item : ItemParts) → parts_of f s v os ≡ item → w ≡ cond b (insert v k x) v
+    → parts_of f s w os ≡ cond b (record item { variables = insert item.variables k x }) item
+new_variable true f v w s os k x item seen is = ap (λ m. parts_of f s m os) is ∙ ap (λ (p : ItemParts). record p { variables = insert p.variables k x }) seen
+new_variable false f v w s os k x item seen is = ap (λ m. parts_of f s m os) is ∙ seen
 
 pub added : (f v : Texts (List ℕ)) (s : TextSet) (os ps : List (List ℕ)) (k : List ℕ) (item : ItemParts) → parts_of f s v os ≡ item → ps ≡ keys (insert (set_of os) k tt)
     → parts_of f s v ps ≡ record item { owners = insert item.owners k tt }

@@ -12,4 +12,5 @@ pub mod PrintedLines
 pub mod PrintedText
 pub mod ReadTables
 pub mod ReaderLemmas
+pub mod TextTableLemmas
 pub mod VariableLines

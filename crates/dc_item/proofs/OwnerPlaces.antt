@@ -1,12 +1,15 @@
 -- What a search finds among owners, which stand in byte order, and what an edit at that place does.
-use Rattle.std.proofs.Common.{◌≡◌, ℕ, ◌<◌, ◌≤◌, List, ◌∷◌, ◌++◌, length, get_or, take, drop, Result, Ok, Err, map as each, suc, arith, refl, sym, ap, subst, ◌∙◌}
+use Rattle.std.proofs.Common.{◌≡◌, ℕ, ◌<◌, ◌≤◌, List, ◌∷◌, ◌++◌, length, get_or, take, drop, [], ◌+◌, true, Result, Ok, Err, map as each, suc, arith, refl, sym, ap, subst, ◌∙◌}
 use Rattle.std.specs.Prelude.{T, MatchResult, is_some}
 use Rattle.std.specs.List as listed
 use Rattle.std.specs.List.Sorted.{IsSearchInRange, IsBinarySearchResult, IsNonDecreasingBy}
-use Rattle.std.specs.Ordering.{ordering_index}
+use Rattle.std.specs.declared.cmp.Ordering.{Ordering}
+use Rattle.std.specs.declared.cmp.Ordering.TheVariants.{Less, Equal, Greater}
+use Rattle.std.specs.Ordering.{ordering_index, is_lt}
 use Rattle.std.specs.Cmp.Lexicographic.{nat_list_cmp_total}
 use Rattle.std.specs.FinMap.{entries, keys, get-entries, remove, is_sorted, from_sorted, entries_sorted, entries-from_sorted, entries-insert, same_entries_map}
-use Rattle.std.proofs.lemmas.List.{get_or-map, length-map, take-map, drop-map, map-append}
+use Rattle.std.proofs.lemmas.List.{get_or-map, length-map, take-map, drop-map, map-append, length-append}
+use Rattle.std.proofs.Math.Seq.{get_or-append_seam}
 use Rattle.dc_text.specs.Maps.{TextSet, set_of, text_cmp}
 use Rattle.dc_text.specs.Places.{IsAt, IsGapFor}
 use Rattle.dc_text.proofs.SmallMapLemmas.{searched, find_at, find_gap, insert_gap, remove_at, without, is_sorted_without, from_sorted_without}
@@ -97,3 +100,27 @@ placed os q r is within result =
     let es : Members = entries (set_of os) in
     let bound : IsSearchInRange r (length es) = in_range es r (subst (λ l. IsSearchInRange r (length l)) is within) in
     either os q r is within (searched es (entries_sorted (set_of os)) q r bound (found q es r bound (subst (λ l. IsBinarySearchResult (λ k. text_cmp k q) l r) is result)))
+
+-- ---- a name behind the last one
+
+lowest : (o p : Ordering) → ordering_index o ≤ ordering_index p → is_lt p ≡ true → o ≡ Less
+lowest Less p h e = refl
+lowest Equal Less h e = absurd (omega arith)
+lowest Equal Equal h e = absurd (cc)
+lowest Equal Greater h e = absurd (cc)
+lowest Greater Less h e = absurd (omega arith)
+lowest Greater Equal h e = absurd (cc)
+lowest Greater Greater h e = absurd (cc)
+
+behind : (os front : List (List ℕ)) (last q : List ℕ) → os ≡ front ++ last ∷ [] → is_lt (text_cmp last q) ≡ true → IsBinarySearchResult (λ k. text_cmp k q) os (Err (length os))
+behind os front last q is low = λ rise.
+    let long : length os ≡ length front + 1 = ap length is ∙ length-append front (last ∷ []) in (
+      λ k d from lt.
+          let there : get_or os (length front) d ≡ last = ap (λ l. get_or l (length front) d) is ∙ get_or-append_seam front last [] d in
+          lowest (text_cmp (get_or os k d) q) (text_cmp (get_or os (length front) d) q) (rise k (length front) d (omega (arith, lt, long)) (omega (arith, long))) (ap (λ n. is_lt (text_cmp n q)) there ∙ low),
+      λ k d from lt. absurd (omega (arith, from, lt)),
+    )
+
+-- the place of a name behind the last one
+pub placed_behind : (os front : List (List ℕ)) (last q : List ℕ) → os ≡ keys (set_of os) → os ≡ front ++ last ∷ [] → is_lt (text_cmp last q) ≡ true → owners.IsGapFor q os (length os)
+placed_behind os front last q sorted is low = placed os q (Err (length os)) sorted (omega arith) (behind os front last q is low)

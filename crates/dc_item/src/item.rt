@@ -1,5 +1,5 @@
 // Items: the fields, flags, variables and owners of questions and templates.
-ghost use Rattle.std.specs.Prelude.{◌≡◌, IfOk, OnOk, OnErr, true};
+ghost use Rattle.std.specs.Prelude.{◌≡◌, IfOk, OnOk, OnErr, true, if◌then◌else◌, not};
 ghost use Rattle.std.specs.List.{list_all};
 ghost use Rattle.std.specs.FinMap as map;
 ghost use Rattle.std.specs.Option.{option_copied};
@@ -147,6 +147,28 @@ impl Item {
         let _settled = value.bytes();
         self.variables.insert(key.into_text(), value)?;
         Ok(())
+    }
+
+    // Puts the field if the item has none with its key, and answers whether it had none.
+    pub(crate) fn put_new_field(&mut self, key: FieldKey, value: Settled) -> Mem<bool>
+        ensures new { IfOk result (λ is_new. is_new ≡ not (map.contains_key self.old.fields key)) }
+        ensures put { IfOk result (λ is_new. self.new ≡ (if is_new then record self.old { fields = map.insert self.old.fields key value } else self.old)) }
+        ensures err { OnErr result (self.new ≡ self.old) }
+    {
+        let _settled = value.bytes();
+        let is_new = self.fields.insert_new(key.into_text(), value)?;
+        Ok(is_new)
+    }
+
+    // Puts the variable if the item has none with its key, and answers whether it had none.
+    pub(crate) fn put_new_variable(&mut self, key: VarKey, value: Settled) -> Mem<bool>
+        ensures new { IfOk result (λ is_new. is_new ≡ not (map.contains_key self.old.variables key)) }
+        ensures put { IfOk result (λ is_new. self.new ≡ (if is_new then record self.old { variables = map.insert self.old.variables key value } else self.old)) }
+        ensures err { OnErr result (self.new ≡ self.old) }
+    {
+        let _settled = value.bytes();
+        let is_new = self.variables.insert_new(key.into_text(), value)?;
+        Ok(is_new)
     }
 
     // Takes the field away, if the item has it.

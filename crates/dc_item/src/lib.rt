@@ -14,6 +14,7 @@ mod reading;
 mod record_line;
 pub mod records;
 mod same;
+pub mod text_table;
 
 pub use effect::Effect;
 pub use entry::Entry;
@@ -22,3 +23,4 @@ pub use op::{After, Op};
 pub use owners::in_order;
 pub use printing::{print_records, print_table};
 pub use records::{RecordError, read_records};
+pub use text_table::TextTable;

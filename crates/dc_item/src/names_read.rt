@@ -1,20 +1,27 @@
 // The names of the records that were read.
-ghost use Rattle.std.specs.Prelude.{◌≡◌, IfOk, OnOk, not};
+ghost use Rattle.std.specs.Prelude.{◌≡◌, IfOk, OnOk, not, map as each};
 ghost use Rattle.std.specs.FinMap as map;
+ghost use Rattle.dc_text.specs.Maps.{set_of};
 
-use dc_text::{Mem, Name};
+use crate::owners::place_from_end;
+use dc_text::{List, Mem, Name};
 use indexmap::IndexSet;
 use std::alloc::Global;
 use std::marker::Model;
 
-/// Names, each once. To look one up and to add it takes no other name into account.
+/// Names, each once. Most come in byte order: such a name is compared with the last one alone. To look up another takes
+/// no name into account but those of a binary search.
 #[derive(Drop)]
 pub struct NamesRead {
-    marks: IndexSet<Vec<u8>>,
+    // Those that came behind all before them.
+    ordered: List<Name>,
+    // Those that didn't.
+    others: IndexSet<Vec<u8>>,
 }
 
 impl Model for NamesRead {
-    ghost use Rattle.std.specs.Prelude.{map as each};
+    ghost use Rattle.std.specs.Prelude.{◌≡◌, ◌++◌, map as each};
+    ghost use Rattle.std.specs.FinMap as map;
     ghost use Rattle.dc_text.specs.Maps.{TextSet, set_of};
     ghost use Rattle.dc_item.specs.Item.{set_code};
 
@@ -22,7 +29,9 @@ impl Model for NamesRead {
 
     ghost coded = { set_code };
 
-    ghost view = { λ n. set_of (each (λ k. k.items) n.marks.keys) };
+    ghost view = { λ n. set_of (n.ordered ++ each (λ k. k.items) n.others.keys) };
+
+    ghost invariant = { λ n. n.ordered ≡ map.keys (set_of n.ordered) };
 }
 
 impl NamesRead {
@@ -31,7 +40,8 @@ impl NamesRead {
         ensures { result ≡ map.empty }
     {
         NamesRead {
-            marks: IndexSet::new(alloc),
+            ordered: List::new(alloc),
+            others: IndexSet::new(alloc),
         }
     }
 
@@ -40,8 +50,30 @@ impl NamesRead {
         ensures new { IfOk result (λ is_new. is_new ≡ not (map.contains_key self.old name.now)) }
         ensures added { OnOk result (self.new ≡ map.insert self.old name.now tt) }
     {
-        let mark = name.copy()?.into_text().into_vec()?;
-        let is_new = self.marks.insert(mark)?;
-        Ok(is_new)
+        match place_from_end(self.ordered.as_slice(), name.bytes()) {
+            Ok(_) => Ok(false),
+            Err(place) => {
+                if place < self.ordered.len() {
+                    let mark = name.copy()?.into_text().into_vec()?;
+                    let is_new = self.others.insert(mark)?;
+                    return Ok(is_new);
+                }
+                if is_among(&self.others, name.bytes()) {
+                    return Ok(false);
+                }
+                self.ordered.insert(place, name.copy()?)?;
+                Ok(true)
+            }
+        }
     }
+}
+
+// Whether the name is among these. Mostly there are none, and nothing is hashed.
+fn is_among(marks: &IndexSet<Vec<u8>>, name: &[u8]) -> bool
+    ensures { result ≡ map.contains_key (set_of (each (λ k. k.items) marks.now.keys)) name.now }
+{
+    if marks.is_empty() {
+        return false;
+    }
+    marks.contains(name)
 }

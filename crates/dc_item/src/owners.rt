@@ -84,3 +84,16 @@ pub fn place_of(owners: &[Name], name: &[u8]) -> Result<usize, usize>
         { owner.bytes().cmp(name) },
     )
 }
+
+/// The same, of names that mostly come behind all others.
+pub fn place_from_end(names: &[Name], name: &[u8]) -> Result<usize, usize>
+    requires { names.now ≡ map.keys (set_of names.now) }
+    ensures { MatchResult result (IsPlaceOf name.now names.now) (IsGapFor name.now names.now) }
+{
+    if let Some((last, _)) = names.split_last() {
+        if last.bytes().cmp(name).is_lt() {
+            return Err(names.len());
+        }
+    }
+    place_of(names, name)
+}

@@ -11,7 +11,8 @@ ghost use Rattle.dc_item.specs.Table.{names_of, table_of, IsEntry, IsInOrder, Re
 
 use crate::entry::Entry;
 use crate::item::Item;
-use dc_text::{List, Mem, Name, Settled, SmallMap, Text, TextTable, show_newlines};
+use crate::text_table::TextTable;
+use dc_text::{List, Mem, Name, Settled, SmallMap, Text, show_newlines};
 use std::alloc::Global;
 
 /// The printed text of the records, one after another. Where no two have one name, it is read again as the same names and

@@ -55,10 +55,9 @@ impl Open {
     fn add_field(&mut self, key: FieldKey, value: Settled) -> Mem<bool>
         ensures { IfOk result (λ stands. added self.old (RecordLine.Field key value) ≡ (if stands then Some self.new else None)) }
     {
-        if self.item.field(key.bytes()).is_some() {
+        if !self.item.put_new_field(key, value)? {
             return Ok(false);
         }
-        self.item.put_field(key, value)?;
         self.in_variables = false;
         Ok(true)
     }
@@ -101,11 +100,10 @@ impl Open {
     fn add_variable(&mut self, key: VarKey, value: Settled) -> Mem<bool>
         ensures { IfOk result (λ stands. added self.old (RecordLine.Variable key value) ≡ (if stands then Some self.new else None)) }
     {
-        if !self.in_variables || self.item.var(key.bytes()).is_some() {
+        if !self.in_variables {
             return Ok(false);
         }
-        self.item.put_variable(key, value)?;
-        Ok(true)
+        self.item.put_new_variable(key, value)
     }
 }
 

@@ -8,8 +8,8 @@ ghost use Rattle.dc_item.specs.Item.{ItemParts};
 ghost use Rattle.dc_item.specs.declared.op.After.TheVariants.{Changed};
 ghost use Rattle.dc_layer.specs.State.{owned as owned_of};
 
-use dc_item::{Item, Op};
-use dc_text::{List, Mem, Name, NameRefused, OutOfMemory, TextTable};
+use dc_item::{Item, Op, TextTable};
+use dc_text::{List, Mem, Name, NameRefused, OutOfMemory};
 use std::alloc::Global;
 use std::marker::Model;
 

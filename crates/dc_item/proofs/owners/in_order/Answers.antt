@@ -1,4 +1,4 @@
-use Rattle.std.proofs.Common.{ap, ◌∙◌, sym}
+use Rattle.std.proofs.Common.{sym}
 use Rattle.dc_item.proofs.ItemLemmas.{keys-none, keys-one}
 use Rattle.dc_item.proofs.owners.in_order.Goals as goal
 

@@ -1,6 +1,6 @@
 use Rattle.std.proofs.Common.{◌≡◌, ◌++◌}
 use Rattle.std.specs.List.{flat_map}
-use Rattle.dc_text.proofs.TableLemmas.{shown}
+use Rattle.dc_item.proofs.TextTableLemmas.{shown}
 use Rattle.dc_text.specs.Lines.{text_of}
 use Rattle.dc_item.specs.Printed.{record_lines, table_text}
 use Rattle.dc_item.proofs.printing.print_table.Given as goal

@@ -2,7 +2,7 @@ use Rattle.std.proofs.Common.{◌≡◌, ◌++◌, true}
 use Rattle.std.specs.List.{list_all}
 use Rattle.std.specs.FinMap as map
 use Rattle.dc_text.specs.Names.{is_name}
-use Rattle.dc_text.proofs.TableLemmas.{shown}
+use Rattle.dc_item.proofs.TextTableLemmas.{shown}
 use Rattle.dc_layer.proofs.TableLemmas.{firsts}
 use Rattle.dc_layer.proofs.item_table.ItemTable.names.Given as goal
 

@@ -1,7 +1,7 @@
 use Rattle.std.proofs.Common.{◌≡◌, ◌++◌, true}
 use Rattle.std.specs.List.{list_all}
 use Rattle.dc_text.specs.Names.{is_name}
-use Rattle.dc_text.proofs.TableLemmas.{shown}
+use Rattle.dc_item.proofs.TextTableLemmas.{shown}
 use Rattle.dc_layer.specs.State.{owned, owned_in}
 use Rattle.dc_layer.proofs.TableLemmas.{firsts}
 use Rattle.dc_layer.proofs.item_table.ItemTable.owned.Given as goal

@@ -1,0 +1,97 @@
+// Maps from texts that have many entries.
+ghost use Rattle.std.specs.Prelude.{◌≡◌, OnOk, OnErr, IfOk, Some, true, map as each};
+ghost use Rattle.std.specs.Option.{option_copied};
+ghost use Rattle.std.specs.FinMap as map;
+ghost use Rattle.dc_text.specs.Bytes.{is_nil};
+
+use dc_text::{Mem, Text};
+use indexmap::IndexMap;
+use std::alloc::Global;
+use std::collections::BTreeMap;
+use std::marker::Model;
+
+/// A map from texts for many entries. To find a key takes no other key into account; to put the entries into byte order
+/// takes memory.
+#[derive(Drop)]
+pub struct TextTable<V> {
+    alloc: Global,
+    entries: IndexMap<Vec<u8>, V>,
+}
+
+impl<V> Model for TextTable<V> {
+    ghost use Rattle.std.specs.Prelude.{map as each};
+    ghost use Rattle.std.specs.FinMap as map;
+    ghost use Rattle.std.specs.Coded.{coded_ℕ, coded_list};
+    ghost use Rattle.dc_text.specs.Maps.{text_cmp};
+
+    ghost Value = { map.FinMap text_cmp V };
+
+    ghost coded = { map.code (coded_list coded_ℕ) V.code };
+
+    ghost view = { λ m. map.from_entries (each (λ e. (e.0.items, e.1)) m.entries.entries) };
+}
+
+impl<V: Drop> TextTable<V> {
+    /// The empty map.
+    pub fn new(alloc: Global) -> Self
+        ensures { result ≡ map.empty }
+    {
+        TextTable {
+            alloc,
+            entries: IndexMap::new(alloc),
+        }
+    }
+
+    /// The value at the key, if there is one.
+    pub fn get(&self, key: &[u8]) -> Option<&V>
+        ensures { option_copied result ≡ map.get self.now key.now }
+    {
+        self.entries.get(key)
+    }
+
+    /// Whether the map has the key.
+    pub fn contains(&self, key: &[u8]) -> bool
+        ensures { result ≡ map.contains_key self.now key.now }
+    {
+        self.get(key).is_some()
+    }
+
+    /// Puts the value at the key, in the place of one that stood there.
+    pub fn insert(&mut self, key: Text, value: V) -> Mem<()>
+        ensures ok { OnOk result (self.new ≡ map.insert self.old key value) }
+        ensures err { OnErr result (self.new ≡ self.old) }
+    {
+        self.entries.insert(key.into_vec()?, value)?;
+        Ok(())
+    }
+
+    /// Puts the value at a key that is there, and hands out the one that stood there. It takes no memory.
+    pub fn replace(&mut self, key: &[u8], value: V) -> V
+        requires { map.contains_key self.old key.now ≡ true }
+        ensures old { map.get self.old key.now ≡ Some result }
+        ensures new { self.new ≡ map.insert self.old key.now value }
+    {
+        match self.entries.get_mut(key) {
+            Some(place) => std::mem::replace(place, value),
+            None => unreachable!(),
+        }
+    }
+
+    /// Takes the key and its value away, if they are there.
+    pub fn remove(&mut self, key: &[u8])
+        ensures { self.new ≡ map.remove self.old key.now }
+    {
+        let _ = self.entries.swap_remove(key);
+    }
+
+    /// The entries, in byte order of their keys.
+    pub fn in_order(&self) -> Mem<BTreeMap<&[u8], &V>>
+        ensures { IfOk result (λ order. each (λ e. (e.0.now, e.1.now)) order.entries ≡ map.entries self.now) }
+    {
+        let mut order = BTreeMap::new(self.alloc);
+        for (key, value) in self.entries.iter() {
+            order.insert(key.as_slice(), value)?;
+        }
+        Ok(order)
+    }
+}
