@@ -193,18 +193,21 @@ open_holder_taken ls ps n p op h =
     let is = open_is_holder ls (holder_of ls ps n) p (sym h) in
     held_taken ls p n op is.1 (find_passes (has_at ls n) ps p is.0)
 
-written_held : (ls : List LayerState) (p : ℕ) (home : Option ℕ) (n : List ℕ) (made : After) → (made ≡ Same → ⊥) → by_case ls (Some p) home n made ≡ Some (put_at ls p n made)
-written_held ls p h n Same other = absurd (other refl)
-written_held ls p h n (Changed item) other = refl
-written_held ls p h n Gone other = refl
+put_none : (ls : List LayerState) (p : ℕ) (n : List ℕ) → put_at ls p n Same ≡ ls
+put_none [] p n = refl
+put_none (l ∷ ls) zero n = refl
+put_none (l ∷ ls) (suc p) n = ap (λ xs. l ∷ xs) (put_none ls p n)
 
-pub write_held : (ls new : List LayerState) (ps n : List ℕ) (k : Option Kind) (p : ℕ) (op : Op) (made : After) → Some p ≡ open_holder ls ps n → made ≡ after_at op (look_of ls ps n) → (made ≡ Same → ⊥) → new ≡ change_at ls p (λ layer. with_made layer n (made_at layer n op)) → write_of ls ps n k op ≡ Some new
-write_held ls new ps n k p op made h m other is =
+written_held : (ls : List LayerState) (p : ℕ) (home : Option ℕ) (n : List ℕ) (made : After) → by_case ls (Some p) home n made ≡ Some (put_at ls p n made)
+written_held ls p h n Same = ap Some (sym (put_none ls p n))
+written_held ls p h n (Changed item) = refl
+written_held ls p h n Gone = refl
+
+pub write_held : (ls new : List LayerState) (ps n : List ℕ) (k : Option Kind) (p : ℕ) (op : Op) → Some p ≡ open_holder ls ps n → new ≡ change_at ls p (λ layer. with_made layer n (made_at layer n op)) → write_of ls ps n k op ≡ Some new
+write_held ls new ps n k p op h is =
     let found = open_is_holder ls (holder_of ls ps n) p (sym h) in
     ap (λ o. by_case ls o (home ls ps n k) n (after_at op (look_of ls ps n))) (sym h)
-    ∙ ap (λ x. by_case ls (Some p) (home ls ps n k) n x) (sym m)
-    ∙ written_held ls p (home ls ps n k) n made other
-    ∙ ap (λ x. Some (put_at ls p n x)) m
+    ∙ written_held ls p (home ls ps n k) n (after_at op (look_of ls ps n))
     ∙ ap Some (sym (held_made ls p n op (look_of ls ps n) (holder_look ls ps n p found.0)) ∙ sym is)
 
 pub write_same : (ls : List LayerState) (ps n : List ℕ) (k : Option Kind) (op : Op) → Same ≡ after_at op (look_of ls ps n) → write_of ls ps n k op ≡ Some ls

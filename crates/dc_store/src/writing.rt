@@ -9,7 +9,7 @@ ghost use Rattle.dc_store.specs.Writes.{by_case, home, put_up, write_of};
 use crate::boxes::change_in;
 use crate::search::{home_in, look_in, open_holder_in};
 use crate::store::StoreError;
-use dc_item::{After, Effect, Item, Op};
+use dc_item::{After, Item, Op};
 use dc_layer::Layer;
 use dc_template::Kind;
 use dc_text::Name;
@@ -70,10 +70,6 @@ fn write_once(
     ensures refused { result ≡ Err StoreError.Refused → write_of (each state layers.old) places.now name.now kind op.now ≡ None }
     ensures unchanged { OnErr result (each state layers.new ≡ each state layers.old) }
 {
-    let effect = op.effect(look_in(layers, places, name))?;
-    if let Effect::Same = effect {
-        return Ok(());
-    }
     if let Some(place) = open_holder_in(layers, places, name) {
         change_in(layers, place, name, op)?;
         return Ok(());
