@@ -4,13 +4,14 @@ ghost use Rattle.std.specs.Option.{option_copied, option_map_or};
 ghost use Rattle.dc_question.specs.declared.errors.QuestionError.TheVariants.{NoQuestion};
 ghost use Rattle.dc_conf.specs.Plans.{IsOver};
 ghost use Rattle.dc_store.specs.Plans.{look};
+ghost use Rattle.dc_question.specs.Readings.{value_of as value_by};
 ghost use Rattle.dc_question.specs.Questions.{IsSetOver, question as question_of, template as template_of, exists as exists_of, kind as kind_of, can_change as can_change_of, value as value_of, field as field_of, expanded_field, choices as choices_of, flag as flag_of, read, read_template, Answers};
 
 use crate::choices::{ChoicePair, choice_pair};
 use crate::errors::QuestionError;
 use crate::fields::{field, localised};
 use crate::setting::Setting;
-use crate::values::{kind, value};
+use crate::values::{default_value, kind};
 use dc_conf::plans::Plan;
 use dc_item::Item;
 use dc_layer::Layer;
@@ -86,12 +87,18 @@ impl<'q> Questions<'q> {
     {
         match self.question(name) {
             None => Err(QuestionError::NoQuestion { name: name.copy()? }),
-            Some(item) => Ok(value(
-                self.alloc,
-                self.setting.lang.bytes(),
-                item,
-                self.template(item),
-            )?),
+            Some(item) => Ok(self.value_of(item)?),
+        }
+    }
+
+    // The value of a question that is there. Its template is looked for only where it has none of its own.
+    fn value_of(&self, item: &Item) -> Mem<Text>
+        requires { IsSetOver self.now.setting (length self.now.store.now.layers.items) }
+        ensures { IfOk result (λ value. value ≡ value_by self.now.setting.lang item.now (template_of (each (λ b. state (b.vtable, b.value)) self.now.store.now.layers.items) self.now.setting item.now)) }
+    {
+        match item.field(b"value") {
+            Some(value) => Text::from_bytes(self.alloc, value.bytes()),
+            None => default_value(self.alloc, self.setting.lang.bytes(), self.template(item)),
         }
     }
 

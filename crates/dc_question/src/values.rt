@@ -33,16 +33,23 @@ fn kind_of_item(template: &Item) -> Option<Kind>
 pub fn value(alloc: Global, lang: &[u8], question: &Item, template: Option<&Item>) -> Mem<Text>
     ensures { IfOk result (λ value. value ≡ value_of lang.now question.now (option_copied template.entry)) }
 {
-    if let Some(value) = question.field(b"value") {
-        return Text::from_bytes(alloc, value.bytes());
-    }
-    match template {
-        None => Ok(Text::new(alloc)),
-        Some(item) => default_value(alloc, lang, item),
+    match question.field(b"value") {
+        Some(value) => Text::from_bytes(alloc, value.bytes()),
+        None => default_value(alloc, lang, template),
     }
 }
 
-fn default_value(alloc: Global, lang: &[u8], template: &Item) -> Mem<Text>
+/// The value of a question with this template that has none of its own.
+pub fn default_value(alloc: Global, lang: &[u8], template: Option<&Item>) -> Mem<Text>
+    ensures { IfOk result (λ value. value ≡ unwrap_or (default_of lang.now (option_copied template.entry)) []) }
+{
+    match template {
+        None => Ok(Text::new(alloc)),
+        Some(item) => default_in(alloc, lang, item),
+    }
+}
+
+fn default_in(alloc: Global, lang: &[u8], template: &Item) -> Mem<Text>
     ensures { IfOk result (λ value. value ≡ unwrap_or (default_of lang.now (Some template.now)) []) }
 {
     let key = FieldKey::known(alloc, b"default")?;
