@@ -1,6 +1,6 @@
 // A layer in one file.
-ghost use Rattle.std.specs.Prelude.{◌≡◌, IfOk, OnOk, OnErr, false, map as each};
-ghost use Rattle.std.specs.Option.{option_map_or};
+ghost use Rattle.std.specs.Prelude.{◌≡◌, ◌&&◌, IfOk, OnOk, OnErr, false, is_some, map as each, not};
+ghost use Rattle.std.specs.Option.{option_copied, option_map_or};
 ghost use Rattle.std.specs.FinMap as map;
 ghost use Rattle.dc_item.specs.After.{after_at};
 ghost use Rattle.dc_item.specs.Item.{ItemParts};
@@ -86,6 +86,16 @@ pub(crate) fn is_put_op(op: &Op) -> bool
     ensures { result ≡ is_put op.now }
 {
     matches!(op, Op::Put(_))
+}
+
+// Whether there is no item to change, and the operation makes none.
+fn lacks_item(op: &Op, held: Option<&Item>) -> bool
+    ensures { result ≡ (not (is_some (option_copied held.entry)) && not (is_put op.now)) }
+{
+    match held {
+        Some(_) => false,
+        None => !is_put_op(op),
+    }
 }
 
 // The file that the table asks for.
@@ -186,10 +196,11 @@ impl Layer for FileLayer {
         if !self.writable() {
             return Err(LayerError::ReadOnly);
         }
-        if !self.has(name) && !is_put_op(op) {
+        let held = self.table.get(name.bytes());
+        if lacks_item(op, held) {
             return Err(LayerError::NotHere);
         }
-        match op.effect(self.table.get(name.bytes()))? {
+        match op.effect(held)? {
             Effect::Same => Ok(Taken::Same),
             Effect::Changed => {
                 change_touched(&mut self.table, &mut self.touched, name, op)?;
