@@ -1,6 +1,7 @@
 // Bytes that grow, seen as their list.
 ghost use Rattle.std.specs.Prelude.{◌≡◌, ◌∷◌, ◌++◌, ◌<◌, [], length, map, slice_set, OnOk, OnErr, IfOk};
 ghost use Rattle.dc_text.specs.Bytes.{capital, lower};
+ghost use Rattle.dc_text.specs.Texts.{bytes_in};
 
 use crate::bytes::upper;
 use crate::lists::Copied;
@@ -10,10 +11,31 @@ use std::alloc::Global;
 use std::marker::Model;
 
 // Where the bytes are: few of them, as most names and values have, in place.
-#[derive(Drop)]
 enum Kept {
     InPlace(Short),
     InVector(Vec<u8>),
+}
+
+// Written out, so that to let a text go is one step in what is proved of its users.
+impl Drop for Kept {
+    fn drop(self) {
+        match self {
+            Kept::InPlace(_) => {}
+            Kept::InVector(_) => {}
+        }
+    }
+}
+
+impl Kept {
+    // The bytes as a vector.
+    fn into_vec(self, alloc: Global) -> Mem<Vec<u8>>
+        ensures { IfOk result (λ bytes. bytes.items ≡ bytes_in self) }
+    {
+        match self {
+            Kept::InPlace(short) => Ok(short.bytes().to_vec(alloc)?),
+            Kept::InVector(bytes) => Ok(bytes),
+        }
+    }
 }
 
 /// Bytes, which need not be UTF-8. At most 30 of them take no memory.
@@ -94,10 +116,7 @@ impl Text {
         ensures { IfOk result (λ bytes. bytes.items ≡ self) }
     {
         let Text { alloc, kept } = self;
-        match kept {
-            Kept::InPlace(short) => Ok(short.bytes().to_vec(alloc)?),
-            Kept::InVector(bytes) => Ok(bytes),
-        }
+        kept.into_vec(alloc)
     }
 
     pub fn bytes(&self) -> &[u8]

@@ -2,7 +2,6 @@ use Rattle.std.proofs.Common.{ap, ◌∙◌}
 use Rattle.std.specs.FinMap as map
 use Rattle.dc_text.proofs.SmallMapLemmas.{set_at, insert_gap, is_sorted_put, from_sorted_put}
 use Rattle.dc_text.proofs.small_maps.SmallMap.insert.Goals as goal
-use Rattle.dc_text.proofs.small_maps.SmallMap.insert.Goals.{in-InVector-1, in-InPlace-1}
 
 -- the key was there, and its value is written over
 pub invariant_of-self : goal.invariant_of-self
@@ -13,14 +12,8 @@ invariant_of-self g c =
 pub returns-in-Ok-clause-ok : goal.returns-in-Ok-clause-ok
 returns-in-Ok-clause-ok g c =
     let written = set_at c.args.key c.args.value c.self.inside.entries.items c.in-Ok.place c.index_mut.result.now c.self.invariant (rw (← c.deref.ensures.value, ← c.bytes.ensures) c.in-Ok.ensures) c.index_mut.ensures.value in
-    let put = from_sorted_put c.args.key c.args.value c.self.inside.entries.items _ c.self.invariant written
-    ∙ ap (λ m. map.insert m c.args.key c.args.value) c.self.view_is in
-    elim c.match-key.branch [ in-InVector-1 w ↦ w.self-is ∙ put | in-InPlace-1 w ↦ w.self-is ∙ put ]
-
-pub invariant_of-self-in-Ok-2 : goal.invariant_of-self-in-Ok-2
-invariant_of-self-in-Ok-2 g c =
-    let written = set_at c.args.key c.args.value c.self.inside.entries.items c.in-Ok.place c.index_mut.result.now c.self.invariant (rw (← c.deref.ensures.value, ← c.bytes.ensures) c.in-Ok.ensures) c.index_mut.ensures.value in
-    is_sorted_put c.args.key c.args.value c.self.inside.entries.items _ c.self.invariant written
+    from_sorted_put c.args.key c.args.value c.self.inside.entries.items _ c.self.invariant written
+    ∙ ap (λ m. map.insert m c.args.key c.args.value) c.self.view_is
 
 -- the entry is put in the gap
 pub invariant_of-self-in-Err : goal.invariant_of-self-in-Err
