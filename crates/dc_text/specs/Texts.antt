@@ -1,4 +1,4 @@
--- Where a text keeps its bytes. No clause cites this module.
+-- Where a text keeps its bytes. No public clause cites this module.
 use Rattle.std.specs.Prelude.{ℕ, List}
 use Rattle.dc_text.specs.declared.texts.Kept.{Kept}
 use Rattle.dc_text.specs.declared.texts.Kept.TheVariants.{InPlace, InVector}
