@@ -1,16 +1,17 @@
 -- The places of databases without faults don't meet.
 use Rattle.std.proofs.Common.{◌≡◌, Bool, true, false, cond, not, ◌&&◌, List, [], ◌∷◌, ◌++◌, map as each, ℕ, Option, Some, None, refl, sym, ap, ◌∙◌, subst, append_assoc}
-use Rattle.std.specs.Prelude.{codes, ◌||◌}
+use Rattle.std.specs.Prelude.{codes, ◌||◌, is_some}
 use Rattle.std.specs.List.{AllByRecursion, filter, list_any}
 use Rattle.std.specs.Option.{option_map_or}
 use Rattle.std.proofs.lemmas.Bool.{not-false, not-true, and_parts}
-use Rattle.dc_conf.specs.declared.drivers.Driver.TheVariants.{File}
+use Rattle.dc_conf.specs.declared.drivers.Driver.{Driver}
+use Rattle.dc_conf.specs.declared.drivers.Driver.TheVariants.{File, DirTree, PackageDir, Stack}
 use Rattle.dc_conf.specs.declared.faults.ConfKind.TheVariants.{MissingField, SamePlace}
 use Rattle.dc_conf.specs.declared.fields.Field.{Field}
 use Rattle.dc_conf.specs.declared.spec.LayerSpec.{LayerSpec}
 use Rattle.dc_conf.specs.Stanzas.{Stanza, field_at, first_line}
 use Rattle.dc_conf.specs.Values.{rules_of}
-use Rattle.dc_conf.specs.ConfFaults.{along, fault_if, is_there, is_stack, lacks_field, driver_in, place_by, place_in, file_paths, paths_in, meet, share_place, value_at, database_faults, head_faults, second_pass}
+use Rattle.dc_conf.specs.ConfFaults.{along, fault_if, is_there, is_stack_driver, is_stack, lacks_field, driver_in, place_by, place_in, sort_in, place_of, paths_at, paths_in, meet, share_place, database_faults, head_faults, second_pass}
 use Rattle.dc_conf.specs.Configuration.{spec_of, configuration, places_meet, are_apart}
 use Rattle.dc_conf.proofs.CleanLemmas.{IsClean, no_fault, clean_database, driver_is}
 use Rattle.dc_conf.proofs.TestLemmas.{nil-append, neither, list_any-append}
@@ -31,22 +32,27 @@ pub there : (r : Option Field) → option_map_or (λ field. true) r false ≡ tr
 there None e = absurd (cc)
 there (Some field) e = (field, refl)
 
-has_place : (before : List Stanza) (s : Stanza) → IsClean before s → is_stack s ≡ false → (field : Field) × (field_at (codes "filename") s ≡ Some field)
-has_place before s clean off =
-    let lacks : lacks_field (rules_of (Some File)) s ≡ false =
-    subst (λ d. lacks_field (rules_of d) s ≡ false) (driver_is before s clean off) (no_fault (lacks_field (rules_of (driver_in s)) s) (first_line s) MissingField clean.lacks) in
-    there (field_at (codes "filename") s) (not-false (is_there (codes "filename") s) (neither (not (is_there (codes "filename") s)) false lacks).0)
+field_there : (key : List ℕ) (s : Stanza) → (not (is_there key s) || false) ≡ false → is_some (field_at key s) ≡ true
+field_there key s e = ap is_some (there (field_at key s) (not-false (is_there key s) (neither (not (is_there key s)) false e).0)).1
 
--- the paths that a database in a file uses are those of its place
+place_there : (s : Stanza) (d : Driver) → is_stack_driver (Some d) ≡ false → lacks_field (rules_of (Some d)) s ≡ false → is_some (place_by (Some d) s) ≡ true
+place_there s File off lacks = field_there (codes "filename") s lacks
+place_there s DirTree off lacks = field_there (codes "directory") s lacks
+place_there s PackageDir off lacks = field_there (codes "directory") s lacks
+place_there s Stack off lacks = absurd (cc)
+
+-- the paths of a database that is no stack are those of its place
 abbrev HasPaths : Stanza → Type 0
-HasPaths s = is_stack s ≡ false → paths_in s ≡ file_paths (value_at (codes "filename") s)
+HasPaths s = is_stack s ≡ false → paths_in s ≡ paths_at (sort_in s) (place_of s)
 
 has_paths : (before : List Stanza) (s : Stanza) → IsClean before s → HasPaths s
 has_paths before s clean off =
-    let place = has_place before s clean off in
-    ap (λ d. option_map_or (λ (field : Field). file_paths field.value) (place_by d s) []) (driver_is before s clean off)
-    ∙ ap (λ r. option_map_or (λ (field : Field). file_paths field.value) r []) place.1
-    ∙ sym (ap (λ r. file_paths (option_map_or (λ (field : Field). field.value) r [])) place.1)
+    let found = driver_is before s clean in
+    let lacks : lacks_field (rules_of (Some found.0)) s ≡ false =
+    subst (λ r. lacks_field (rules_of r) s ≡ false) found.1 (no_fault (lacks_field (rules_of (driver_in s)) s) (first_line s) MissingField clean.lacks) in
+    let placed : is_some (place_in s) ≡ true =
+    ap (λ r. is_some (place_by r s)) found.1 ∙ place_there s found.0 (sym (ap is_stack_driver found.1) ∙ off) lacks in
+    ap (λ b. cond b (paths_at (sort_in s) (place_of s)) []) placed
 
 any_none : {X : Type 0} (p : X → Bool) → ((x : X) → p x ≡ false) → (xs : List X) → list_any p xs ≡ false
 any_none p none [] = refl
@@ -55,7 +61,7 @@ any_none p none (x ∷ xs) = ap (λ t. t || list_any p xs) (none x) ∙ any_none
 -- one that is kept in no place meets none
 no_share : (before : List Stanza) (s : Stanza) → place_in s ≡ None → list_any (λ earlier. share_place earlier s) before ≡ false
 no_share before s none =
-    let nowhere : paths_in s ≡ [] = ap (λ r. option_map_or (λ (field : Field). file_paths field.value) r []) none in
+    let nowhere : paths_in s ≡ [] = ap (λ r. cond (is_some r) (paths_at (sort_in s) (place_of s)) []) none in
     any_none (λ earlier. share_place earlier s)
     (λ earlier. ap (λ (paths : List (List ℕ)). list_any (λ path. list_any (meet path) paths) (paths_in earlier)) nowhere ∙ any_none (λ path. false) (λ path. refl) (paths_in earlier))
     before

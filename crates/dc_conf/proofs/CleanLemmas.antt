@@ -7,15 +7,18 @@ use Rattle.std.specs.Str.{bytes_eq}
 use Rattle.std.proofs.lemmas.Bool.{not-false}
 use Rattle.std.proofs.lemmas.Slice.Eq.{bytes_eq-Decides}
 use Rattle.dc_conf.specs.declared.drivers.Driver.{Driver}
-use Rattle.dc_conf.specs.declared.drivers.Driver.TheVariants.{File, Stack}
+use Rattle.dc_conf.specs.declared.drivers.Driver.TheVariants.{File, DirTree, PackageDir, Stack}
 use Rattle.dc_conf.specs.declared.faults.Fault.{Fault}
 use Rattle.dc_conf.specs.declared.faults.ConfKind.{ConfKind}
 use Rattle.dc_conf.specs.declared.faults.ConfKind.TheVariants.{TooMany, NoName, NoDriver, UnknownDriver, MissingField, BadValue}
 use Rattle.dc_conf.specs.declared.fields.Field.{Field}
+use Rattle.dc_conf.specs.declared.spec.LayerSort.{LayerSort}
+use Rattle.dc_conf.specs.declared.spec.LayerSort.TheVariants as sort
 use Rattle.dc_conf.specs.Stanzas.{Stanza, field_at, first_line}
-use Rattle.dc_conf.specs.Values.{is_mode, driver_of, rules_of}
-use Rattle.dc_conf.specs.ConfFaults.{fault_if, along, missing, lacks_field, rules_in, is_bad, unknown_driver, bad_values, driver_in, is_stack_driver, is_stack, repeated_name, same_place, lone_faults, database_faults, head_faults, second_pass}
-use Rattle.dc_conf.specs.Machine.{IsModeField, HasMode, AreModes}
+use Rattle.dc_conf.specs.Values.{is_extension, is_mode, driver_of, rules_of}
+use Rattle.dc_conf.specs.Configuration.{spec_of, mode_by, extension_by, takes_extension, takes_mode, fits_sort}
+use Rattle.dc_conf.specs.ConfFaults.{fault_if, along, missing, lacks_field, rules_in, is_bad, unknown_driver, bad_values, driver_in, sort_by, sort_in, is_stack_driver, repeated_name, same_place, lone_faults, database_faults, head_faults, second_pass}
+use Rattle.dc_conf.specs.Machine.{TakesMode, HasMode, AreModes}
 use Rattle.dc_conf.proofs.TestLemmas.{nil-append, find_all, neither}
 
 pub no_fault : (b : Bool) (n : ℕ) (kind : ConfKind) → fault_if b n kind ≡ [] → b ≡ false
@@ -66,15 +69,8 @@ driver_by (Some field) n there known =
       | Some driver ↦ λ e. (driver, refl)
     ] known
 
-file_by : (r : Option Driver) (d : Driver) → r ≡ Some d → is_stack_driver r ≡ false → r ≡ Some File
-file_by r File is off = is
-file_by r Stack is off = absurd (let off : true ≡ false = sym (ap is_stack_driver is) ∙ off in cc)
-
--- one that is no stack is kept in a file
-pub driver_is : (before : List Stanza) (s : Stanza) → IsClean before s → is_stack s ≡ false → driver_in s ≡ Some File
-driver_is before s clean off =
-    let found = driver_by (field_at (codes "driver") s) (first_line s) clean.driven clean.known in
-    file_by (driver_in s) found.0 found.1 off
+pub driver_is : (before : List Stanza) (s : Stanza) → IsClean before s → (d : Driver) × (driver_in s ≡ Some d)
+driver_is before s clean = driver_by (field_at (codes "driver") s) (first_line s) clean.driven clean.known
 
 -- each of its fields takes its value
 fields_good : (is : Field → Bool) (s : Stanza) → flat_map (λ field. fault_if (is field) field.line BadValue) s ≡ [] → AllByRecursion (λ field. is field ≡ false) s
@@ -83,22 +79,70 @@ fields_good is (field ∷ s) e =
     let parts = nil-append (fault_if (is field) field.line BadValue) (flat_map (λ f. fault_if (is f) f.line BadValue) s) e in
     (no_fault (is field) field.line BadValue parts.0, fields_good is s parts.1)
 
-mode_good : (field : Field) → field.key ≡ codes "mode" → is_bad (rules_of (Some File)) field ≡ false → is_mode field.value ≡ true
-mode_good field key good =
-    let here : (not (is_mode field.value) || false) ≡ false =
-    subst (λ k. list_any (λ rule. bytes_eq rule.key k && not (rule.takes field.value)) (rules_of (Some File)) ≡ false) key good in
-    not-false (is_mode field.value) (neither (not (is_mode field.value)) false here).0
+-- the rules of the driver for the fields with this key take no value but these
+abbrev Take : Driver → List ℕ → (List ℕ → Bool) → Type 0
+Take d key takes = (value : List ℕ) → list_any (λ rule. bytes_eq rule.key key && not (rule.takes value)) (rules_of (Some d)) ≡ false → takes value ≡ true
+
+alone_takes : (b : Bool) → (not b || false) ≡ false → b ≡ true
+alone_takes b e = not-false b (neither (not b) false e).0
+
+-- so the field with the key, if it is there, has one of them
+value_is : (before : List Stanza) (s : Stanza) → IsClean before s → (d : Driver) → driver_in s ≡ Some d → (key : List ℕ) (takes : List ℕ → Bool) → Take d key takes
+    → option_map_or (λ field. takes field.value) (field_at key s) true ≡ true
+value_is before s clean d is key takes only =
+    let good : AllByRecursion (λ field. is_bad (rules_of (Some d)) field ≡ false) s =
+    subst (λ r. AllByRecursion (λ field. is_bad (rules_of r) field ≡ false) s) is (fields_good (is_bad (rules_in s)) s clean.values) in
+    elim (field_at key s) as (λ r. field_at key s ≡ r → option_map_or (λ field. takes field.value) r true ≡ true) [
+      | None ↦ λ e. refl
+      | Some field ↦ λ e.
+          let same : field.key ≡ key = (bytes_eq-Decides field.key key).0 (find_passes (λ f. bytes_eq f.key key) s field e) in
+          only field.value (subst (λ k. list_any (λ rule. bytes_eq rule.key k && not (rule.takes field.value)) (rules_of (Some d)) ≡ false) same
+          (find_all (λ f. is_bad (rules_of (Some d)) f ≡ false) (λ f. bytes_eq f.key key) s field good e))
+    ] refl
+
+mode_of : (before : List Stanza) (s : Stanza) → IsClean before s → (d : Driver) → driver_in s ≡ Some d → is_stack_driver (Some d) ≡ false
+    → TakesMode (sort_by (Some d)) s
+mode_of before s clean File is off = value_is before s clean File is (codes "mode") is_mode (λ value. alone_takes (is_mode value))
+mode_of before s clean DirTree is off = refl
+mode_of before s clean PackageDir is off = value_is before s clean PackageDir is (codes "mode") is_mode (λ value. alone_takes (is_mode value))
+mode_of before s clean Stack is off = absurd (cc)
 
 pub mode_is : (before : List Stanza) (s : Stanza) → IsClean before s → HasMode s
 mode_is before s clean off =
-    let good : AllByRecursion (λ field. is_bad (rules_of (Some File)) field ≡ false) s =
-    subst (λ d. AllByRecursion (λ field. is_bad (rules_of d) field ≡ false) s) (driver_is before s clean off) (fields_good (is_bad (rules_in s)) s clean.values) in
-    elim (field_at (codes "mode") s) as (λ r. field_at (codes "mode") s ≡ r → option_map_or (λ field. is_mode field.value) r true ≡ true) [
-      | None ↦ λ e. refl
-      | Some field ↦ λ e.
-          let key : field.key ≡ codes "mode" = (bytes_eq-Decides field.key (codes "mode")).0 (find_passes (λ f. bytes_eq f.key (codes "mode")) s field e) in
-          mode_good field key (find_all (λ f. is_bad (rules_of (Some File)) f ≡ false) (λ f. bytes_eq f.key (codes "mode")) s field good e)
-    ] refl
+    let found = driver_is before s clean in
+    subst (λ r. TakesMode (sort_by r) s) (sym found.1)
+    (mode_of before s clean found.0 found.1 (sym (ap is_stack_driver found.1) ∙ off))
+
+-- ---- what its sort takes
+
+-- a field's value, or another where it isn't there
+value_or : (p : List ℕ → Bool) (other : List ℕ) (r : Option Field) → p other ≡ true → option_map_or (λ field. p field.value) r true ≡ true
+    → p (option_map_or (λ field. field.value) r other) ≡ true
+value_or p other None default given = default
+value_or p other (Some field) default given = given
+
+extension_of : (before : List Stanza) (s : Stanza) → IsClean before s → (d : Driver) → driver_in s ≡ Some d
+    → takes_extension (sort_by (Some d)) (extension_by (sort_by (Some d)) s) ≡ true
+extension_of before s clean File is = refl
+extension_of before s clean DirTree is =
+    value_or is_extension (codes ".dat") (field_at (codes "extension") s) refl
+    (value_is before s clean DirTree is (codes "extension") is_extension (λ value. alone_takes (is_extension value)))
+extension_of before s clean PackageDir is =
+    value_or is_extension (codes ".dat") (field_at (codes "extension") s) refl
+    (value_is before s clean PackageDir is (codes "extension") is_extension (λ value. alone_takes (is_extension value)))
+extension_of before s clean Stack is = refl
+
+mode_fits : (sort : LayerSort) (s : Stanza) → takes_mode sort (mode_by sort s) ≡ true
+mode_fits sort.File s = refl
+mode_fits sort.Tree s = refl
+mode_fits sort.Pack s = refl
+
+pub sort_fits : (before : List Stanza) (s : Stanza) → IsClean before s → fits_sort (spec_of s) ≡ true
+sort_fits before s clean =
+    let found = driver_is before s clean in
+    let extension : takes_extension (sort_in s) (extension_by (sort_in s) s) ≡ true =
+    subst (λ r. takes_extension (sort_by r) (extension_by (sort_by r) s) ≡ true) (sym found.1) (extension_of before s clean found.0 found.1) in
+    ap (λ b. b && takes_mode (sort_in s) (mode_by (sort_in s) s)) extension ∙ mode_fits (sort_in s) s
 
 modes_along : (before ss : List Stanza) → along database_faults before ss ≡ [] → AllByRecursion HasMode ss
 modes_along before [] e = tt

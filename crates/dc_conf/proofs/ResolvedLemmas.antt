@@ -1,5 +1,5 @@
 -- What the databases and plans that names reach are like.
-use Rattle.std.proofs.Common.{◌≡◌, ℕ, ◌+◌, ◌<◌, Bool, true, false, cond, not, ◌&&◌, List, [], ◌∷◌, ◌++◌, length, map as each, Option, Some, None, refl, sym, ap, ◌∙◌, subst, append_assoc, arith, nat_eq}
+use Rattle.std.proofs.Common.{◌≡◌, ℕ, ◌+◌, ◌<◌, Bool, true, false, cond, not, ◌&&◌, List, [], ◌∷◌, ◌++◌, length, map as each, Some, None, refl, sym, ap, ◌∙◌, subst, append_assoc, arith, nat_eq}
 use Rattle.std.specs.Prelude.{◌||◌}
 use Rattle.std.specs.List.{AllByRecursion, filter, find, list_all, list_any}
 use Rattle.std.specs.Option.{option_map_or}
@@ -8,13 +8,12 @@ use Rattle.std.proofs.lemmas.Bool.{and_parts, not-true, eqb-true}
 use Rattle.std.proofs.lemmas.List.Elements.{All-from_recursion}
 use Rattle.std.proofs.lemmas.Slice.Eq.{bytes_eq-Decides}
 use Rattle.dc_conf.specs.declared.plans.Base.TheVariants.{Leaf, Stack}
-use Rattle.dc_conf.specs.declared.plans.Plan.{Plan}
 use Rattle.dc_conf.specs.declared.spec.LayerSpec.{LayerSpec}
 use Rattle.dc_conf.specs.declared.spec.StackSpec.{StackSpec}
 use Rattle.dc_conf.specs.ConfFaults.{repeats, share}
-use Rattle.dc_conf.specs.Configuration.{Configuration, AreDisjoint, are_apart, have_names_apart, holders_of, is_among, is_sound, is_spec_of, place_in, base_of, plan_of, reached}
+use Rattle.dc_conf.specs.Configuration.{Configuration, AreDisjoint, are_apart, have_names_apart, fits_sort, holders_of, is_among, is_sound, is_spec_of, place_in, base_of, plan_of, reached}
 use Rattle.dc_conf.specs.Plans.{IsOver, places, are_disjoint}
-use Rattle.dc_conf.proofs.ApartLemmas.{any_kept, apart_kept}
+use Rattle.dc_conf.proofs.ApartLemmas.{apart_kept}
 use Rattle.dc_conf.proofs.TestLemmas.{all_each, false_unless, list_any-append, neither}
 
 -- ---- what a configuration keeps
@@ -22,6 +21,7 @@ use Rattle.dc_conf.proofs.TestLemmas.{all_each, false_unless, list_any-append, n
 record IsKept (conf : Configuration) : Type 0 where
   places : are_apart conf.specs ≡ true
   names : have_names_apart conf.specs ≡ true
+  sorts : list_all fits_sort conf.specs ≡ true
   held : list_all (λ name. list_all (is_spec_of conf.specs) (holders_of conf name)) conf.databases ≡ true
   alone : share (holders_of conf conf.templates) (holders_of conf conf.config) ≡ false
 
@@ -29,10 +29,12 @@ kept : (conf : Configuration) → is_sound conf ≡ true → IsKept conf
 kept conf sound =
     let held : Bool = list_all (λ name. list_all (is_spec_of conf.specs) (holders_of conf name)) conf.databases in
     let shared : Bool = share (holders_of conf conf.templates) (holders_of conf conf.config) in
-    let one = and_parts (are_apart conf.specs) (have_names_apart conf.specs && (held && not shared)) sound in
-    let two = and_parts (have_names_apart conf.specs) (held && not shared) one.1 in
-    let three = and_parts held (not shared) two.1 in
-    record { places = one.0; names = two.0; held = three.0; alone = not-true shared three.1 }
+    let sorts : Bool = list_all fits_sort conf.specs in
+    let one = and_parts (are_apart conf.specs) (have_names_apart conf.specs && (sorts && (held && not shared))) sound in
+    let two = and_parts (have_names_apart conf.specs) (sorts && (held && not shared)) one.1 in
+    let three = and_parts sorts (held && not shared) two.1 in
+    let four = and_parts held (not shared) three.1 in
+    record { places = one.0; names = two.0; sorts = three.0; held = four.0; alone = not-true shared four.1 }
 
 -- ---- some of the databases
 
@@ -54,6 +56,16 @@ repeats_kept q (spec ∷ specs) e =
     let others = repeats_kept q specs both.1 in
     elim (q spec) as (λ t. repeats (each (λ spec. spec.name) (cond t (spec ∷ filter q specs) (filter q specs))) ≡ false) [
       | true ↦ ap (λ t. t || repeats (each (λ spec. spec.name) (filter q specs))) (names_kept q specs spec.name both.0) ∙ others
+      | false ↦ others
+    ]
+
+all_kept : (p q : LayerSpec → Bool) (specs : List LayerSpec) → list_all p specs ≡ true → list_all p (filter q specs) ≡ true
+all_kept p q [] e = refl
+all_kept p q (spec ∷ specs) e =
+    let both = and_parts (p spec) (list_all p specs) e in
+    let others = all_kept p q specs both.1 in
+    elim (q spec) as (λ t. list_all p (cond t (spec ∷ filter q specs) (filter q specs)) ≡ true) [
+      | true ↦ ap (λ t. t && list_all p (filter q specs)) both.0 ∙ others
       | false ↦ others
     ]
 
@@ -242,6 +254,9 @@ places_apart conf roots sound = apart_kept (λ spec. reaches conf roots spec.nam
 pub names_apart : (conf : Configuration) (roots : List (List ℕ)) → is_sound conf ≡ true → have_names_apart (reached conf roots) ≡ true
 names_apart conf roots sound =
     ap not (repeats_kept (λ spec. reaches conf roots spec.name) conf.specs (not-true (repeats (each (λ spec. spec.name) conf.specs)) (kept conf sound).names))
+
+pub sorts_fit : (conf : Configuration) (roots : List (List ℕ)) → is_sound conf ≡ true → list_all fits_sort (reached conf roots) ≡ true
+sorts_fit conf roots sound = all_kept fits_sort (λ spec. reaches conf roots spec.name) conf.specs (kept conf sound).sorts
 
 pub all_over : (conf : Configuration) (roots : List (List ℕ)) → is_sound conf ≡ true → Known conf roots
     → AllByRecursion (λ plan. IsOver plan (length (reached conf roots))) (each (plan_of conf (reached conf roots)) roots)

@@ -13,8 +13,8 @@ use Rattle.dc_conf.specs.declared.spec.StackSpec.{StackSpec}
 use Rattle.dc_conf.specs.Stanzas.{Stanza, field_at, first_line}
 use Rattle.dc_conf.specs.Values.{names_in}
 use Rattle.dc_conf.specs.ConfFaults.{along, fault_if, missing, is_there, has_name, is_named, is_stack, members, value_at, repeats, share, stack_named, reached_by, names_faults, stack_faults, unknown_database, shared_database, database_faults, head_faults, second_pass, third_pass, fourth_pass}
-use Rattle.dc_conf.specs.Configuration.{spec_of, stack_of, configuration, holders_of, is_spec_of, have_names_apart, are_apart, is_sound}
-use Rattle.dc_conf.proofs.CleanLemmas.{IsClean, no_fault, find_passes}
+use Rattle.dc_conf.specs.Configuration.{spec_of, stack_of, configuration, holders_of, is_spec_of, have_names_apart, are_apart, fits_sort, is_sound}
+use Rattle.dc_conf.proofs.CleanLemmas.{IsClean, no_fault, find_passes, sort_fits}
 use Rattle.dc_conf.proofs.ApartLemmas.{there, Runs, runs_on, databases_apart}
 use Rattle.dc_conf.proofs.TestLemmas.{nil-append, neither, list_any-append, find_all}
 
@@ -82,6 +82,18 @@ repeats_kept q (s ∷ ss) e =
     elim (q s) as (λ t. repeats (each (λ spec. spec.name) (each spec_of (cond t (s ∷ filter q ss) (filter q ss)))) ≡ false) [
       | true ↦ ap (λ t. t || repeats (each (λ spec. spec.name) (each spec_of (filter q ss)))) (any_name_kept (bytes_eq (name s)) q ss both.0) ∙ others
       | false ↦ others
+    ]
+
+-- ---- sorts
+
+all_fit : (before ss : List Stanza) → Runs before ss → list_all fits_sort (each spec_of (filter (λ stanza. not (is_stack stanza)) ss)) ≡ true
+all_fit before [] run = refl
+all_fit before (s ∷ ss) run =
+    let on = runs_on before ss s run in
+    let others = all_fit (before ++ s ∷ []) ss on.1 in
+    elim (is_stack s) as (λ b. list_all fits_sort (each spec_of (cond (not b) (s ∷ filter (λ stanza. not (is_stack stanza)) ss) (filter (λ stanza. not (is_stack stanza)) ss))) ≡ true) [
+      | true ↦ others
+      | false ↦ ap (λ t. t && list_all fits_sort (each spec_of (filter (λ stanza. not (is_stack stanza)) ss))) (sort_fits before s on.0) ∙ others
     ]
 
 -- ---- what a name reaches
@@ -230,8 +242,8 @@ not_shared head ss has e =
 
 -- ---- all of it
 
-four : (a b c d : Bool) → a ≡ true → b ≡ true → c ≡ true → d ≡ false → (a && (b && (c && not d))) ≡ true
-four a b c d p q r s = λ i. p i && (q i && (r i && not (s i)))
+five : (a b c d e : Bool) → a ≡ true → b ≡ true → c ≡ true → d ≡ true → e ≡ false → (a && (b && (c && (d && not e)))) ≡ true
+five a b c d e p q r s t = λ i. p i && (q i && (r i && (s i && not (t i))))
 
 absent : second_pass [] ≡ [] → ⊥
 absent e = cc
@@ -243,11 +255,12 @@ sound (head ∷ ss) second third fourth =
     let named : AllByRecursion HasName ss = all_named [] ss parts.1 in
     let stacks = nil-append (unknown_database (codes "config") head ss ++ unknown_database (codes "templates") head ss) (flat_map (stack_faults ss) ss) third in
     let head_is = nil-append (missing (codes "config") head NoConfig) (missing (codes "templates") head NoTemplates) parts.0 in
-    four (are_apart (configuration (head ∷ ss)).specs) (have_names_apart (configuration (head ∷ ss)).specs)
+    five (are_apart (configuration (head ∷ ss)).specs) (have_names_apart (configuration (head ∷ ss)).specs) (list_all fits_sort (configuration (head ∷ ss)).specs)
     (list_all (λ n. list_all (specs_in ss) (holders_of (configuration (head ∷ ss)) n)) (each name ss))
     (share (holders_of (configuration (head ∷ ss)) (value_at (codes "templates") head)) (holders_of (configuration (head ∷ ss)) (value_at (codes "config") head)))
     (databases_apart head ss second)
     (ap not (repeats_kept (λ stanza. not (is_stack stanza)) ss (none_repeats [] ss parts.1)))
+    (all_fit [] ss parts.1)
     (all_held head ss ss named (no_faults ss ss stacks.1) (among [] ss named))
     ((λ i. share (holders_are head ss (value_at (codes "templates") head) named i) (holders_are head ss (value_at (codes "config") head) named i))
     ∙ not_shared head ss head_is.1 fourth)

@@ -20,6 +20,10 @@ pub list_apart : {X : Type 0} (xs : List X) (x : X) → 1 ≤ length xs → x �
 list_apart [] x h e = absurd (omega arith)
 list_apart (y ∷ xs) x h e = λ i. sym e i ∷ sym (between_to_end (y ∷ xs) 1 (length (y ∷ xs)) (le_refl _)) i
 
+-- the first element passes
+pub any_found : {X : Type 0} (p : X → Bool) (xs tail : List X) (x : X) (r : Bool) → xs ≡ x ∷ tail → p x ≡ true → list_any p xs ≡ r → true ≡ r
+any_found p xs tail x r whole is so_far = sym (ap (λ t. t || list_any p tail) is) ∙ sym (ap (list_any p) whole) ∙ so_far
+
 -- the first element doesn't pass
 pub any_turn : {X : Type 0} (p : X → Bool) (xs tail : List X) (x : X) (r : Bool) → xs ≡ x ∷ tail → p x ≡ false → list_any p xs ≡ r → list_any p tail ≡ r
 any_turn p xs tail x r whole none so_far = sym (ap (λ t. t || list_any p tail) none) ∙ sym (ap (list_any p) whole) ∙ so_far

@@ -1,10 +1,19 @@
--- Configurations whose faults are worked out.
-use Rattle.std.specs.Prelude.{◌≡◌, [], ◌∷◌, codes}
+-- Configurations whose faults, or databases, are worked out.
+use Rattle.std.specs.Prelude.{◌≡◌, true, false, ℕ, List, [], ◌∷◌, None, map as each, codes}
 use Rattle.dc_text.specs.Lines.{text_of}
+use Rattle.dc_conf.specs.Stanzas.{stanzas, fields_of}
 use Rattle.dc_conf.specs.ConfFaults.{fault, passes}
+use Rattle.dc_conf.specs.Configuration.{configuration}
+use Rattle.dc_conf.specs.declared.spec.LayerSort.TheVariants.{Tree}
+use Rattle.dc_conf.specs.declared.spec.LayerSpec.{LayerSpec}
 use Rattle.dc_conf.specs.declared.faults.ConfKind.TheVariants.{NoColon, Twice, NoConfig, NoTemplates, NoName, UnknownDriver, MissingField, BadValue, SamePlace, UnknownDatabase, SharedDatabase}
 
--- no text at all; no Templates; a driver that isn't known; one database for both
+-- the databases that a text says, where no pass has a fault
+abbrev pub databases_in : List ℕ → List LayerSpec
+databases_in text = (configuration (each fields_of (stanzas text))).specs
+
+-- no text at all; no Templates; a driver that isn't known; one database for both; a file below a folder; a mode that one folder
+-- takes for its own and another ignores; values that folders don't take; the database in a folder
 pub record Examples : Type 0 where
   pub empty : passes [] ≡ [] ∷ (fault 1 NoConfig ∷ fault 1 NoTemplates ∷ []) ∷ [] ∷ [] ∷ []
   pub alone : passes (codes "Config: a") ≡ [] ∷ (fault 1 NoTemplates ∷ []) ∷ (fault 1 UnknownDatabase ∷ []) ∷ [] ∷ []
@@ -19,3 +28,27 @@ pub record Examples : Type 0 where
   pub below : passes (text_of (codes "Config: t" ∷ codes "Templates: t" ∷ [] ∷ codes "Name: t" ∷ codes "Driver: File" ∷ codes "Filename: a" ∷ []
       ∷ codes "Name: t" ∷ codes "Driver: File" ∷ codes "Filename: a-old/b" ∷ []))
       ≡ [] ∷ (fault 8 Twice ∷ fault 10 SamePlace ∷ []) ∷ [] ∷ (fault 2 SharedDatabase ∷ []) ∷ []
+  pub folder : passes (text_of (codes "Config: t" ∷ codes "Templates: u" ∷ [] ∷ codes "Name: t" ∷ codes "Driver: DirTree" ∷ codes "Directory: a/" ∷ []
+      ∷ codes "Name: u" ∷ codes "Driver: File" ∷ codes "Filename: a/b" ∷ []))
+      ≡ [] ∷ (fault 10 SamePlace ∷ []) ∷ [] ∷ [] ∷ []
+  pub modes : passes (text_of (codes "Config: t" ∷ codes "Templates: u" ∷ [] ∷ codes "Name: t" ∷ codes "Driver: dirtree" ∷ codes "Directory: a" ∷ codes "Mode: 888" ∷ []
+      ∷ codes "Name: u" ∷ codes "Driver: PackageDir" ∷ codes "Directory: b" ∷ codes "Mode: 888" ∷ codes "Backup: x" ∷ []))
+      ≡ [] ∷ (fault 12 BadValue ∷ []) ∷ [] ∷ [] ∷ []
+  pub values : passes (text_of (codes "Config: t" ∷ codes "Templates: u" ∷ [] ∷ codes "Name: t" ∷ codes "Driver: DirTree" ∷ codes "Directory: /" ∷ []
+      ∷ codes "Name: u" ∷ codes "Driver: PackageDir" ∷ codes "Extension: dat" ∷ []))
+      ≡ [] ∷ (fault 6 BadValue ∷ fault 8 MissingField ∷ fault 10 BadValue ∷ []) ∷ [] ∷ [] ∷ []
+  pub tree : databases_in (text_of (codes "Config: t" ∷ codes "Templates: u" ∷ [] ∷ codes "Name: t" ∷ codes "Driver: DirTree" ∷ codes "Directory: a/" ∷ codes "Mode: 644" ∷ []))
+      ≡ record {
+        name = codes "t";
+        sort = Tree;
+        place = codes "a";
+        extension = codes ".dat";
+        mode = 384;
+        backup = false;
+        readonly = false;
+        required = true;
+        accept_name = None;
+        reject_name = None;
+        accept_type = None;
+        reject_type = None;
+      } ∷ []

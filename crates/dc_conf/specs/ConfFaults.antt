@@ -5,13 +5,15 @@ use Rattle.std.specs.Option.{option_map_or}
 use Rattle.std.specs.List.{list_any, find, flat_map, AllByRecursion}
 use Rattle.std.specs.Str.{bytes_eq}
 use Rattle.dc_conf.specs.declared.drivers.Driver.{Driver}
-use Rattle.dc_conf.specs.declared.drivers.Driver.TheVariants.{File, Stack}
+use Rattle.dc_conf.specs.declared.drivers.Driver.TheVariants.{File, DirTree, PackageDir, Stack}
 use Rattle.dc_conf.specs.declared.faults.ConfKind.{ConfKind}
 use Rattle.dc_conf.specs.declared.faults.ConfKind.TheVariants.{NoColon, Twice, TooMany, NoConfig, NoTemplates, NoName, NoDriver, UnknownDriver, MissingField, BadValue, SamePlace, UnknownDatabase, Nested, SharedDatabase}
 use Rattle.dc_conf.specs.declared.faults.Fault.{Fault}
 use Rattle.dc_conf.specs.declared.fields.Field.{Field}
+use Rattle.dc_conf.specs.declared.spec.LayerSort.{LayerSort}
+use Rattle.dc_conf.specs.declared.spec.LayerSort.TheVariants as sort
 use Rattle.dc_conf.specs.Stanzas.{Line, Stanza, stanzas, has_colon, field_in, fields_of, field_at, first_line}
-use Rattle.dc_conf.specs.Values.{FieldRule, rules_of, driver_of, names_in}
+use Rattle.dc_conf.specs.Values.{FieldRule, rules_of, driver_of, names_in, without_last_slash}
 
 abbrev pub fault : ℕ → ConfKind → Fault
 fault line kind = record { line = line; kind = kind }
@@ -87,20 +89,42 @@ repeated_name before stanza = at_field (codes "name") stanza (λ field. is_named
 
 -- the field that says where a database is kept, if its driver keeps one
 abbrev pub place_by : Option Driver → Stanza → Option Field
-place_by None stanza = None
 place_by (Some File) stanza = field_at (codes "filename") stanza
-place_by (Some Stack) stanza = None
+place_by (Some DirTree) stanza = field_at (codes "directory") stanza
+place_by (Some PackageDir) stanza = field_at (codes "directory") stanza
+place_by _ stanza = None
 
 abbrev pub place_in : Stanza → Option Field
 place_in stanza = place_by (driver_in stanza) stanza
 
--- the paths of a database in one file
-abbrev pub file_paths : List ℕ → List (List ℕ)
-file_paths place = place ∷ (place ++ codes "-new") ∷ (place ++ codes "-old") ∷ []
+-- how a database that holds items itself is kept, by its driver
+abbrev pub sort_by : Option Driver → LayerSort
+sort_by (Some DirTree) = sort.Tree
+sort_by (Some PackageDir) = sort.Pack
+sort_by _ = sort.File
 
--- the paths of a database, none where it isn't kept in a place
+abbrev pub sort_in : Stanza → LayerSort
+sort_in stanza = sort_by (driver_in stanza)
+
+-- the path that a value says for a database of this sort: that of a folder is without one slash at the end
+abbrev pub place_at : LayerSort → List ℕ → List ℕ
+place_at sort.File value = value
+place_at sort.Tree value = without_last_slash value
+place_at sort.Pack value = without_last_slash value
+
+-- the paths at which a database of this sort is kept
+abbrev pub paths_at : LayerSort → List ℕ → List (List ℕ)
+paths_at sort.File place = place ∷ (place ++ codes "-new") ∷ (place ++ codes "-old") ∷ []
+paths_at sort.Tree place = place ∷ []
+paths_at sort.Pack place = place ∷ []
+
+-- the path at which a database is kept, empty where it isn't kept in a place
+abbrev pub place_of : Stanza → List ℕ
+place_of stanza = option_map_or (λ field. place_at (sort_in stanza) field.value) (place_in stanza) []
+
+-- its paths, none where it isn't kept in a place
 abbrev pub paths_in : Stanza → List (List ℕ)
-paths_in stanza = option_map_or (λ field. file_paths field.value) (place_in stanza) []
+paths_in stanza = if is_some (place_in stanza) then paths_at (sort_in stanza) (place_of stanza) else []
 
 -- the second text begins with the first
 abbrev pub is_front : List ℕ → List ℕ → Bool
@@ -154,9 +178,8 @@ abbrev pub value_at : List ℕ → Stanza → List ℕ
 value_at key stanza = option_map_or (λ field. field.value) (field_at key stanza) []
 
 abbrev pub is_stack_driver : Option Driver → Bool
-is_stack_driver None = false
-is_stack_driver (Some File) = false
 is_stack_driver (Some Stack) = true
+is_stack_driver _ = false
 
 abbrev pub is_stack : Stanza → Bool
 is_stack stanza = is_stack_driver (driver_in stanza)

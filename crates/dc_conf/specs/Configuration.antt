@@ -1,10 +1,11 @@
 -- What a configuration is, and which databases its names reach.
-use Rattle.std.specs.Prelude.{◌≡◌, ℕ, Bool, true, false, not, ◌&&◌, List, [], ◌∷◌, ◌++◌, Option, None, map as each, length, codes, Result, Ok, Err, ⊤}
+use Rattle.std.specs.Prelude.{◌≡◌, ℕ, Bool, true, false, not, ◌&&◌, List, [], ◌∷◌, ◌++◌, Option, None, map as each, length, codes, ◌==◌, Result, Ok, Err, ⊤}
 use Rattle.std.specs.Option.{option_map, option_map_or}
 use Rattle.std.specs.List.{list_all, list_any, filter, find, position_or_len, AllByRecursion}
 use Rattle.std.specs.Str.{bytes_eq}
 use Rattle.dc_conf.specs.declared.faults.ConfError.{ConfError}
 use Rattle.dc_conf.specs.declared.faults.ConfError.TheVariants as error
+use Rattle.dc_conf.specs.declared.fields.Field.{Field}
 use Rattle.dc_conf.specs.declared.plans.Base.{Base}
 use Rattle.dc_conf.specs.declared.plans.Base.TheVariants as base
 use Rattle.dc_conf.specs.declared.plans.Plan.{Plan}
@@ -12,13 +13,15 @@ use Rattle.dc_conf.specs.declared.plans.ResolveError.{ResolveError}
 use Rattle.dc_conf.specs.declared.plans.ResolveError.TheVariants as resolve
 use Rattle.dc_conf.specs.declared.plans.Resolved.{Resolved}
 use Rattle.dc_conf.specs.declared.spec.LayerSort.{LayerSort}
-use Rattle.dc_conf.specs.declared.spec.LayerSort.TheVariants.{File, Tree, Pack}
+use Rattle.dc_conf.specs.declared.spec.LayerSort.TheVariants.{File, Tree}
 use Rattle.dc_conf.specs.declared.spec.LayerSpec.{LayerSpec}
 use Rattle.dc_conf.specs.declared.spec.StackSpec.{StackSpec}
+use Rattle.dc_text.specs.Bytes.{is_nil}
 use Rattle.dc_conf.specs.Plans.{are_disjoint}
 use Rattle.dc_conf.specs.Stanzas.{Stanza, stanzas, fields_of, field_at}
-use Rattle.dc_conf.specs.Values.{octal, is_true}
-use Rattle.dc_conf.specs.ConfFaults.{fault, passes, Decides, value_at, is_stack, members, repeats, share, file_paths, meet}
+use Rattle.dc_conf.specs.Values.{octal, is_true, is_extension}
+use Rattle.dc_conf.specs.ConfFaults.{fault, passes, Decides, value_at, is_stack, members, repeats, share, sort_in, place_of, meet}
+pub use Rattle.dc_conf.specs.ConfFaults.{paths_at}
 
 -- a configuration: the names of the databases of questions and of templates, the words for the frontend and the priority, the
 -- names of all databases in the order of the file, those that hold items themselves, and the stacks
@@ -38,19 +41,34 @@ text_at key stanza = option_map (λ field. field.value) (field_at key stanza)
 abbrev pub truth_at : List ℕ → Stanza → Bool → Bool
 truth_at key stanza default = option_map_or (λ field. is_true field.value) (field_at key stanza) default
 
--- the permission bits that a field says, 600 where it isn't there
-abbrev pub mode_at : List ℕ → Stanza → ℕ
-mode_at key stanza = option_map_or (λ field. octal field.value) (field_at key stanza) 384
+-- what the names of the files of a database of this sort end with: in a folder with `.dat`, unless its stanza says otherwise
+abbrev pub extension_by : LayerSort → Stanza → List ℕ
+extension_by File stanza = []
+extension_by _ stanza = option_map_or (λ field. field.value) (field_at (codes "extension") stanza) (codes ".dat")
 
--- the database that the stanza of a file without faults is
+-- the field that says the permission bits of such a database: of a tree none does
+abbrev pub mode_field : LayerSort → Stanza → Option Field
+mode_field Tree stanza = None
+mode_field _ stanza = field_at (codes "mode") stanza
+
+-- the permission bits, 600 where no field says them
+abbrev pub mode_by : LayerSort → Stanza → ℕ
+mode_by sort stanza = option_map_or (λ field. octal field.value) (mode_field sort stanza) 384
+
+-- whether its old texts are kept, which only those of a file are
+abbrev pub backup_by : LayerSort → Stanza → Bool
+backup_by File stanza = truth_at (codes "backup") stanza true
+backup_by _ stanza = false
+
+-- the database that a stanza without faults is, where it is no stack
 abbrev pub spec_of : Stanza → LayerSpec
 spec_of stanza = record {
   name = value_at (codes "name") stanza;
-  sort = File;
-  place = value_at (codes "filename") stanza;
-  extension = [];
-  mode = mode_at (codes "mode") stanza;
-  backup = truth_at (codes "backup") stanza true;
+  sort = sort_in stanza;
+  place = place_of stanza;
+  extension = extension_by (sort_in stanza) stanza;
+  mode = mode_by (sort_in stanza) stanza;
+  backup = backup_by (sort_in stanza) stanza;
   readonly = truth_at (codes "readonly") stanza false;
   required = truth_at (codes "required") stanza true;
   accept_name = text_at (codes "accept-name") stanza;
@@ -82,12 +100,6 @@ IsAnswer text (Err (error.Refused line kind)) = Decides (passes text) (fault lin
 IsAnswer text (Err error.OutOfMemory) = ⊤
 
 -- ---- where the databases are kept
-
--- the paths at which a database of this sort is kept
-abbrev pub paths_at : LayerSort → List ℕ → List (List ℕ)
-paths_at File place = file_paths place
-paths_at Tree place = place ∷ []
-paths_at Pack place = place ∷ []
 
 -- some path of the one meets some path of the other
 abbrev pub places_meet : LayerSpec → LayerSpec → Bool
@@ -153,13 +165,27 @@ have_names_apart specs = not (repeats (each (λ spec. spec.name) specs))
 abbrev pub is_spec_of : List LayerSpec → List ℕ → Bool
 is_spec_of specs name = list_any (λ spec. bytes_eq spec.name name) specs
 
--- What each configuration keeps: places and names are apart, each database is held by some that hold items themselves, and those of
--- questions and of templates share none.
+-- the names of the files of a database of this sort may end with this: with an extension in a folder, and else with nothing
+abbrev pub takes_extension : LayerSort → List ℕ → Bool
+takes_extension File extension = is_nil extension
+takes_extension _ extension = is_extension extension
+
+-- its files may have these permission bits: those of a tree have 600 alone
+abbrev pub takes_mode : LayerSort → ℕ → Bool
+takes_mode Tree mode = mode == 384
+takes_mode _ mode = true
+
+-- the extension and the permission bits of a database are such as its sort takes
+abbrev pub fits_sort : LayerSpec → Bool
+fits_sort spec = takes_extension spec.sort spec.extension && takes_mode spec.sort spec.mode
+
+-- What each configuration keeps: places and names are apart, each database fits its sort and is held by some that hold items
+-- themselves, and those of questions and of templates share none.
 abbrev pub is_sound : Configuration → Bool
 is_sound conf =
-    are_apart conf.specs && (have_names_apart conf.specs
+    are_apart conf.specs && (have_names_apart conf.specs && (list_all fits_sort conf.specs
     && (list_all (λ name. list_all (is_spec_of conf.specs) (holders_of conf name)) conf.databases
-    && not (share (holders_of conf conf.templates) (holders_of conf conf.config))))
+    && not (share (holders_of conf conf.templates) (holders_of conf conf.config)))))
 
 -- the plans of these two share no database
 abbrev pub AreDisjoint : List Plan → Type 0

@@ -1,6 +1,6 @@
 -- What the reader does, as functions: with one line after another, with the faults of stanzas, and with names. Only functions
 -- that are not public, and the proofs, speak of them.
-use Rattle.std.specs.Prelude.{◌≡◌, ◌≢◌, ◌≤◌, ℕ, ◌+◌, ⊤, true, false, nat_le, List, [], ◌∷◌, ◌++◌, Option, Some, None, Result, Ok, Err, codes, if◌then◌else◌}
+use Rattle.std.specs.Prelude.{◌≡◌, ◌≢◌, ◌≤◌, ℕ, ◌+◌, ⊤, true, false, nat_le, List, [], ◌∷◌, ◌++◌, Option, Some, None, Result, Ok, Err, if◌then◌else◌}
 use Rattle.std.specs.List.{AllByRecursion}
 use Rattle.std.specs.Option.{option_map_or}
 use Rattle.std.specs.FinMap as map
@@ -12,10 +12,11 @@ use Rattle.dc_conf.specs.declared.faults.ConfError.{ConfError}
 use Rattle.dc_conf.specs.declared.faults.ConfError.TheVariants.{Refused, OutOfMemory}
 use Rattle.dc_conf.specs.declared.fields.Field.{Field}
 use Rattle.dc_conf.specs.declared.reading.Gathered.{Gathered}
-use Rattle.dc_conf.specs.Stanzas.{Line, Stanza, numbered, is_comment, has_colon, field_in, field_at}
+use Rattle.dc_conf.specs.declared.spec.LayerSort.{LayerSort}
+use Rattle.dc_conf.specs.Stanzas.{Line, Stanza, numbered, is_comment, has_colon, field_in}
 use Rattle.dc_conf.specs.Values.{is_mode}
-use Rattle.dc_conf.specs.Configuration.{is_among}
-use Rattle.dc_conf.specs.ConfFaults.{fault, is_stack, second_pass, third_pass, fourth_pass}
+use Rattle.dc_conf.specs.Configuration.{is_among, mode_field}
+use Rattle.dc_conf.specs.ConfFaults.{fault, is_stack, sort_in, second_pass, third_pass, fourth_pass}
 
 -- ---- the least fault
 
@@ -102,13 +103,13 @@ Rise low (stanza ∷ stanzas) = (high : ℕ) × (low ≤ high) × IsBetween low 
 
 -- ---- what the values of stanzas without faults are
 
--- the mode, if it is there, is one
-abbrev pub IsModeField : Stanza → Type 0
-IsModeField stanza = option_map_or (λ field. is_mode field.value) (field_at (codes "mode") stanza) true ≡ true
+-- the mode that a database of this sort takes, if it is there, is one
+abbrev pub TakesMode : LayerSort → Stanza → Type 0
+TakesMode sort stanza = option_map_or (λ field. is_mode field.value) (mode_field sort stanza) true ≡ true
 
 -- so it is in a database that is no stack
 abbrev pub HasMode : Stanza → Type 0
-HasMode stanza = is_stack stanza ≡ false → IsModeField stanza
+HasMode stanza = is_stack stanza ≡ false → TakesMode (sort_in stanza) stanza
 
 -- and in each of the databases
 abbrev pub AreModes : List Stanza → Type 0

@@ -1,12 +1,14 @@
 -- The values that fields of a configuration take (debconf.conf(5)), and the fields that each driver has.
 use Rattle.std.specs.Prelude.{ℕ, ◌+◌, ◌-◌, ◌*◌, Bool, true, false, not, ◌&&◌, ◌||◌, nat_le, List, [], ◌∷◌, ◌++◌, Option, map as each, length, codes, ◌==◌, if◌then◌else◌}
+use Rattle.std.specs.Char.{is_ascii_alphanumeric}
+use Rattle.std.specs.Io.BufRead.{strip_last}
 use Rattle.std.specs.List.{list_all, list_any, find, slice_split}
 use Rattle.std.specs.Option.{option_map_or}
 use Rattle.std.specs.Str.{bytes_eq, is_utf8}
 use Rattle.dc_text.specs.Bytes.{lower, is_nil, is_space}
 use Rattle.dc_words.specs.Words.{plain_words_of}
 use Rattle.dc_conf.specs.declared.drivers.Driver.{Driver}
-use Rattle.dc_conf.specs.declared.drivers.Driver.TheVariants.{File, Stack}
+use Rattle.dc_conf.specs.declared.drivers.Driver.TheVariants.{File, DirTree, PackageDir, Stack}
 
 -- `true`, read without regard to case
 abbrev pub is_true : List ℕ → Bool
@@ -47,10 +49,23 @@ is_path value =
     nat_le 1 (length value) && (nat_le (length value) 3000 && (is_utf8 value && (not (list_any (λ byte. byte == 0) value)
     && list_all is_path_part (slice_split (λ byte. byte == 47) (without_slash value)))))
 
+-- without one slash at the end, if it is there
+abbrev pub without_last_slash : List ℕ → List ℕ
+without_last_slash value = strip_last 47 value
+
+-- the path of a folder, which may end with a slash
+abbrev pub is_directory : List ℕ → Bool
+is_directory value = is_path (without_last_slash value)
+
+-- what the names of files end with: `.` and 1 to 16 letters or digits
+abbrev pub is_extension : List ℕ → Bool
+is_extension [] = false
+is_extension (byte ∷ bytes) =
+    byte == 46 && (nat_le 1 (length bytes) && (nat_le (length bytes) 16 && list_all is_ascii_alphanumeric bytes))
+
 -- a letter, a digit, `-`, `_` or `.`
 abbrev pub is_database_byte : ℕ → Bool
-is_database_byte byte =
-    (nat_le 97 (lower byte) && nat_le (lower byte) 122) || ((nat_le 48 byte && nat_le byte 57) || (byte == 45 || (byte == 95 || byte == 46)))
+is_database_byte byte = is_ascii_alphanumeric byte || (byte == 45 || (byte == 95 || byte == 46))
 
 -- the name of a database: 1 to 64 letters, digits, `-`, `_` and `.`
 abbrev pub is_database_name : List ℕ → Bool
@@ -90,19 +105,15 @@ optional key takes = record { key = key; needed = false; takes = takes }
 abbrev pub database_rules : List FieldRule
 database_rules = optional (codes "name") is_database_name ∷ optional (codes "format") is_format ∷ []
 
--- the fields that are `true` or `false` of each database that holds items itself
-abbrev pub switch_rules : List FieldRule
-switch_rules = optional (codes "required") is_boolean ∷ optional (codes "readonly") is_boolean ∷ []
-
--- its fields that are patterns
+-- the fields that are patterns of each database that holds items itself
 abbrev pub pattern_rules : List FieldRule
 pattern_rules =
     optional (codes "accept-name") is_utf8 ∷ optional (codes "reject-name") is_utf8
     ∷ optional (codes "accept-type") is_utf8 ∷ optional (codes "reject-type") is_utf8 ∷ []
 
--- both
+-- all fields that such a database may have
 abbrev pub layer_rules : List FieldRule
-layer_rules = switch_rules ++ pattern_rules
+layer_rules = optional (codes "required") is_boolean ∷ optional (codes "readonly") is_boolean ∷ pattern_rules
 
 -- a field that a database may not have
 abbrev pub refused : List ℕ → FieldRule
@@ -113,9 +124,15 @@ refused key = optional key (λ value. false)
 abbrev pub no_layer_rules : List FieldRule
 no_layer_rules = each (λ rule. refused rule.key) layer_rules
 
+-- the fields of each database in a folder
+abbrev pub folder_rules : List FieldRule
+folder_rules = needed (codes "directory") is_directory ∷ optional (codes "extension") is_extension ∷ []
+
 abbrev pub driver_rules : Driver → List FieldRule
-driver_rules Stack = needed (codes "stack") has_names ∷ no_layer_rules
 driver_rules File = needed (codes "filename") is_path ∷ optional (codes "mode") is_mode ∷ optional (codes "backup") is_boolean ∷ layer_rules
+driver_rules DirTree = folder_rules ++ layer_rules
+driver_rules PackageDir = folder_rules ++ optional (codes "mode") is_mode ∷ layer_rules
+driver_rules Stack = needed (codes "stack") has_names ∷ no_layer_rules
 
 -- the fields that a database may have, by its driver, if it has one
 abbrev pub rules_of : Option Driver → List FieldRule
@@ -124,10 +141,12 @@ rules_of driver = database_rules ++ option_map_or driver_rules driver []
 -- the word of each driver, in lower case
 abbrev pub driver_word : Driver → List ℕ
 driver_word File = codes "file"
+driver_word DirTree = codes "dirtree"
+driver_word PackageDir = codes "packagedir"
 driver_word Stack = codes "stack"
 
 abbrev pub all_drivers : List Driver
-all_drivers = File ∷ Stack ∷ []
+all_drivers = File ∷ DirTree ∷ PackageDir ∷ Stack ∷ []
 
 -- the driver that has this word, read without regard to case
 abbrev pub driver_of : List ℕ → Option Driver

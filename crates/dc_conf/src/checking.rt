@@ -133,14 +133,9 @@ fn bad_values(driver: Option<Driver>, stanza: &[Field]) -> Option<Fault>
 pub fn is_named(databases: &[List<Field>], name: &[u8]) -> bool
     ensures { result ≡ is_named_of databases.now name.now }
 {
-    let mut rest = databases;
-    while let [stanza, tail @ ..] = rest {
-        if has_name(stanza.as_slice(), name) {
-            return true;
-        }
-        rest = tail;
-    }
-    false
+    databases
+        .iter()
+        .any(|stanza| has_name(stanza.as_slice(), name))
 }
 
 pub fn has_name(stanza: &[Field], name: &[u8]) -> bool

@@ -8,7 +8,7 @@ use crate::checking::find_fault;
 use crate::faults::ConfError;
 use crate::fields::{Field, field_at, value_at};
 use crate::naming::members;
-use crate::places::is_stack;
+use crate::places::{is_stack, place_of, sort_in};
 use crate::reading::read_stanzas;
 use crate::spec::{LayerSort, LayerSpec, StackSpec};
 use crate::values::{is_true, octal};
@@ -41,8 +41,8 @@ impl Model for Conf {
     ghost invariant = { λ c. IsTrue (is_sound (record { config = c.config; templates = c.templates; frontend = c.frontend; priority = c.priority; databases = c.names; specs = c.specs; stacks = c.stacks })) };
 }
 
-ghost use Rattle.dc_conf.specs.Configuration.{IsAnswer, configuration, spec_of, stack_of, text_at as text_at_of, truth_at as truth_at_of, mode_at as mode_at_of, is_sound};
-ghost use Rattle.dc_conf.specs.ConfFaults.{value_at as value_in, is_stack as is_stack_of};
+ghost use Rattle.dc_conf.specs.Configuration.{IsAnswer, configuration, spec_of, stack_of, text_at as text_at_of, truth_at as truth_at_of, extension_by as extension_by_of, mode_by as mode_by_of, is_sound};
+ghost use Rattle.dc_conf.specs.ConfFaults.{value_at as value_in, is_stack as is_stack_of, sort_in as sort_in_of};
 
 impl Conf {
     /// The name of the database of questions.
@@ -113,7 +113,7 @@ pub fn read_conf(alloc: Global, bytes: &[u8]) -> Result<Conf, ConfError>
     Ok(conf)
 }
 
-ghost use Rattle.dc_conf.specs.Machine.{AreModes, HasMode, IsModeField};
+ghost use Rattle.dc_conf.specs.Machine.{AreModes, HasMode, TakesMode};
 
 // The configuration of stanzas without faults.
 fn configure(alloc: Global, stanzas: &[List<Field>]) -> Mem<Conf>
@@ -201,22 +201,24 @@ fn read_stack(alloc: Global, stanza: &[Field]) -> Mem<StackSpec>
 }
 
 fn read_database(alloc: Global, stanza: &[Field]) -> Mem<LayerSpec>
-    requires { IsModeField stanza.now }
+    requires { TakesMode (sort_in_of stanza.now) stanza.now }
     ensures { IfOk result (λ spec. spec ≡ spec_of stanza.now) }
 {
     let name = Text::from_bytes(alloc, value_at(stanza, b"name"))?;
-    let place = Text::from_bytes(alloc, value_at(stanza, b"filename"))?;
+    let sort = sort_in(stanza);
+    let place = Text::from_bytes(alloc, place_of(stanza))?;
+    let extension = extension_by(alloc, sort, stanza)?;
     let accept_name = text_at(stanza, b"accept-name")?;
     let reject_name = text_at(stanza, b"reject-name")?;
     let accept_type = text_at(stanza, b"accept-type")?;
     let reject_type = text_at(stanza, b"reject-type")?;
     Ok(LayerSpec {
         name,
-        sort: LayerSort::File,
+        sort,
         place,
-        extension: Text::new(alloc),
-        mode: mode_at(stanza),
-        backup: truth_at(stanza, b"backup", true),
+        extension,
+        mode: mode_by(sort, stanza),
+        backup: sort == LayerSort::File && truth_at(stanza, b"backup", true),
         readonly: truth_at(stanza, b"readonly", false),
         required: truth_at(stanza, b"required", true),
         accept_name,
@@ -224,6 +226,17 @@ fn read_database(alloc: Global, stanza: &[Field]) -> Mem<LayerSpec>
         accept_type,
         reject_type,
     })
+}
+
+// What the names of the files of a database of this sort end with: in a folder with `.dat`, unless its stanza says otherwise.
+fn extension_by(alloc: Global, sort: LayerSort, stanza: &[Field]) -> Mem<Text>
+    ensures { IfOk result (λ extension. extension ≡ extension_by_of sort stanza.now) }
+{
+    match (sort, field_at(stanza, b"extension")) {
+        (LayerSort::File, _) => Ok(Text::new(alloc)),
+        (LayerSort::Tree | LayerSort::Pack, Some(field)) => field.value.copy(),
+        (LayerSort::Tree | LayerSort::Pack, None) => Text::from_bytes(alloc, b".dat"),
+    }
 }
 
 fn text_at(stanza: &[Field], key: &[u8]) -> Mem<Option<Text>>
@@ -245,13 +258,13 @@ fn truth_at(stanza: &[Field], key: &[u8], default: bool) -> bool
     }
 }
 
-// The permission bits, 600 where the stanza says none.
-fn mode_at(stanza: &[Field]) -> u16
-    requires { IsModeField stanza.now }
-    ensures { result ≡ mode_at_of (codes "mode") stanza.now }
+// The permission bits, 600 where no field says them. Of a tree none does.
+fn mode_by(sort: LayerSort, stanza: &[Field]) -> u16
+    requires { TakesMode sort stanza.now }
+    ensures { result ≡ mode_by_of sort stanza.now }
 {
-    match field_at(stanza, b"mode") {
-        Some(field) => octal(field.value.bytes()),
-        None => 0o600,
+    match (sort, field_at(stanza, b"mode")) {
+        (LayerSort::File | LayerSort::Pack, Some(field)) => octal(field.value.bytes()),
+        _ => 0o600,
     }
 }

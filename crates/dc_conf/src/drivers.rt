@@ -3,16 +3,25 @@ ghost use Rattle.std.specs.Prelude.{◌≡◌};
 
 use crate::values::is_word;
 
-/// What keeps a database.
+/// What keeps a database (debconf.conf(5)).
 #[derive(Clone, Copy, Debug, PartialEq, Eq)]
 pub enum Driver {
     /// One file holds it.
     File,
+    /// A folder holds it, with a file for each item.
+    DirTree,
+    /// A folder holds it, with a file for each prefix of names.
+    PackageDir,
     /// Other databases hold it, and are asked one after another.
     Stack,
 }
 
-const DRIVERS: [Driver; 2] = [Driver::File, Driver::Stack];
+const DRIVERS: [Driver; 4] = [
+    Driver::File,
+    Driver::DirTree,
+    Driver::PackageDir,
+    Driver::Stack,
+];
 
 impl Driver {
     ghost use Rattle.dc_conf.specs.Values.{driver_of, driver_word};
@@ -33,6 +42,8 @@ impl Driver {
     {
         match self {
             Driver::File => b"file",
+            Driver::DirTree => b"dirtree",
+            Driver::PackageDir => b"packagedir",
             Driver::Stack => b"stack",
         }
     }

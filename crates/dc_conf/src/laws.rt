@@ -6,7 +6,7 @@ ghost use Rattle.dc_conf.specs.ConfFaults.{Decides, passes};
 ghost use Rattle.dc_conf.specs.declared.faults.Fault.{Fault};
 ghost use Rattle.dc_conf.specs.Configuration.{Configuration, IsAnswer, is_sound};
 
-/// The faults of some texts, as they are worked out.
+/// The faults of some texts, and a database of one, as they are worked out.
 pub fn faults_are_worked_out()
     ensures { Examples }
 {}
@@ -18,8 +18,8 @@ pub fn texts_have_one_answer()
     ensures some { (text : List ℕ) → AllByRecursion (λ faults. faults ≡ []) (passes text) ⊎ ((first : Fault) × Decides (passes text) first) }
 {}
 
-/// The databases of a configuration are kept apart, each is held by some that hold items themselves, and those of questions
-/// and of templates share none.
+/// The databases of a configuration are kept apart, each fits its sort and is held by some that hold items themselves, and
+/// those of questions and of templates share none.
 pub fn configurations_are_sound()
     ensures { (text : List ℕ) (conf : Configuration) → IsAnswer text (Ok conf) → is_sound conf ≡ true }
 {}

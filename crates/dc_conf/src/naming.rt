@@ -94,34 +94,16 @@ fn names_fault(databases: &[List<Field>], names: &[Text], line: u64) -> Option<F
 fn names_unknown(databases: &[List<Field>], names: &[Text]) -> bool
     ensures { result ≡ list_any (λ name. not (is_named_of databases.now name)) names.now }
 {
-    let mut rest = names;
-    while let [name, tail @ ..] = rest {
-        if !is_named(databases, name.bytes()) {
-            return true;
-        }
-        rest = tail;
-    }
-    false
+    names.iter().any(|name| !is_named(databases, name.bytes()))
 }
 
 // Whether one of the names is that of a stack.
 fn names_stack(databases: &[List<Field>], names: &[Text]) -> bool
     ensures { result ≡ list_any (λ name. is_some (stack_named_of databases.now name)) names.now }
 {
-    let mut rest = names;
-    while let [name, tail @ ..] = rest {
-        if is_stack_name(databases, name.bytes()) {
-            return true;
-        }
-        rest = tail;
-    }
-    false
-}
-
-fn is_stack_name(databases: &[List<Field>], name: &[u8]) -> bool
-    ensures { result ≡ is_some (stack_named_of databases.now name.now) }
-{
-    stack_named(databases, name).is_some()
+    names
+        .iter()
+        .any(|name| stack_named(databases, name.bytes()).is_some())
 }
 
 // Whether a name stands twice.
@@ -204,26 +186,12 @@ pub fn members(alloc: Global, stanza: &[Field]) -> Mem<List<Text>>
 fn share(names: &[Text], others: &[Text]) -> bool
     ensures { result ≡ share_of names.now others.now }
 {
-    let mut rest = names;
-    while let [name, tail @ ..] = rest {
-        if is_among(others, name.bytes()) {
-            return true;
-        }
-        rest = tail;
-    }
-    false
+    names.iter().any(|name| is_among(others, name.bytes()))
 }
 
 /// Whether the name is one of these.
 pub fn is_among(names: &[Text], name: &[u8]) -> bool
     ensures { result ≡ list_any (bytes_eq name.now) names.now }
 {
-    let mut rest = names;
-    while let [other, tail @ ..] = rest {
-        if name == other.bytes() {
-            return true;
-        }
-        rest = tail;
-    }
-    false
+    names.iter().any(|other| name == other.bytes())
 }

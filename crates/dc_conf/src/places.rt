@@ -2,10 +2,12 @@
 ghost use Rattle.std.specs.Prelude.{◌≡◌, ◌∷◌, ◌++◌, [], IfOk};
 ghost use Rattle.std.specs.List.{list_any};
 ghost use Rattle.std.specs.Option.{option_copied};
-ghost use Rattle.dc_conf.specs.ConfFaults.{place_in as place_in_of, file_paths as file_paths_of, paths_in as paths_in_of, is_stack as is_stack_of, is_front, meet as meet_of, driver_in as driver_in_of};
+ghost use Rattle.dc_conf.specs.ConfFaults.{place_in as place_in_of, sort_in as sort_in_of, place_of as place_of_stanza, paths_at as paths_at_of, paths_in as paths_in_of, is_stack as is_stack_of, is_front, meet as meet_of, driver_in as driver_in_of};
 
 use crate::drivers::Driver;
 use crate::fields::{Field, field_at};
+use crate::spec::LayerSort;
+use crate::values::without_last_slash;
 use dc_text::{List, Mem, Text};
 use std::alloc::Global;
 
@@ -25,7 +27,7 @@ pub fn is_stack(stanza: &[Field]) -> bool
 {
     match driver_in(stanza) {
         Some(Driver::Stack) => true,
-        Some(Driver::File) | None => false,
+        Some(Driver::File | Driver::DirTree | Driver::PackageDir) | None => false,
     }
 }
 
@@ -35,7 +37,33 @@ pub fn place_in(stanza: &[Field]) -> Option<&Field>
 {
     match driver_in(stanza) {
         Some(Driver::File) => field_at(stanza, b"filename"),
+        Some(Driver::DirTree | Driver::PackageDir) => field_at(stanza, b"directory"),
         Some(Driver::Stack) | None => None,
+    }
+}
+
+/// How the database is kept: in one file, unless its driver says a folder.
+pub fn sort_in(stanza: &[Field]) -> LayerSort
+    ensures { result ≡ sort_in_of stanza.now }
+{
+    match driver_in(stanza) {
+        Some(Driver::DirTree) => LayerSort::Tree,
+        Some(Driver::PackageDir) => LayerSort::Pack,
+        Some(Driver::File | Driver::Stack) | None => LayerSort::File,
+    }
+}
+
+/// The path at which the database is kept, that of a folder without a slash at its end. It is empty where the database isn't
+/// kept in a place.
+pub fn place_of(stanza: &[Field]) -> &[u8]
+    ensures { result.now ≡ place_of_stanza stanza.now }
+{
+    let Some(field) = place_in(stanza) else {
+        return b"";
+    };
+    match sort_in(stanza) {
+        LayerSort::File => field.value.bytes(),
+        LayerSort::Tree | LayerSort::Pack => without_last_slash(field.value.bytes()),
     }
 }
 
@@ -44,18 +72,20 @@ pub fn paths_in(alloc: Global, stanza: &[Field]) -> Mem<List<Text>>
     ensures { IfOk result (λ paths. paths ≡ paths_in_of stanza.now) }
 {
     match place_in(stanza) {
-        Some(field) => file_paths(alloc, field.value.bytes()),
+        Some(_) => paths_at(alloc, sort_in(stanza), place_of(stanza)),
         None => Ok(List::new(alloc)),
     }
 }
 
-fn file_paths(alloc: Global, place: &[u8]) -> Mem<List<Text>>
-    ensures { IfOk result (λ paths. paths ≡ file_paths_of place.now) }
+fn paths_at(alloc: Global, sort: LayerSort, place: &[u8]) -> Mem<List<Text>>
+    ensures { IfOk result (λ paths. paths ≡ paths_at_of sort place.now) }
 {
     let mut paths = List::new(alloc);
     paths.push(Text::from_bytes(alloc, place)?)?;
-    paths.push(beside(alloc, place, b"-new")?)?;
-    paths.push(beside(alloc, place, b"-old")?)?;
+    if let LayerSort::File = sort {
+        paths.push(beside(alloc, place, b"-new")?)?;
+        paths.push(beside(alloc, place, b"-old")?)?;
+    }
     Ok(paths)
 }
 
@@ -71,27 +101,13 @@ fn beside(alloc: Global, place: &[u8], end: &[u8]) -> Mem<Text>
 pub fn some_meet(paths: &[Text], others: &[Text]) -> bool
     ensures { result ≡ list_any (λ path. list_any (meet_of path) others.now) paths.now }
 {
-    let mut rest = paths;
-    while let [path, tail @ ..] = rest {
-        if meets_some(path.bytes(), others) {
-            return true;
-        }
-        rest = tail;
-    }
-    false
+    paths.iter().any(|path| meets_some(path.bytes(), others))
 }
 
 fn meets_some(path: &[u8], others: &[Text]) -> bool
     ensures { result ≡ list_any (meet_of path.now) others.now }
 {
-    let mut rest = others;
-    while let [other, tail @ ..] = rest {
-        if meet(path, other.bytes()) {
-            return true;
-        }
-        rest = tail;
-    }
-    false
+    others.iter().any(|other| meet(path, other.bytes()))
 }
 
 // Whether one path is the other, or lies below it.

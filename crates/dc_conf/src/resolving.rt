@@ -1,7 +1,7 @@
 // The databases that names reach.
 ghost use Rattle.std.specs.Prelude.{◌≡◌, ◌∷◌, [], IfOk, true, length, map as each};
-ghost use Rattle.std.specs.List.{All, AllByRecursion, filter, list_any};
-ghost use Rattle.dc_conf.specs.Configuration.{IsResolved, AreDisjoint, are_apart, have_names_apart, holders_of, is_among as is_among_of, place_in as place_in_of, base_of, plan_of};
+ghost use Rattle.std.specs.List.{All, AllByRecursion, filter, list_all, list_any};
+ghost use Rattle.dc_conf.specs.Configuration.{IsResolved, AreDisjoint, are_apart, have_names_apart, fits_sort, holders_of, is_among as is_among_of, place_in as place_in_of, base_of, plan_of};
 ghost use Rattle.dc_conf.specs.Machine.{unknown_from};
 ghost use Rattle.dc_conf.specs.Plans.{IsOver};
 
@@ -20,6 +20,8 @@ impl Conf {
         // No two of the databases have a place or a name in common.
         ensures places { IfOk result (λ resolved. are_apart resolved.specs ≡ true) }
         ensures names { IfOk result (λ resolved. have_names_apart resolved.specs ≡ true) }
+        // The extension and the permission bits of each are such as its sort takes.
+        ensures sorts { IfOk result (λ resolved. list_all fits_sort resolved.specs ≡ true) }
         // A plan speaks of these databases alone.
         ensures over { IfOk result (λ resolved. AllByRecursion (λ plan. IsOver plan (length resolved.specs)) resolved.plans) }
         // The database of questions shares none with that of templates.
@@ -87,14 +89,7 @@ fn reached(
 fn holds_some(conf: &Conf, name: &[u8], roots: &[Text]) -> bool
     ensures { result ≡ list_any (λ root. is_among_of (holders_of conf.now root) name.now) roots.now }
 {
-    let mut rest = roots;
-    while let [root, tail @ ..] = rest {
-        if holds(conf, name, root) {
-            return true;
-        }
-        rest = tail;
-    }
-    false
+    roots.iter().any(|root| holds(conf, name, root))
 }
 
 fn holds(conf: &Conf, name: &[u8], root: &Text) -> bool

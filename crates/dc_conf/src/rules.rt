@@ -1,14 +1,15 @@
 // Which values the fields of a database take, and which fields it needs.
-ghost use Rattle.std.specs.Prelude.{◌≡◌, []};
+ghost use Rattle.std.specs.Prelude.{◌≡◌, [], ◌∷◌, codes};
 ghost use Rattle.std.specs.Option.{option_map_or};
-ghost use Rattle.dc_conf.specs.Values.{driver_rules, layer_rules, no_layer_rules, pattern_rules, rules_of, switch_rules};
+ghost use Rattle.dc_conf.specs.Values.{optional, is_mode as is_mode_of, driver_rules, folder_rules, layer_rules, no_layer_rules, pattern_rules, rules_of};
 ghost use Rattle.dc_conf.specs.ConfFaults.{is_bad as is_bad_by, lacks_field as lacks_field_of};
 ghost use Rattle.dc_conf.specs.declared.drivers.Driver.TheVariants as driver;
 
 use crate::drivers::Driver;
 use crate::fields::{Field, is_there};
 use crate::values::{
-    has_names, is_boolean, is_database_name, is_format, is_mode, is_path, is_utf8,
+    has_names, is_boolean, is_database_name, is_directory, is_extension, is_format, is_mode,
+    is_path, is_utf8,
 };
 
 /// Whether a field that the driver needs is missing.
@@ -17,6 +18,7 @@ pub fn lacks_field(driver: Option<Driver>, stanza: &[Field]) -> bool
 {
     match driver {
         Some(Driver::File) => !is_there(stanza, b"filename"),
+        Some(Driver::DirTree | Driver::PackageDir) => !is_there(stanza, b"directory"),
         Some(Driver::Stack) => !is_there(stanza, b"stack"),
         None => false,
     }
@@ -39,6 +41,10 @@ fn is_bad_for(driver: Option<Driver>, field: &Field) -> bool
 {
     match driver {
         Some(Driver::File) => is_bad_in_file(field),
+        Some(Driver::DirTree) => is_bad_in_folder(field) || is_bad_in_layer(field),
+        Some(Driver::PackageDir) => {
+            is_bad_in_folder(field) || is_bad_mode(field) || is_bad_in_layer(field)
+        }
         Some(Driver::Stack) => is_bad_in_stack(field),
         None => false,
     }
@@ -50,9 +56,24 @@ fn is_bad_in_file(field: &Field) -> bool
     let key = field.key.bytes();
     let value = field.value.bytes();
     (b"filename".as_slice() == key && !is_path(value))
-        || (b"mode".as_slice() == key && !is_mode(value))
+        || is_bad_mode(field)
         || (b"backup".as_slice() == key && !is_boolean(value))
         || is_bad_in_layer(field)
+}
+
+fn is_bad_mode(field: &Field) -> bool
+    ensures { result ≡ is_bad_by (optional (codes "mode") is_mode_of ∷ []) field.now }
+{
+    b"mode".as_slice() == field.key.bytes() && !is_mode(field.value.bytes())
+}
+
+fn is_bad_in_folder(field: &Field) -> bool
+    ensures { result ≡ is_bad_by folder_rules field.now }
+{
+    let key = field.key.bytes();
+    let value = field.value.bytes();
+    (b"directory".as_slice() == key && !is_directory(value))
+        || (b"extension".as_slice() == key && !is_extension(value))
 }
 
 fn is_bad_in_stack(field: &Field) -> bool
@@ -78,17 +99,11 @@ fn is_of_layer(field: &Field) -> bool
 fn is_bad_in_layer(field: &Field) -> bool
     ensures { result ≡ is_bad_by layer_rules field.now }
 {
-    is_bad_switch(field) || is_bad_pattern(field)
-}
-
-// A field that is `true` or `false`.
-fn is_bad_switch(field: &Field) -> bool
-    ensures { result ≡ is_bad_by switch_rules field.now }
-{
     let key = field.key.bytes();
     let value = field.value.bytes();
     (b"required".as_slice() == key && !is_boolean(value))
         || (b"readonly".as_slice() == key && !is_boolean(value))
+        || is_bad_pattern(field)
 }
 
 fn is_bad_pattern(field: &Field) -> bool

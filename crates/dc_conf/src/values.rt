@@ -1,9 +1,10 @@
 // The values that fields of a configuration take (debconf.conf(5)).
-ghost use Rattle.std.specs.Prelude.{◌≡◌, ◌==◌, ◌++◌, true, nat_le, ◌&&◌, map as each, IfOk};
+ghost use Rattle.std.specs.Prelude.{◌≡◌, ◌==◌, ◌++◌, true, map as each, IfOk};
+ghost use Rattle.std.specs.Char.{is_ascii_alphanumeric};
 ghost use Rattle.std.specs.List.{list_all, slice_split};
 ghost use Rattle.std.specs.Str.{bytes_eq, is_utf8 as is_utf8_of};
 ghost use Rattle.dc_text.specs.Bytes.{lower};
-ghost use Rattle.dc_conf.specs.Values.{is_boolean as is_boolean_of, is_true as is_true_of, is_mode as is_mode_of, is_octal_digit as is_octal_digit_of, octal as octal_of, is_path as is_path_of, is_path_part as is_path_part_of, without_slash as without_slash_of, is_database_name as is_database_name_of, is_database_byte as is_database_byte_of, is_format as is_format_of, names_in as names_in_of, has_names as has_names_of, spaced as spaced_of};
+ghost use Rattle.dc_conf.specs.Values.{is_boolean as is_boolean_of, is_true as is_true_of, is_mode as is_mode_of, is_octal_digit as is_octal_digit_of, octal as octal_of, is_path as is_path_of, is_path_part as is_path_part_of, without_slash as without_slash_of, without_last_slash as without_last_slash_of, is_directory as is_directory_of, is_extension as is_extension_of, is_database_name as is_database_name_of, is_database_byte as is_database_byte_of, is_format as is_format_of, names_in as names_in_of, has_names as has_names_of, spaced as spaced_of};
 
 use dc_text::bytes::is_space;
 use dc_text::{List, Mem, Text};
@@ -41,13 +42,7 @@ pub fn is_mode(value: &[u8]) -> bool
 fn has_octal_digits(value: &[u8]) -> bool
     ensures { result ≡ list_all is_octal_digit_of value.now }
 {
-    value.iter().all(|byte| is_octal_digit(*byte))
-}
-
-fn is_octal_digit(byte: u8) -> bool
-    ensures { result ≡ is_octal_digit_of byte }
-{
-    48 <= byte && byte <= 55
+    value.iter().all(|byte| b'0' <= *byte && *byte <= b'7')
 }
 
 /// The number that the octal digits of permission bits spell.
@@ -108,6 +103,39 @@ fn without_slash(path: &[u8]) -> &[u8]
     }
 }
 
+/// The path of a folder, which may end with a slash.
+pub fn is_directory(value: &[u8]) -> bool
+    ensures { result ≡ is_directory_of value.now }
+{
+    is_path(without_last_slash(value))
+}
+
+/// Without one slash at the end, if it is there.
+pub fn without_last_slash(path: &[u8]) -> &[u8]
+    ensures { result.now ≡ without_last_slash_of path.now }
+{
+    match path {
+        [front @ .., b'/'] => front,
+        _ => path,
+    }
+}
+
+/// What the names of files end with: `.` and 1 to 16 letters or digits.
+pub fn is_extension(value: &[u8]) -> bool
+    ensures { result ≡ is_extension_of value.now }
+{
+    match value {
+        [b'.', rest @ ..] => 1 <= rest.len() && rest.len() <= 16 && is_alphanumeric(rest),
+        _ => false,
+    }
+}
+
+fn is_alphanumeric(bytes: &[u8]) -> bool
+    ensures { result ≡ list_all is_ascii_alphanumeric bytes.now }
+{
+    bytes.iter().all(|byte| byte.is_ascii_alphanumeric())
+}
+
 /// The name of a database: 1 to 64 letters, digits, `-`, `_` and `.`.
 pub fn is_database_name(value: &[u8]) -> bool
     ensures { result ≡ is_database_name_of value.now }
@@ -118,23 +146,10 @@ pub fn is_database_name(value: &[u8]) -> bool
 fn has_database_bytes(value: &[u8]) -> bool
     ensures { result ≡ list_all is_database_byte_of value.now }
 {
-    value.iter().all(|byte| is_database_byte(*byte))
-}
-
-fn is_database_byte(byte: u8) -> bool
-    ensures { result ≡ is_database_byte_of byte }
-{
-    is_letter(byte)
-        || (b'0' <= byte && byte <= b'9')
-        || byte == b'-'
-        || byte == b'_'
-        || byte == b'.'
-}
-
-fn is_letter(byte: u8) -> bool
-    ensures { result ≡ (nat_le 97 (lower byte) && nat_le (lower byte) 122) }
-{
-    (b'a' <= byte && byte <= b'z') || (b'A' <= byte && byte <= b'Z')
+    value.iter().all(|byte| byte.is_ascii_alphanumeric()
+        || *byte == b'-'
+        || *byte == b'_'
+        || *byte == b'.')
 }
 
 /// The names of a list, which commas and whitespace part.

@@ -1,4 +1,4 @@
-use Rattle.std.proofs.Common.{◌∙◌, List}
+use Rattle.std.proofs.Common.{◌∙◌}
 use Rattle.dc_conf.specs.Configuration.{is_sound}
 use Rattle.dc_conf.proofs.conf.configure_by.Goals as goal
 

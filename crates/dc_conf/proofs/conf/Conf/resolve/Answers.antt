@@ -1,12 +1,12 @@
 use Rattle.std.proofs.Common.{◌≡◌, ◌∙◌, true, List, length, map as each, sym, subst}
-use Rattle.std.specs.List.{AllByRecursion, filter, list_any}
+use Rattle.std.specs.List.{AllByRecursion, filter, list_all, list_any}
 use Rattle.dc_conf.specs.declared.plans.Plan.{Plan}
 use Rattle.dc_conf.specs.declared.spec.LayerSpec.{LayerSpec}
-use Rattle.dc_conf.specs.Configuration.{AreDisjoint, are_apart, have_names_apart, holders_of, is_among, plan_of, reached}
+use Rattle.dc_conf.specs.Configuration.{AreDisjoint, are_apart, have_names_apart, fits_sort, holders_of, is_among, plan_of, reached}
 use Rattle.dc_conf.specs.Machine.{unknown_from}
 use Rattle.dc_conf.specs.Plans.{IsOver}
 use Rattle.dc_conf.proofs.ResolveLemmas.{unknown_is, all_known}
-use Rattle.dc_conf.proofs.ResolvedLemmas.{places_apart, names_apart, all_over, all_disjoint}
+use Rattle.dc_conf.proofs.ResolvedLemmas.{places_apart, names_apart, sorts_fit, all_over, all_disjoint}
 use Rattle.dc_conf.proofs.conf.Conf.resolve.Goals as goal
 
 pub returns-in-Some-clause-answer : goal.returns-in-Some-clause-answer
@@ -38,6 +38,13 @@ returns-in_ok-resolve_known-in-None-clause-names c =
     c.in_ok-resolve_known-in-None.ensures.specs
     ∙ (λ i. filter (λ (spec : LayerSpec). list_any (λ root. is_among (holders_of c.args.self.now root) spec.name) (c.as_slice-in-None.ensures i)) (c.specs.ensures.value i)) in
     subst (λ (ss : List LayerSpec). have_names_apart ss ≡ true) (sym specs) (names_apart c.args.self.now c.args.roots.now c.specs.ensures.sound)
+
+pub returns-in_ok-resolve_known-in-None-clause-sorts : goal.returns-in_ok-resolve_known-in-None-clause-sorts
+returns-in_ok-resolve_known-in-None-clause-sorts c =
+    let specs : c.in_ok-resolve_known-in-None.field-0.specs ≡ reached c.args.self.now c.args.roots.now =
+    c.in_ok-resolve_known-in-None.ensures.specs
+    ∙ (λ i. filter (λ (spec : LayerSpec). list_any (λ root. is_among (holders_of c.args.self.now root) spec.name) (c.as_slice-in-None.ensures i)) (c.specs.ensures.value i)) in
+    subst (λ (ss : List LayerSpec). list_all fits_sort ss ≡ true) (sym specs) (sorts_fit c.args.self.now c.args.roots.now c.specs.ensures.sound)
 
 pub returns-in_ok-resolve_known-in-None-clause-over : goal.returns-in_ok-resolve_known-in-None-clause-over
 returns-in_ok-resolve_known-in-None-clause-over c =
