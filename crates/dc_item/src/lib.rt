@@ -21,6 +21,6 @@ pub use entry::Entry;
 pub use item::Item;
 pub use op::{After, Op};
 pub use owners::in_order;
-pub use printing::{print_records, print_table};
+pub use printing::{print_record, print_records, print_table};
 pub use records::{RecordError, read_records};
 pub use text_table::TextTable;

@@ -49,7 +49,8 @@ fn print_all(alloc: Global, entries: &[Entry]) -> Mem<Text>
     Ok(text)
 }
 
-fn print_record(alloc: Global, text: &mut Text, name: &[u8], item: &Item) -> Mem<()>
+/// Puts the printed record of the name and the item at the end of the text, and an empty line.
+pub fn print_record(alloc: Global, text: &mut Text, name: &[u8], item: &Item) -> Mem<()>
     ensures printed { OnOk result (text.new ≡ text.old ++ text_of (record_lines (name.now, item.now))) }
     ensures item { OnOk result (IsItem item.now) }
 {

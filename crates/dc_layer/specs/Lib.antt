@@ -1,4 +1,6 @@
+pub mod Folders
 pub mod PatternExamples
 pub mod Patterns
+pub mod PrefixTexts
 pub mod Rules
 pub mod State

@@ -1,20 +1,22 @@
 -- What a layer is, what changes make of it, and the files that it asks for.
-use Rattle.std.specs.Prelude.{ℕ, Bool, true, false, not, ◌&&◌, List, [], ◌∷◌, ◌++◌, Option, Some, None, if◌then◌else◌}
-use Rattle.std.specs.Option.{option_map_or}
-use Rattle.std.specs.List.{list_any}
+use Rattle.std.specs.Prelude.{ℕ, Bool, true, false, not, ◌&&◌, List, [], ◌∷◌, ◌++◌, map as each, filter, fold, Option, Some, None, if◌then◌else◌}
+use Rattle.std.specs.Option.{option_map, option_map_or}
+use Rattle.std.specs.List.{list_any, flat_map}
 use Rattle.std.specs.Str.{bytes_eq}
 use Rattle.std.specs.FinMap as map
 use Rattle.std.specs.Coded.{Coded, coded_list, coded_ℕ}
 use Rattle.dc_text.specs.Bytes.{is_nil}
+use Rattle.dc_text.specs.Lines.{text_of}
 use Rattle.dc_text.specs.Maps.{Texts}
 use Rattle.dc_item.specs.Item.{ItemParts, parts_code}
 use Rattle.dc_item.specs.After.{after_at}
-use Rattle.dc_item.specs.Printed.{table_text}
+use Rattle.dc_item.specs.Printed.{record_lines, table_text}
 use Rattle.dc_item.specs.declared.op.Op.{Op}
 use Rattle.dc_item.specs.declared.op.Op.TheVariants.{Put}
 use Rattle.dc_item.specs.declared.op.After.{After}
 use Rattle.dc_item.specs.declared.op.After.TheVariants.{Same, Changed, Gone}
 use Rattle.dc_conf.specs.declared.spec.LayerSort.{LayerSort}
+use Rattle.dc_conf.specs.declared.spec.LayerSort.TheVariants.{File, Tree, Pack}
 use Rattle.dc_conf.specs.declared.spec.LayerSpec.{LayerSpec}
 use Rattle.dc_template.specs.declared.kinds.Kind.{Kind}
 use Rattle.dc_layer.specs.declared.image.Image.{Image}
@@ -23,6 +25,7 @@ use Rattle.dc_layer.specs.declared.layer.Taken.TheVariants as taken
 use Rattle.dc_layer.specs.declared.layer.LayerError.{LayerError}
 use Rattle.dc_layer.specs.declared.layer.LayerError.TheVariants.{ReadOnly, NotHere}
 use Rattle.dc_layer.specs.Rules.{rules_of, accepts}
+use Rattle.dc_layer.specs.Folders.{prefix, has_place_for, path_in}
 
 -- a table: a finite map from names to items
 abbrev pub Table : Type 0
@@ -61,8 +64,9 @@ without_items layer = record layer { table = map.empty; touched = []; left_out =
 abbrev pub is_writable : LayerState → Bool
 is_writable layer = option_map_or (λ spec. not spec.readonly) layer.spec false && not layer.left_out
 
+-- it has a place for the name, and its rules accept the item
 abbrev pub admits : LayerState → List ℕ → Option Kind → Bool
-admits layer name kind = option_map_or (λ spec. accepts (rules_of spec) name kind) layer.spec false
+admits layer name kind = option_map_or (λ spec. has_place_for layer.sort spec.extension name && accepts (rules_of spec) name kind) layer.spec false
 
 abbrev pub is_put : Op → Bool
 is_put (Put item) = true
@@ -108,15 +112,54 @@ owned table owner = owned_in (map.entries table) owner
 abbrev pub image_of : LayerSpec → Table → Option (List ℕ) → Image
 image_of spec table old = record { path = spec.place; mode = spec.mode; bytes = Some (table_text table); old = if spec.backup then old else None }
 
--- a layer in one file asks for that file where something is touched
-abbrev pub images : LayerState → List Image
-images layer = if is_nil layer.touched then [] else option_map_or (λ spec. image_of spec layer.table layer.old ∷ []) layer.spec []
+-- a file in the folder of a layer, which goes where it is to hold no text
+abbrev pub image_in : LayerSpec → List ℕ → Option (List ℕ) → Image
+image_in spec name text = record { path = path_in spec name; mode = spec.mode; bytes = text; old = None }
 
--- the text that the file has once the images are saved
+-- the file of an item: its printed record, or none where it is gone
+abbrev pub item_image : LayerSpec → Table → List ℕ → Image
+item_image spec table name = image_in spec name (option_map (λ item. text_of (record_lines (name, item))) (map.get table name))
+
+-- a text that isn't empty
+abbrev pub unless_nil : List ℕ → Option (List ℕ)
+unless_nil text = if is_nil text then None else Some text
+
+-- the items whose names have the prefix, in byte order
+abbrev pub with_prefix : Table → List ℕ → List (List ℕ × ItemParts)
+with_prefix table front = filter (λ entry. bytes_eq (prefix entry.0) front) (map.entries table)
+
+-- the file of a prefix: the printed records of all its items, each of which has lines, or none where there are none
+abbrev pub prefix_image : LayerSpec → Table → List ℕ → Image
+prefix_image spec table front = image_in spec front (unless_nil (text_of (flat_map record_lines (with_prefix table front))))
+
+-- each name once, where it comes first
+abbrev pub firsts : List (List ℕ) → List (List ℕ)
+firsts names = fold touch [] names
+
+-- what changed makes a layer ask for: in one file, that file; in a folder with a file for each item, the file of each touched name,
+-- in their order; and in one with a file for each prefix, the file of each prefix of a touched name, as it comes first
+abbrev pub images_by : LayerSort → LayerSpec → LayerState → List Image
+images_by File spec layer = if is_nil layer.touched then [] else image_of spec layer.table layer.old ∷ []
+images_by Tree spec layer = each (item_image spec layer.table) (firsts layer.touched)
+images_by Pack spec layer = each (prefix_image spec layer.table) (firsts (each prefix layer.touched))
+
+abbrev pub is_file : LayerSort → Bool
+is_file File = true
+is_file Tree = false
+is_file Pack = false
+
+-- the files that a layer asks for
+abbrev pub images : LayerState → List Image
+images layer = option_map_or (λ spec. images_by layer.sort spec layer) layer.spec []
+
+-- the text that is kept of a layer's file once its images are saved: in one file, with backup, the text that was saved
+abbrev pub old_by : LayerSort → LayerSpec → LayerState → Option (List ℕ)
+old_by File spec layer = if is_nil layer.touched then layer.old else if spec.backup then Some (table_text layer.table) else layer.old
+old_by Tree spec layer = layer.old
+old_by Pack spec layer = layer.old
+
 abbrev pub old_after : LayerState → Option (List ℕ)
-old_after layer =
-    if is_nil layer.touched then layer.old
-    else option_map_or (λ spec. if spec.backup then Some (table_text layer.table) else layer.old) layer.spec layer.old
+old_after layer = option_map_or (λ spec. old_by layer.sort spec layer) layer.spec layer.old
 
 -- once its images are saved
 abbrev pub saved : LayerState → LayerState

@@ -2,7 +2,10 @@
 #![tactic(auto)]
 
 pub mod file;
+pub mod folders;
+pub mod held;
 pub mod image;
+mod imaging;
 mod item_table;
 pub mod laws;
 pub mod layer;
@@ -13,6 +16,7 @@ mod set_up;
 pub mod tired;
 
 pub use file::FileLayer;
+pub use held::Held;
 pub use image::Image;
 pub use item_table::is_owned;
 pub use layer::{Layer, LayerError, Taken};

@@ -2,7 +2,8 @@
 ghost use Rattle.std.specs.Prelude.{◌≡◌, ◌≢◌, ◌+◌, None, Some, Err, IfOk, IfErr, OnOk, OnErr, unwrap_or};
 ghost use Rattle.dc_layer.specs.State.{blank, made_at, with_made, taken_of, refusal};
 
-use crate::file::{FileLayer, is_put_op};
+use crate::file::FileLayer;
+use crate::held::is_put_op;
 use crate::image::Image;
 use crate::layer::{Layer, LayerError, Taken};
 use crate::pattern::PatternError;

@@ -1,7 +1,7 @@
 use Rattle.std.proofs.Common.{refl, ap, ◌∙◌}
 use Rattle.dc_layer.specs.State.{touch}
 use Rattle.dc_layer.proofs.TouchedLemmas.{names_in, names_in-insert_key}
-use Rattle.dc_layer.proofs.file.change_touched.Goals as goal
+use Rattle.dc_layer.proofs.held.change_touched.Goals as goal
 
 pub returns-clause-touched : goal.returns-clause-touched
 returns-clause-touched c =

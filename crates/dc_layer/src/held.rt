@@ -1,0 +1,270 @@
+// What a layer holds, however it is kept.
+ghost use Rattle.std.specs.Prelude.{◌≡◌, ◌&&◌, IfOk, OnOk, OnErr, false, is_some, map as each, not};
+ghost use Rattle.std.specs.Option.{option_copied, option_map_or};
+ghost use Rattle.std.specs.FinMap as map;
+ghost use Rattle.dc_item.specs.After.{after_at};
+ghost use Rattle.dc_item.specs.Item.{ItemParts};
+ghost use Rattle.dc_item.specs.declared.op.After.TheVariants.{Changed};
+ghost use Rattle.dc_layer.specs.Folders.{has_place_for as has_place_for_of};
+ghost use Rattle.dc_layer.specs.Rules.{accepts, rules_of};
+ghost use Rattle.dc_layer.specs.State.{blank, touch, is_put, images_by, is_file};
+
+use crate::folders::has_place_for;
+use crate::image::Image;
+use crate::imaging::{file_image, item_images, prefix_images};
+use crate::item_table::ItemTable;
+use crate::layer::{Layer, LayerError, Taken};
+use crate::pattern::PatternError;
+use crate::set_up::SetUp;
+use dc_conf::spec::{LayerSort, LayerSpec};
+use dc_item::{Effect, Item, Op};
+use dc_template::Kind;
+use dc_text::{List, Mem, Name, Text};
+use indexmap::IndexSet;
+use std::alloc::Global;
+
+/// What a layer of any sort holds: its items, and which of them were touched since they were loaded or saved.
+#[derive(Drop)]
+pub struct Held {
+    alloc: Global,
+    sort: LayerSort,
+    set_up: Option<SetUp>,
+    table: ItemTable,
+    touched: IndexSet<Vec<u8>>,
+    left_out: bool,
+    old: Option<Text>,
+}
+
+impl Held {
+    /// A layer of this sort that holds nothing and wasn't set up.
+    pub fn blank(alloc: Global, sort: LayerSort) -> Held
+        ensures { ⟦<Held as Layer>⟧.state result ≡ blank sort }
+    {
+        Held {
+            alloc,
+            sort,
+            set_up: None,
+            table: ItemTable::new(alloc),
+            touched: IndexSet::new(alloc),
+            left_out: false,
+            old: None,
+        }
+    }
+
+    // The files that a layer with this spec asks for.
+    fn images_by(&self, spec: &LayerSpec) -> Mem<List<Image>>
+        ensures { IfOk result (λ images. images ≡ images_by self.now.sort spec.now (⟦<Held as Layer>⟧.state self.now)) }
+    {
+        match self.sort {
+            LayerSort::File => self.file_images(spec),
+            LayerSort::Tree => item_images(self.alloc, spec, &self.table, self.touched.as_slice()),
+            LayerSort::Pack => prefix_images(
+                self.alloc,
+                spec,
+                &self.table,
+                self.touched.as_slice(),
+            ),
+        }
+    }
+
+    // The one file, where something is touched.
+    fn file_images(&self, spec: &LayerSpec) -> Mem<List<Image>>
+        ensures { IfOk result (λ images. images ≡ images_by LayerSort.File spec.now (⟦<Held as Layer>⟧.state self.now)) }
+    {
+        let mut images = List::new(self.alloc);
+        if !self.touched.is_empty() {
+            images.push(file_image(self.alloc, spec, &self.table, &self.old)?)?;
+        }
+        Ok(images)
+    }
+
+    // Whether the text before each save is kept beside the one file.
+    fn keeps_old(&self) -> bool
+        ensures { result ≡ (is_file self.now.sort && option_map_or (λ spec. spec.backup) self.now.set_up false) }
+    {
+        match (self.sort, &self.set_up) {
+            (LayerSort::File, Some(set_up)) => set_up.spec().backup,
+            _ => false,
+        }
+    }
+
+    // Whether there is a place for the name, and the rules accept an item of this name and kind.
+    fn takes(&self, set_up: &SetUp, name: &Name, kind: Option<Kind>) -> Mem<bool>
+        ensures { IfOk result (λ is. is ≡ (has_place_for_of self.now.sort set_up.now.extension name.now && accepts (rules_of set_up.now) name.now kind)) }
+    {
+        let extension = set_up.spec().extension.bytes();
+        Ok(
+            has_place_for(self.sort, extension, name.bytes())
+                && set_up.accepts(self.alloc, name, kind)?,
+        )
+    }
+}
+
+// Changes the item at the name, or makes one, and touches it, or changes nothing.
+fn change_touched(
+    table: &mut ItemTable,
+    touched: &mut IndexSet<Vec<u8>>,
+    name: &Name,
+    op: &Op,
+) -> Mem<()>
+    ensures table { OnOk result ((item : ItemParts) → after_at op.now (map.get table.old name.now) ≡ Changed item → table.new ≡ map.insert table.old name.now item) }
+    ensures touched { OnOk result (each (λ k. k.items) touched.new.keys ≡ touch (each (λ k. k.items) touched.old.keys) name.now) }
+    ensures same_table { OnErr result (table.new ≡ table.old) }
+    ensures same_touched { OnErr result (each (λ k. k.items) touched.new.keys ≡ each (λ k. k.items) touched.old.keys) }
+{
+    let mark = name.copy()?.into_text().into_vec()?;
+    touched.reserve(1)?;
+    table.change(name, op)?;
+    match touched.insert(mark) {
+        Ok(_) => Ok(()),
+        Err(_) => unreachable!(),
+    }
+}
+
+// Takes the item at the name away and touches it, or changes nothing.
+fn remove_touched(table: &mut ItemTable, touched: &mut IndexSet<Vec<u8>>, name: &Name) -> Mem<()>
+    ensures table { OnOk result (table.new ≡ map.remove table.old name.now) }
+    ensures touched { OnOk result (each (λ k. k.items) touched.new.keys ≡ touch (each (λ k. k.items) touched.old.keys) name.now) }
+    ensures same_table { OnErr result (table.new ≡ table.old) }
+    ensures same_touched { OnErr result (each (λ k. k.items) touched.new.keys ≡ each (λ k. k.items) touched.old.keys) }
+{
+    let mark = name.copy()?.into_text().into_vec()?;
+    touched.insert(mark)?;
+    table.remove(name.bytes());
+    Ok(())
+}
+
+pub(crate) fn is_put_op(op: &Op) -> bool
+    ensures { result ≡ is_put op.now }
+{
+    matches!(op, Op::Put(_))
+}
+
+// Whether there is no item to change, and the operation makes none.
+fn lacks_item(op: &Op, held: Option<&Item>) -> bool
+    ensures { result ≡ (not (is_some (option_copied held.entry)) && not (is_put op.now)) }
+{
+    match held {
+        Some(_) => false,
+        None => !is_put_op(op),
+    }
+}
+
+// The text that the file of an image is to hold.
+fn bytes_of(image: Image) -> Option<Text>
+    ensures { result ≡ image.bytes }
+{
+    let Image {
+        path: _,
+        mode: _,
+        bytes,
+        old: _,
+    } = image;
+    bytes
+}
+
+impl Layer for Held {
+    ghost use Rattle.std.specs.Prelude.{map as each};
+
+    ghost state = { λ h. record { sort = h.sort; spec = h.set_up; table = h.table; touched = each (λ k. k.items) h.touched.keys; left_out = h.left_out; old = h.old } };
+
+    fn sort(&self) -> LayerSort {
+        self.sort
+    }
+
+    fn set_up(&mut self, spec: LayerSpec) -> Result<(), PatternError> {
+        match SetUp::build(self.alloc, spec) {
+            Ok(made) => {
+                self.set_up = Some(made);
+                Ok(())
+            }
+            Err(error) => Err(error),
+        }
+    }
+
+    fn take_in(&mut self, name: Name, item: Item) -> Mem<()> {
+        self.table.insert(name, item)
+    }
+
+    fn keep_old(&mut self, text: Text) {
+        self.old = Some(text);
+    }
+
+    fn leave_out(&mut self) {
+        self.table = ItemTable::new(self.alloc);
+        self.touched = IndexSet::new(self.alloc);
+        self.left_out = true;
+    }
+
+    fn has(&self, name: &Name) -> bool {
+        self.table.contains(name.bytes())
+    }
+
+    fn item(&self, name: &Name) -> Option<&Item> {
+        self.table.get(name.bytes())
+    }
+
+    fn seek(&self, name: &[u8]) -> Option<&Item> {
+        self.table.get(name)
+    }
+
+    fn writable(&self) -> bool {
+        match &self.set_up {
+            Some(set_up) => !set_up.spec().readonly && !self.left_out,
+            None => false,
+        }
+    }
+
+    fn admits(&self, name: &Name, kind: Option<Kind>) -> Mem<bool> {
+        match &self.set_up {
+            Some(set_up) => self.takes(set_up, name, kind),
+            None => Ok(false),
+        }
+    }
+
+    fn change(&mut self, name: &Name, op: &Op) -> Result<Taken, LayerError> {
+        if !self.writable() {
+            return Err(LayerError::ReadOnly);
+        }
+        let held = self.table.get(name.bytes());
+        if lacks_item(op, held) {
+            return Err(LayerError::NotHere);
+        }
+        match op.effect(held)? {
+            Effect::Same => Ok(Taken::Same),
+            Effect::Changed => {
+                change_touched(&mut self.table, &mut self.touched, name, op)?;
+                Ok(Taken::Changed)
+            }
+            Effect::Gone => {
+                remove_touched(&mut self.table, &mut self.touched, name)?;
+                Ok(Taken::Gone)
+            }
+        }
+    }
+
+    fn names(&self) -> Mem<List<Name>> {
+        self.table.names()
+    }
+
+    fn owned(&self, owner: &Name) -> Mem<List<Name>> {
+        self.table.owned(owner)
+    }
+
+    fn images(&self) -> Mem<List<Image>> {
+        match &self.set_up {
+            Some(set_up) => self.images_by(set_up.spec()),
+            None => Ok(List::new(self.alloc)),
+        }
+    }
+
+    fn mark_saved(&mut self, saved: List<Image>) {
+        if self.keeps_old() {
+            let mut saved = saved;
+            if let Some(image) = saved.pop() {
+                self.old = bytes_of(image);
+            }
+        }
+        self.touched.clear();
+    }
+}
