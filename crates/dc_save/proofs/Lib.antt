@@ -1,3 +1,5 @@
+pub mod FolderLemmas
+pub mod FileTurnLemmas
 pub mod ImageLemmas
 pub mod Ends
 pub mod PlaceLemmas

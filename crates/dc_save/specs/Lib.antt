@@ -1,3 +1,6 @@
+pub mod FileTurns
+pub mod FolderLoading
+pub mod Found
 pub mod Loading
 pub mod Places
 pub mod Saving

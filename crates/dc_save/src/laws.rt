@@ -1,14 +1,15 @@
 //! Laws of saves, over the definitions alone.
-ghost use Rattle.std.specs.Prelude.{◌≡◌, ◌++◌, List, Result, Some, true, map as each};
+ghost use Rattle.std.specs.Prelude.{◌≡◌, ◌++◌, List, Result, true, map as each};
+ghost use Rattle.std.specs.List.{list_all};
 ghost use Rattle.dc_outside.specs.Told.{Told};
-ghost use Rattle.dc_conf.specs.Configuration.{are_apart};
+ghost use Rattle.dc_conf.specs.Configuration.{are_apart, fits_sort};
 ghost use Rattle.dc_conf.specs.declared.spec.LayerSpec.{LayerSpec};
 ghost use Rattle.dc_layer.specs.declared.image.Image.{Image};
 ghost use Rattle.dc_save.specs.declared.saving.SaveError.{SaveError};
 ghost use Rattle.dc_outside.specs.Disk.{Disk, Standing, IsSettled, HasLeftMore};
 ghost use Rattle.dc_save.specs.Saving.{Saves, LeavesOldOrNew, MayAddAny, AreApart, KeepsPaths, StandSaved, all_images, all_saved};
 ghost use Rattle.dc_layer.specs.State.{LayerState, images};
-ghost use Rattle.dc_save.specs.Places.{AreFiles, AreOf};
+ghost use Rattle.dc_save.specs.Places.{AreOf, AreSetUpFor};
 
 /// However a save ends, a crash at any moment leaves each path's old file or the new one, and at most the paths beside it else.
 pub fn no_half_is_left()
@@ -26,9 +27,9 @@ pub fn saved_images_stand()
     ensures { (images : List Image) (old : Standing) → AreApart images → StandSaved images old (all_saved old images) }
 {}
 
-/// Images of databases in files whose places don't meet are such images.
+/// Images of databases whose places don't meet are such images.
 pub fn images_of_databases_are_apart()
-    ensures { (specs : List LayerSpec) (images : List Image) → AreFiles specs → are_apart specs ≡ true → AreOf specs images → AreApart images }
+    ensures { (specs : List LayerSpec) (images : List Image) → list_all fits_sort specs ≡ true → are_apart specs ≡ true → AreOf specs images → AreApart images }
 {}
 
 /// What saves in one run leave, one after another.
@@ -36,7 +37,7 @@ pub fn saves_chain()
     ensures { (images others : List Image) (first middle last : Disk) → HasLeftMore (MayAddAny images) first middle → HasLeftMore (MayAddAny others) middle last → HasLeftMore (MayAddAny (images ++ others)) first last }
 {}
 
-/// The images of layers in one file each, which were set up with these databases, are images of them.
+/// The images of layers that were set up for these databases are images of them.
 pub fn images_of_layers_are_of_their_databases()
-    ensures { (layers : List LayerState) (specs : List LayerSpec) → each (λ layer. layer.spec) layers ≡ each Some specs → AreOf specs (all_images (each images layers)) }
+    ensures { (layers : List LayerState) (specs : List LayerSpec) → AreSetUpFor layers specs → AreOf specs (all_images (each images layers)) }
 {}

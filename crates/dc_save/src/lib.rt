@@ -1,6 +1,7 @@
 //! How layers are saved to files, and loaded from them.
 #![tactic(auto)]
 
+mod folder_loading;
 pub mod laws;
 pub mod loading;
 pub mod saving;

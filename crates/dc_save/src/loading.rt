@@ -1,16 +1,18 @@
-// Loading a layer in one file.
+// Loading a layer, and one in one file.
 ghost use Rattle.std.specs.Prelude.{◌≡◌, ◌++◌, [], Some, IfOk, OnOk, OnErr, false};
 ghost use Rattle.std.specs.FinMap as map;
 ghost use Rattle.dc_text.specs.Maps.{AreDistinct};
 ghost use Rattle.dc_item.specs.Table.{names_of, table_of};
 ghost use Rattle.dc_layer.specs.State.{taken_in, without_items};
-ghost use Rattle.dc_save.specs.Loading.{LoadsLayer, LoadsFiles, LoadCounts, Takes, PassesOver, IsSameButTable, with_loaded, text_in};
+ghost use Rattle.dc_save.specs.Found.{IsSameButTable};
+ghost use Rattle.dc_save.specs.Loading.{LoadsFile, LoadsOneFile, FileCounts, LoadsLayer, LoadsFiles, LoadCounts, Takes, PassesOver, with_loaded, text_in};
 
+use crate::folder_loading::load_folder;
 use dc_conf::spec::{LayerSort, LayerSpec};
 use dc_item::{Entry, RecordError, read_records};
 use dc_layer::Layer;
 use dc_outside::{Files, FilesError};
-use dc_text::{List, Mem, Text};
+use dc_text::{List, Mem, OutOfMemory, Text};
 use std::alloc::Global;
 
 /// What became of a layer that was to be loaded.
@@ -31,6 +33,17 @@ pub enum LoadError {
     OutOfMemory,
 }
 
+impl From<OutOfMemory> for LoadError {
+    ghost use Rattle.std.specs.Prelude.{◌≡◌};
+    ghost use Rattle.dc_save.specs.declared.loading.LoadError.TheVariants.{OutOfMemory};
+
+    ghost from_gives = { λ _ e. e ≡ OutOfMemory };
+
+    fn from(_: OutOfMemory) -> Self {
+        LoadError::OutOfMemory
+    }
+}
+
 // The text that was found. A file that isn't there is the empty text.
 fn bytes_in(found: &Option<Text>) -> &[u8]
     ensures { result.now ≡ text_in found.now }
@@ -41,7 +54,7 @@ fn bytes_in(found: &Option<Text>) -> &[u8]
     }
 }
 
-fn take_entry(layer: &mut Box<dyn Layer>, entry: Entry) -> Mem<()>
+pub(crate) fn take_entry(layer: &mut Box<dyn Layer>, entry: Entry) -> Mem<()>
     requires new { map.contains_key (state layer.old).table entry.name ≡ false }
     requires untouched { (state layer.old).touched ≡ [] }
     ensures ok { OnOk result (state layer.new ≡ taken_in (state layer.old) entry.name entry.item) }
@@ -114,7 +127,11 @@ fn take_found(
 }
 
 // Leaves the layer out, unless a run needs it.
-fn pass_over(layer: &mut Box<dyn Layer>, required: bool, path: Text) -> Result<Loaded, LoadError>
+pub(crate) fn pass_over(
+    layer: &mut Box<dyn Layer>,
+    required: bool,
+    path: Text,
+) -> Result<Loaded, LoadError>
     ensures { PassesOver required path (state layer.old) (state layer.new) result }
 {
     if required {
@@ -124,32 +141,49 @@ fn pass_over(layer: &mut Box<dyn Layer>, required: bool, path: Text) -> Result<L
     Ok(Loaded::LeftOut)
 }
 
-/// Loads a layer in one file, which was set up with the spec and is empty.
+// Loads a layer in one file.
+fn load_one_file<F: Files>(
+    alloc: Global,
+    files: &mut F,
+    spec: &LayerSpec,
+    layer: &mut Box<dyn Layer>,
+) -> Result<Loaded, LoadError>
+    requires empty { (state layer.old).table ≡ map.empty }
+    requires untouched { (state layer.old).touched ≡ [] }
+    ensures loads { LoadsFile (F.told files.old).disk spec.now (state layer.old) (state layer.new) result }
+    ensures files { LoadsOneFile (F.told files.old) (F.told files.new) spec.now.place result }
+    ensures counts { FileCounts (F.told files.old) (F.told files.new) result (F.counts files.old) (F.counts files.new) }
+{
+    let path = spec.place.copy()?;
+    match files.read(&spec.place) {
+        Ok(found) => take_found(alloc, spec, layer, found, path),
+        Err(FilesError::Failed) => pass_over(layer, spec.required, path),
+        Err(FilesError::OutOfMemory) => Err(LoadError::OutOfMemory),
+    }
+}
+
+/// Loads a layer, which was set up with the spec and is empty.
 ///
-/// The records of the text at the layer's place become its table, and with `backup` the text is kept. A file that isn't
-/// there is the empty table. Where the read fails, a layer that a run doesn't need is left out.
+/// The records of the text at the place of a layer in one file become its table, and with `backup` the text is kept. A file that
+/// isn't there is the empty table. Those of the files in the folder of another layer become its table, where each file holds the
+/// records that it is for. Where a call fails, a layer that a run doesn't need is left out.
 pub fn load<F: Files>(
     alloc: Global,
     files: &mut F,
     spec: &LayerSpec,
     layer: &mut Box<dyn Layer>,
 ) -> Result<Loaded, LoadError>
-    requires file { (state layer.old).sort ≡ LayerSort.File }
+    requires sort { (state layer.old).sort ≡ spec.now.sort }
     requires spec { (state layer.old).spec ≡ Some spec.now }
     requires empty { (state layer.old).table ≡ map.empty }
     requires untouched { (state layer.old).touched ≡ [] }
     requires not_left_out { (state layer.old).left_out ≡ false }
     ensures loads { LoadsLayer (F.told files.old).disk spec.now (state layer.old) (state layer.new) result }
-    ensures files { LoadsFiles (F.told files.old) (F.told files.new) spec.now.place result }
-    ensures counts { LoadCounts (F.told files.old) (F.told files.new) result (F.counts files.old) (F.counts files.new) }
+    ensures files { LoadsFiles (F.told files.old) (F.told files.new) spec.now result }
+    ensures counts { LoadCounts spec.now (F.told files.old) (F.told files.new) result (F.counts files.old) (F.counts files.new) }
 {
-    let path = match spec.place.copy() {
-        Ok(path) => path,
-        Err(_) => return Err(LoadError::OutOfMemory),
-    };
-    match files.read(&spec.place) {
-        Ok(found) => take_found(alloc, spec, layer, found, path),
-        Err(FilesError::Failed) => pass_over(layer, spec.required, path),
-        Err(FilesError::OutOfMemory) => Err(LoadError::OutOfMemory),
+    match spec.sort {
+        LayerSort::File => load_one_file(alloc, files, spec, layer),
+        LayerSort::Tree | LayerSort::Pack => load_folder(alloc, files, spec, layer),
     }
 }

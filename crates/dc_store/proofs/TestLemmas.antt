@@ -12,6 +12,8 @@ use Rattle.dc_item.specs.declared.op.Op.{Op}
 use Rattle.dc_item.specs.declared.op.After.{After}
 use Rattle.dc_item.specs.declared.op.After.TheVariants.{Same, Changed, Gone}
 use Rattle.dc_template.specs.declared.kinds.Kind.{Kind}
+use Rattle.dc_layer.specs.Folders.{has_place_for}
+use Rattle.dc_layer.specs.Rules.{accepts, rules_of}
 use Rattle.dc_layer.specs.State.{LayerState, is_writable, admits, with_made}
 use Rattle.dc_store.specs.Holders.{item_at, has_at, holder_of, look_of, look_below_of}
 use Rattle.dc_conf.specs.Plans.{places}
@@ -89,11 +91,14 @@ module _ (ls ms : List LayerState) (n : List ℕ) (k : Option Kind) where
 writable_same : (n : List ℕ) (l m : LayerState) → IsSameBut n l m → is_writable m ≡ is_writable l
 writable_same n l m s = ap (λ spec. option_map_or (λ spec. not spec.readonly) spec false && not m.left_out) s.spec ∙ ap (λ b. option_map_or (λ spec. not spec.readonly) l.spec false && not b) s.left_out
 
+admits_same : (name n : List ℕ) (l m : LayerState) (k : Option Kind) → IsSameBut name l m → admits m n k ≡ admits l n k
+admits_same name n l m k s = λ i. option_map_or (λ spec. has_place_for (s.sort i) spec.extension n && accepts (rules_of spec) n k) (s.spec i) false
+
 layer_alike : (name n : List ℕ) (l m : LayerState) (ls ms : List LayerState) (k : Option Kind) → (n ≡ name → ⊥) → IsSameBut name l m → IsAlike (l ∷ ls) (m ∷ ms) n k zero
 layer_alike name n l m ls ms k differ s = record {
   item = s.items n differ;
   writable = writable_same name l m s;
-  takes = ap (λ b. b && admits m n k) (writable_same name l m s) ∙ ap (λ spec. is_writable l && admits (record l { spec = spec }) n k) s.spec;
+  takes = ap (λ b. b && admits m n k) (writable_same name l m s) ∙ ap (λ b. is_writable l && b) (admits_same name n l m k s);
 }
 
 names_alike : (name n : List ℕ) (ls ms : List LayerState) (k : Option Kind) → (n ≡ name → ⊥) → AreSameBut name ls ms → (p : ℕ) → IsAlike ls ms n k p

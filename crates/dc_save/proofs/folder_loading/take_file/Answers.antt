@@ -1,0 +1,6 @@
+use Rattle.dc_text.specs.Lines.{lines_of}
+use Rattle.dc_item.proofs.ReaderLemmas.{names_apart}
+use Rattle.dc_save.proofs.folder_loading.take_file.Goals as goal
+
+pub take_new-requires-clause-apart : goal.take_new-requires-clause-apart
+take_new-requires-clause-apart g c = names_apart (lines_of c.bytes.result.now) c.in-Ok.records c.in-Ok.ensures
