@@ -16,7 +16,7 @@ use Rattle.dc_proto.specs.declared.command.Heard.TheVariants.{Nothing, Known, Re
 use Rattle.dc_conf.specs.Configuration.{Configuration}
 use Rattle.dc_conf.specs.declared.spec.LayerSpec.{LayerSpec}
 use Rattle.dc_conf.proofs.AnswerLemmas.{sound_answer}
-use Rattle.dc_conf.proofs.ResolvedLemmas.{places_apart as places_kept_apart}
+use Rattle.dc_conf.proofs.ResolvedLemmas.{places_apart as places_kept_apart, sorts_fit as fit_kept}
 use Rattle.dc_item.specs.Item.{ItemParts}
 use Rattle.dc_item.specs.declared.op.Op.TheVariants.{SetFlag}
 use Rattle.dc_layer.specs.State.{Table, LayerState}
@@ -27,7 +27,12 @@ use Rattle.dc_store.specs.Plans.{StoreState}
 use Rattle.dc_store.specs.Rows.{Write, row_done, names_of}
 use Rattle.dc_store.specs.StoreLaws.{AreSameButAll}
 use Rattle.dc_teletype.specs.declared.teletype.Asked.TheVariants.{Answers}
-use Rattle.dc_save.specs.Loading.{with_loaded, LoadsLayer, LoadsFiles}
+use Rattle.dc_save.specs.FolderLoading.{its_files, after_reads, FailsOn, LoadsFolder, LoadsFolderFiles}
+use Rattle.dc_save.specs.Loading.{with_loaded, LoadsFile, LoadsOneFile, LoadsBy, LoadsFilesBy, LoadsLayer, LoadsFiles}
+use Rattle.dc_save.specs.Places.{AreSetUpFor}
+use Rattle.dc_save.proofs.FileTurnLemmas.{reads_disk}
+use Rattle.dc_conf.specs.declared.spec.LayerSort.{LayerSort}
+use Rattle.dc_conf.specs.declared.spec.LayerSort.TheVariants.{File, Tree, Pack}
 use Rattle.dc_save.specs.Saving.{Saves, Ends, MayAddAny, AreApart, StandSaved, all_saved}
 use Rattle.dc_save.specs.declared.loading.Loaded.{Loaded}
 use Rattle.dc_save.specs.declared.loading.Loaded.TheVariants.{Here, LeftOut}
@@ -75,18 +80,40 @@ use Rattle.dc_run.specs.declared.settings.Settings.{Settings}
 use Rattle.dc_usage.specs.declared.tool.Tool.{Tool}
 use Rattle.dc_usage.specs.declared.tool.Tool.TheVariants.{Communicate, LoadTemplate, Run}
 use Rattle.dc_run.proofs.RunLemmas.{ends_so}
-use Rattle.dc_run.proofs.StartLemmas.{files_reached}
 use Rattle.dc_run.specs.Crashes.{KeepsDatabases}
 
 -- ---- reads change nothing on the disk
 
-load_reads : (old new : Told) (path : List ℕ) (first : Result Loaded LoadError) → LoadsFiles old new path first → new.disk ≡ old.disk
-load_reads old new path (Ok Here) is = ap (λ (t : Told). t.disk) is
-load_reads old new path (Ok LeftOut) is = ap (λ (t : Told). t.disk) is
-load_reads old new path (Err (load.Failed failed)) is = ap (λ (t : Told). t.disk) is
-load_reads old new path (Err (load.Damaged damaged line)) is = ap (λ (t : Told). t.disk) is
-load_reads old new path (Err load.OutOfMemory) (inl is) = ap (λ (t : Told). t.disk) is
-load_reads old new path (Err load.OutOfMemory) (inr is) = ap (λ (t : Told). t.disk) is
+file_reads : (old new : Told) (path : List ℕ) (first : Result Loaded LoadError) → LoadsOneFile old new path first → new.disk ≡ old.disk
+file_reads old new path (Ok Here) is = ap (λ (t : Told). t.disk) is
+file_reads old new path (Ok LeftOut) is = ap (λ (t : Told). t.disk) is
+file_reads old new path (Err (load.Failed failed)) is = ap (λ (t : Told). t.disk) is
+file_reads old new path (Err (load.Damaged damaged line)) is = ap (λ (t : Told). t.disk) is
+file_reads old new path (Err load.OutOfMemory) (inl is) = ap (λ (t : Told). t.disk) is
+file_reads old new path (Err load.OutOfMemory) (inr is) = ap (λ (t : Told). t.disk) is
+
+after_reads_same : (told : Told) (spec : LayerSpec) (files : List (List ℕ)) → (after_reads told spec files).disk ≡ told.disk
+after_reads_same told spec files = reads_disk _ spec files
+
+failed_reads : (spec : LayerSpec) (path : List ℕ) (old new : Told) → FailsOn spec path old new → new.disk ≡ old.disk
+failed_reads spec path old new (inl is) = ap (λ (t : Told). t.disk) is.1
+failed_reads spec path old new (inr is) = ap (λ (t : Told). t.disk) is.told_is ∙ after_reads_same old spec is.before
+
+folder_reads : (old new : Told) (spec : LayerSpec) (first : Result Loaded LoadError) → LoadsFolderFiles old new spec first → new.disk ≡ old.disk
+folder_reads old new spec (Ok Here) is = ap (λ (t : Told). t.disk) is.2 ∙ after_reads_same old spec (its_files spec is.0)
+folder_reads old new spec (Ok LeftOut) is = failed_reads spec is.0 old new is.1
+folder_reads old new spec (Err (load.Failed failed)) is = failed_reads spec failed old new is
+folder_reads old new spec (Err (load.Damaged damaged line)) is = ap (λ (t : Told). t.disk) is.3.told_is ∙ after_reads_same old spec (is.0 ++ is.1 ∷ [])
+folder_reads old new spec (Err load.OutOfMemory) (inl is) = ap (λ (t : Told). t.disk) is
+folder_reads old new spec (Err load.OutOfMemory) (inr is) = ap (λ (t : Told). t.disk) is.1.told_is ∙ after_reads_same old spec is.0
+
+reads_by : (sort : LayerSort) (old new : Told) (spec : LayerSpec) (first : Result Loaded LoadError) → LoadsFilesBy sort old new spec first → new.disk ≡ old.disk
+reads_by File old new spec first is = file_reads old new spec.place first is
+reads_by Tree old new spec first is = folder_reads old new spec first is
+reads_by Pack old new spec first is = folder_reads old new spec first is
+
+pub load_reads : (old new : Told) (spec : LayerSpec) (first : Result Loaded LoadError) → LoadsFiles old new spec first → new.disk ≡ old.disk
+load_reads old new spec first is = reads_by spec.sort old new spec first is
 
 goes_on : (P : Type 0) (first : Result Loaded LoadError) (result : Result (Unit {0}) LoadError) (more last : Type 0) → (more → P) → (last → P) → GoesOn first result more last → P
 goes_on P (Ok loaded) result more last on at is = on is
@@ -99,7 +126,7 @@ all_read (spec ∷ specs) (layer ∷ old) [] files files_new before now result i
 all_read (spec ∷ specs) (layer ∷ old) (made ∷ new) files files_new before now result is =
     goes_on (files_new.disk ≡ is.1.disk) is.0 result (LoadsAll specs old new is.1 files_new is.2 now result) ((new ≡ old) × (files_new ≡ is.1) × (now ≡ is.2))
     (all_read specs old new is.1 files_new is.2 now result) (λ last. ap (λ (t : Told). t.disk) last.1) is.6
-    ∙ load_reads files is.1 spec.place is.0 is.4
+    ∙ load_reads files is.1 spec is.0 is.4
 
 before_reads : (path : List ℕ) (old : FilesState) (new : Stock) (how : End) → EndsBefore path old new how → new.files.told.disk ≡ old.told.disk
 before_reads path old new how (inl memory) = elim memory.begun [
@@ -113,19 +140,44 @@ before_reads path old new how (inr (inr (inr (inr unloaded)))) = all_read _ _ _ 
 
 -- ---- each layer stays one of its database
 
-abbrev specs_in : List LayerState → List (Option LayerSpec)
-specs_in layers = each (λ (layer : LayerState). layer.spec) layers
+abbrev Kind : Type 0
+Kind = LayerSort × Option LayerSpec
 
-loaded_spec : (spec : LayerSpec) (layer : LayerState) (table : Table) (found : Option (List ℕ)) → (with_loaded spec layer table found).spec ≡ layer.spec
-loaded_spec spec layer table None = refl
-loaded_spec spec layer table (Some text) = refl
+abbrev kind_of : LayerState → Kind
+kind_of layer = (layer.sort, layer.spec)
 
-load_keeps : (disk : Option Disk) (spec : LayerSpec) (layer made : LayerState) (first : Result Loaded LoadError) → LoadsLayer disk spec layer made first → made.spec ≡ layer.spec
-load_keeps disk spec layer made (Ok Here) is = ap (λ (l : LayerState). l.spec) is.layer_is ∙ loaded_spec spec layer _ is.found
-load_keeps disk spec layer made (Ok LeftOut) is = ap (λ (l : LayerState). l.spec) is.1
-load_keeps disk spec layer made (Err (load.Failed failed)) is = ap (λ (l : LayerState). l.spec) is.2
-load_keeps disk spec layer made (Err (load.Damaged damaged line)) is = ap (λ (l : LayerState). l.spec) is.2
-load_keeps disk spec layer made (Err load.OutOfMemory) is = ap (λ (l : LayerState). l.spec) is
+abbrev specs_in : List LayerState → List Kind
+specs_in layers = each kind_of layers
+
+-- those of layers that were set up for these databases
+abbrev set_for : List LayerSpec → List Kind
+set_for specs = each (λ (spec : LayerSpec). (spec.sort, Some spec)) specs
+
+loaded_kind : (spec : LayerSpec) (layer : LayerState) (table : Table) (found : Option (List ℕ)) → kind_of (with_loaded spec layer table found) ≡ kind_of layer
+loaded_kind spec layer table None = refl
+loaded_kind spec layer table (Some text) = refl
+
+file_keeps : (disk : Option Disk) (spec : LayerSpec) (layer made : LayerState) (first : Result Loaded LoadError) → LoadsFile disk spec layer made first → kind_of made ≡ kind_of layer
+file_keeps disk spec layer made (Ok Here) is = ap kind_of is.layer_is ∙ loaded_kind spec layer _ is.found
+file_keeps disk spec layer made (Ok LeftOut) is = ap kind_of is.1
+file_keeps disk spec layer made (Err (load.Failed failed)) is = ap kind_of is.2
+file_keeps disk spec layer made (Err (load.Damaged damaged line)) is = ap kind_of is.2
+file_keeps disk spec layer made (Err load.OutOfMemory) is = ap kind_of is
+
+folder_keeps : (disk : Option Disk) (spec : LayerSpec) (layer made : LayerState) (first : Result Loaded LoadError) → LoadsFolder disk spec layer made first → kind_of made ≡ kind_of layer
+folder_keeps disk spec layer made (Ok Here) is = ap kind_of is.layer_is
+folder_keeps disk spec layer made (Ok LeftOut) is = ap kind_of is.1
+folder_keeps disk spec layer made (Err (load.Failed failed)) is = ap kind_of is.1
+folder_keeps disk spec layer made (Err (load.Damaged damaged line)) is = ap kind_of is.1
+folder_keeps disk spec layer made (Err load.OutOfMemory) is = ap kind_of is
+
+keeps_by : (sort : LayerSort) (disk : Option Disk) (spec : LayerSpec) (layer made : LayerState) (first : Result Loaded LoadError) → LoadsBy sort disk spec layer made first → kind_of made ≡ kind_of layer
+keeps_by File disk spec layer made first is = file_keeps disk spec layer made first is
+keeps_by Tree disk spec layer made first is = folder_keeps disk spec layer made first is
+keeps_by Pack disk spec layer made first is = folder_keeps disk spec layer made first is
+
+load_keeps : (disk : Option Disk) (spec : LayerSpec) (layer made : LayerState) (first : Result Loaded LoadError) → LoadsLayer disk spec layer made first → kind_of made ≡ kind_of layer
+load_keeps disk spec layer made first is = keeps_by spec.sort disk spec layer made first is
 
 loads_keep : (specs : List LayerSpec) (old new : List LayerState) (files files_new : Told) (before now : Counts) (result : Result (Unit {0}) LoadError) → LoadsAll specs old new files files_new before now result → specs_in new ≡ specs_in old
 loads_keep [] old new files files_new before now result is = ap specs_in is.1
@@ -136,17 +188,34 @@ loads_keep (spec ∷ specs) (layer ∷ old) (made ∷ new) files files_new befor
     (loads_keep specs old new is.1 files_new is.2 now result) (λ last. ap specs_in last.0) is.6 in
     λ i. load_keeps files.disk spec layer made is.0 is.3 i ∷ later i
 
-set_up_specs : (specs : List LayerSpec) → specs_in (all_set_up specs) ≡ each Some specs
+set_up_specs : (specs : List LayerSpec) → specs_in (all_set_up specs) ≡ set_for specs
 set_up_specs [] = refl
-set_up_specs (spec ∷ specs) = ap (λ (l : List (Option LayerSpec)). Some spec ∷ l) (set_up_specs specs)
+set_up_specs (spec ∷ specs) = ap (λ (l : List Kind). (spec.sort, Some spec) ∷ l) (set_up_specs specs)
+
+first_kind : (one other : Kind) (more others : List Kind) → one ∷ more ≡ other ∷ others → one ≡ other
+first_kind one other more others e = cc
+
+other_kinds : (one other : Kind) (more others : List Kind) → one ∷ more ≡ other ∷ others → more ≡ others
+other_kinds one other more others e = cc
+
+no_kind : (one : Kind) (more : List Kind) → [] ≡ one ∷ more → ⊥
+no_kind one more e = absurd (cc)
+
+set_up_for : (layers : List LayerState) (specs : List LayerSpec) → specs_in layers ≡ set_for specs → AreSetUpFor layers specs
+set_up_for [] [] e = tt
+set_up_for [] (spec ∷ specs) e = absurd (no_kind _ _ e)
+set_up_for (layer ∷ layers) [] e = absurd (no_kind _ _ (sym e))
+set_up_for (layer ∷ layers) (spec ∷ specs) e =
+    let here : kind_of layer ≡ (spec.sort, Some spec) = first_kind _ _ _ _ e in
+    ((ap (λ (k : Kind). k.1) here, ap (λ (k : Kind). k.0) here), set_up_for layers specs (other_kinds _ _ _ _ e))
 
 same_specs : (names : List (List ℕ)) (old new : List LayerState) → AreSameButAll names old new → specs_in new ≡ specs_in old
 same_specs names [] [] is = refl
 same_specs names [] (layer ∷ new) is = absurd is
 same_specs names (layer ∷ old) [] is = absurd is
-same_specs names (layer ∷ old) (made ∷ new) is = λ i. is.0.spec i ∷ same_specs names old new is.1 i
+same_specs names (layer ∷ old) (made ∷ new) is = λ i. (is.0.sort i, is.0.spec i) ∷ same_specs names old new is.1 i
 
-abbrev specs_of : SessionState → List (Option LayerSpec)
+abbrev specs_of : SessionState → List Kind
 specs_of state = specs_in state.store.layers
 
 heard_keeps : (said : Heard) (old new : SessionState) (did : Stepped) → StepsHeard said old did new → specs_of new ≡ specs_of old
@@ -397,10 +466,10 @@ module _ (path : List ℕ) (how : End) (before after : Disk) (settled : IsSettle
     stands = λ ok. stand_saved [] before.standing tt;
   })
 
-  module _ (conf : Configuration) (is : IsConfiguration (Some before) path conf) (layers : List LayerState) (specs : specs_in layers ≡ each Some (databases_of conf)) where
+  module _ (conf : Configuration) (is : IsConfiguration (Some before) path conf) (layers : List LayerState) (specs : specs_in layers ≡ set_for (databases_of conf)) where
     apart : AreApart (images_of layers)
-    apart = places_apart (databases_of conf) (images_of layers) (files_reached is.text conf (roots conf) is.reads)
-        (places_kept_apart conf (roots conf) (sound_answer is.text conf is.reads)) (layers_of layers (databases_of conf) specs)
+    apart = places_apart (databases_of conf) (images_of layers) (fit_kept conf (roots conf) (sound_answer is.text conf is.reads))
+        (places_kept_apart conf (roots conf) (sound_answer is.text conf is.reads)) (layers_of layers (databases_of conf) (set_up_for layers (databases_of conf) specs))
 
     all_stand : after.standing ≡ all_saved before.standing (images_of layers) → StandSaved (images_of layers) before.standing after.standing
     all_stand same = subst (StandSaved (images_of layers) before.standing) (sym same) (stand_saved (images_of layers) before.standing apart)
@@ -408,7 +477,7 @@ module _ (path : List ℕ) (how : End) (before after : Disk) (settled : IsSettle
     some_saved : (files new : Told) → files.disk ≡ Some before → new.disk ≡ Some after → HasSaved (images_of layers) files new how → KeepsDatabases path before after how
     some_saved files new at to save = record {
       images = images_of layers;
-      are_of = inr (record { conf = conf; conf_is = is; are_of = layers_of layers (databases_of conf) specs });
+      are_of = inr (record { conf = conf; conf_is = is; are_of = layers_of layers (databases_of conf) (set_up_for layers (databases_of conf) specs) });
       keeps = keeps_paths (images_of layers) before after apart settled (every_moment (images_of layers) files new save.saves save.did before after at to settled);
       saves = save.saves;
       ends = ends (images_of layers) files new save.saves save.did before after at to settled;
@@ -427,13 +496,13 @@ module _ (settings : Settings) (old new : World) (outcome : Outcome) (before aft
     files_at : run.files.told.disk ≡ Some before
     files_at = keeps.disk ∙ all_read _ _ _ _ _ _ _ _ run.started.loaded.loads ∙ at
 
-    mid_specs : specs_in run.mid.used ≡ each Some (databases_of run.started.conf)
+    mid_specs : specs_in run.mid.used ≡ set_for (databases_of run.started.conf)
     mid_specs = loads_keep _ _ _ _ _ _ _ _ run.started.loaded.loads ∙ set_up_specs (databases_of run.started.conf)
 
-    specs_left : IsEnded run.answer.ended → specs_in run.layers ≡ each Some (databases_of run.started.conf)
+    specs_left : IsEnded run.answer.ended → specs_in run.layers ≡ set_for (databases_of run.started.conf)
     specs_left is = keeps.specs is ∙ mid_specs
 
-    kept_by : HasSaved (images_of run.layers) run.files.told new.stock.files.told outcome.end → specs_in run.layers ≡ each Some (databases_of run.started.conf) → KeepsDatabases settings.conf_path before after outcome.end
+    kept_by : HasSaved (images_of run.layers) run.files.told new.stock.files.told outcome.end → specs_in run.layers ≡ set_for (databases_of run.started.conf) → KeepsDatabases settings.conf_path before after outcome.end
     kept_by save specs =
         some_saved settings.conf_path outcome.end before after settled run.started.conf (subst (λ (disk : Option Disk). IsConfiguration disk settings.conf_path run.started.conf) at run.started.loaded.conf_is)
         run.layers specs run.files.told new.stock.files.told files_at to save
@@ -448,7 +517,7 @@ module _ (settings : Settings) (old new : World) (outcome : Outcome) (before aft
         (done_before run.answer.is_started run.links.child new.links.child run.how outcome.end run.answer.status run.status run.awaits)
         (saved_by run.layers new.stock.used run.files new.stock.files ended run.how does)
 
-    finished : (ended : ToolEnd) → (IsEnded ended → specs_in run.layers ≡ each Some (databases_of run.started.conf)) → Finishes run.layers new.stock.used ended run.files new.stock.files run.how
+    finished : (ended : ToolEnd) → (IsEnded ended → specs_in run.layers ≡ set_for (databases_of run.started.conf)) → Finishes run.layers new.stock.used ended run.files new.stock.files run.how
         → KeepsDatabases settings.conf_path before after outcome.end
     finished tool.Done specs does = kept_by (saved_at tool.Done does) (specs tt)
     finished tool.LinkFault specs does = kept_by (saved_at tool.LinkFault does) (specs tt)

@@ -17,7 +17,7 @@ use Rattle.dc_conf.specs.declared.plans.ResolveError.{ResolveError}
 use Rattle.dc_conf.specs.declared.plans.Resolved.{Resolved}
 use Rattle.dc_conf.proofs.CleanLemmas.{no_fault}
 use Rattle.dc_conf.proofs.TestLemmas.{nil-append}
-use Rattle.dc_shelf.specs.Shelves.{AreFiles, all_set_up, LoadsAll}
+use Rattle.dc_shelf.specs.Shelves.{all_set_up, LoadsAll}
 use Rattle.dc_run.specs.Starting.{IsSomeConfiguration, databases_of, roots, conf_read, IsConfiguration, HasReadConf, HasLoaded}
 use Rattle.dc_session.specs.SessionState.{FilesState}
 use Rattle.dc_conf.specs.declared.plans.Plan.{Plan}
@@ -82,30 +82,6 @@ few_reached text conf roots answer =
     let kept : length (reached conf roots) ≤ length conf.specs = kept_less (λ spec. list_any (λ root. is_among (holders_of conf root) spec.name) roots) conf.specs in
     omega arith
 
--- ---- how they are kept
-
-are_files : (stanzas : List Stanza) → AreFiles (each spec_of stanzas)
-are_files [] = tt
-are_files (s ∷ stanzas) = (refl, are_files stanzas)
-
-kept_by : {X : Type 0} (P : X → Type 0) (b : Bool) (x : X) (rest : List X) → P x → AllByRecursion P rest → AllByRecursion P (cond b (x ∷ rest) rest)
-kept_by P true x rest one all = (one, all)
-kept_by P false x rest one all = all
-
-kept_all : {X : Type 0} (P : X → Type 0) (p : X → Bool) (xs : List X) → AllByRecursion P xs → AllByRecursion P (filter p xs)
-kept_all P p [] all = tt
-kept_all P p (x ∷ xs) all = kept_by P (p x) x (filter p xs) all.0 (kept_all P p xs all.1)
-
-files_in : (all : List Stanza) → AreFiles (configuration all).specs
-files_in [] = tt
-files_in (head ∷ databases) = are_files (filter (λ stanza. not (is_stack stanza)) databases)
-
--- each database that is reached is kept in one file
-pub files_reached : (text : List ℕ) (conf : Configuration) (roots : List (List ℕ)) → IsAnswer text (Ok conf) → AreFiles (reached conf roots)
-files_reached text conf roots answer =
-    kept_all (λ (spec : LayerSpec). spec.sort ≡ File) (λ spec. list_any (λ root. is_among (holders_of conf root) spec.name) roots) conf.specs
-    (subst (λ (c : Configuration). AreFiles c.specs) (sym answer.1) (files_in (each fields_of (stanzas text))))
-
 -- ---- what resolving the two roots answers
 
 pub plans_resolved : (conf : Configuration) (all : List (List ℕ)) (result : Result Resolved ResolveError) → all ≡ roots conf → IsResolved conf all result
@@ -116,10 +92,6 @@ plans_resolved conf all (Err error) are answer = tt
 pub few_resolved : (conf : Configuration) (all : List (List ℕ)) (result : Result Resolved ResolveError) → IsSomeConfiguration conf → IsResolved conf all result → IfOk result (λ resolved. length resolved.specs ≤ 16)
 few_resolved conf all (Ok resolved) some answer = subst (λ (specs : List LayerSpec). length specs ≤ 16) (sym answer.1) (few_reached some.0 conf all some.1)
 few_resolved conf all (Err error) some answer = tt
-
-pub files_resolved : (conf : Configuration) (all : List (List ℕ)) (result : Result Resolved ResolveError) → IsSomeConfiguration conf → IsResolved conf all result → IfOk result (λ resolved. AreFiles resolved.specs)
-files_resolved conf all (Ok resolved) some answer = subst AreFiles (sym answer.1) (files_reached some.0 conf all some.1)
-files_resolved conf all (Err error) some answer = tt
 
 -- ---- what is loaded
 

@@ -2,6 +2,7 @@
 ghost use Rattle.std.specs.Prelude.{◌≡◌, ◌≤◌, [], Some, length, map as each, true};
 ghost use Rattle.dc_conf.specs.Plans.{IsOver, are_disjoint};
 ghost use Rattle.dc_outside.specs.Disk.{Disk, IsSettled};
+ghost use Rattle.dc_conf.specs.declared.spec.LayerSort.TheVariants.{File as OneFile, Tree, Pack};
 ghost use Rattle.dc_shelf.specs.Shelves.{AreBlank};
 ghost use Rattle.dc_run.specs.Crashes.{KeepsDatabases};
 ghost use Rattle.dc_run.specs.EndLines.{end_line, HasSaid};
@@ -42,8 +43,12 @@ pub fn run_words<L: Link, E: Link, C: Child, F: Files>(
     files: &mut F,
     shelf: &mut Shelf,
 ) -> Outcome
-    requires blank { AreBlank (each (λ b. state (b.vtable, b.value)) shelf.old.files.items) }
-    requires room { 16 ≤ length shelf.old.files.items }
+    requires files { AreBlank OneFile (each (λ b. state (b.vtable, b.value)) shelf.old.files.items) }
+    requires trees { AreBlank Tree (each (λ b. state (b.vtable, b.value)) shelf.old.trees.items) }
+    requires packs { AreBlank Pack (each (λ b. state (b.vtable, b.value)) shelf.old.packs.items) }
+    requires some_files { 16 ≤ length shelf.old.files.items }
+    requires some_trees { 16 ≤ length shelf.old.trees.items }
+    requires some_packs { 16 ≤ length shelf.old.packs.items }
     requires used { shelf.old.used.items ≡ [] }
     requires unstarted { (C.program child.old).life ≡ Unstarted }
     // What the tool does is what the plain machine does, what was saved and stands in `used` are its layers, by the end, and the end is
@@ -87,8 +92,12 @@ fn run_tool<L: Link, E: Link, C: Child, F: Files>(
     files: &mut F,
     shelf: &mut Shelf,
 ) -> Outcome
-    requires blank { AreBlank (each (λ b. state (b.vtable, b.value)) shelf.old.files.items) }
-    requires room { 16 ≤ length shelf.old.files.items }
+    requires files { AreBlank OneFile (each (λ b. state (b.vtable, b.value)) shelf.old.files.items) }
+    requires trees { AreBlank Tree (each (λ b. state (b.vtable, b.value)) shelf.old.trees.items) }
+    requires packs { AreBlank Pack (each (λ b. state (b.vtable, b.value)) shelf.old.packs.items) }
+    requires some_files { 16 ≤ length shelf.old.files.items }
+    requires some_trees { 16 ≤ length shelf.old.trees.items }
+    requires some_packs { 16 ≤ length shelf.old.packs.items }
     requires used { shelf.old.used.items ≡ [] }
     requires unstarted { (C.program child.old).life ≡ Unstarted }
     requires command { HasCommand tool.now }

@@ -6,7 +6,8 @@ ghost use Rattle.dc_frontend.specs.Frontends.{frontend_of};
 ghost use Rattle.dc_conf.specs.Configuration.{plan_of, IsAnswer, AreDisjoint};
 ghost use Rattle.dc_conf.specs.Plans.{IsOver, are_disjoint};
 ghost use Rattle.dc_proto.specs.Priorities.{priority_of};
-ghost use Rattle.dc_shelf.specs.Shelves.{AreBlank, AreFiles, LoadsAll, all_set_up};
+ghost use Rattle.dc_conf.specs.declared.spec.LayerSort.TheVariants.{File as OneFile, Tree, Pack};
+ghost use Rattle.dc_shelf.specs.Shelves.{AreBlank, LoadsAll, all_set_up};
 ghost use Rattle.dc_save.specs.Loading.{text_in};
 ghost use Rattle.dc_run.specs.Ends.{end_of_conf as end_of_conf_by, end_of_patterns as end_of_patterns_by, end_of_load as end_of_load_by};
 ghost use Rattle.dc_run.specs.Starting.{Starts, ReadsConf, IsSomeConfiguration, databases_of, chosen as chosen_of};
@@ -41,8 +42,12 @@ pub fn start<F: Files>(
     files: &mut F,
     shelf: &mut Shelf,
 ) -> Result<Roots, End>
-    requires blank { AreBlank (each (λ b. state (b.vtable, b.value)) shelf.old.files.items) }
-    requires room { 16 ≤ length shelf.old.files.items }
+    requires files { AreBlank OneFile (each (λ b. state (b.vtable, b.value)) shelf.old.files.items) }
+    requires trees { AreBlank Tree (each (λ b. state (b.vtable, b.value)) shelf.old.trees.items) }
+    requires packs { AreBlank Pack (each (λ b. state (b.vtable, b.value)) shelf.old.packs.items) }
+    requires some_files { 16 ≤ length shelf.old.files.items }
+    requires some_trees { 16 ≤ length shelf.old.trees.items }
+    requires some_packs { 16 ≤ length shelf.old.packs.items }
     requires used { shelf.old.used.items ≡ [] }
     ensures starts { Starts path.now (record { told = F.told files.old; counts = F.counts files.old }) (record { files = record { told = F.told files.new; counts = F.counts files.new }; used = each (λ b. state (b.vtable, b.value)) shelf.new.used.items }) result }
     ensures over { IfOk result (λ roots. IsOver roots.config (length shelf.new.used.items) × IsOver roots.templates (length shelf.new.used.items)) }
@@ -198,7 +203,7 @@ fn configuration_in(alloc: Global, found: &Option<Text>) -> Result<Conf, ConfErr
 }
 
 // The databases that the two roots reach, and the plan of each root.
-#[tactic(auto, using(crate::proofs::StartLemmas::plans_resolved, crate::proofs::StartLemmas::few_resolved, crate::proofs::StartLemmas::files_resolved))]
+#[tactic(auto, using(crate::proofs::StartLemmas::plans_resolved, crate::proofs::StartLemmas::few_resolved))]
 fn resolve(alloc: Global, conf: &Conf) -> Result<Resolved, ResolveError>
     requires { IsSomeConfiguration conf.now }
     ensures specs { IfOk result (λ resolved. resolved.specs ≡ databases_of conf.now) }
@@ -206,7 +211,6 @@ fn resolve(alloc: Global, conf: &Conf) -> Result<Resolved, ResolveError>
     ensures over { IfOk result (λ resolved. AllByRecursion (λ plan. IsOver plan (length resolved.specs)) resolved.plans) }
     ensures disjoint { IfOk result (λ resolved. AreDisjoint resolved.plans) }
     ensures few { IfOk result (λ resolved. length resolved.specs ≤ 16) }
-    ensures sorts { IfOk result (λ resolved. AreFiles resolved.specs) }
 {
     let mut roots = List::new(alloc);
     roots.push(conf.config().copy()?)?;

@@ -4,7 +4,6 @@ use Rattle.std.specs.Prelude.{slice_get}
 use Rattle.std.proofs.Math.ListN.{set}
 use Rattle.dc_outside.specs.Told.{Told, Counts}
 use Rattle.dc_conf.specs.declared.spec.LayerSpec.{LayerSpec}
-use Rattle.dc_conf.specs.declared.spec.LayerSort.TheVariants.{File}
 use Rattle.dc_layer.specs.State.{LayerState, blank, set_up}
 use Rattle.dc_save.specs.declared.loading.Loaded.{Loaded}
 use Rattle.dc_save.specs.declared.loading.LoadError.{LoadError}
@@ -38,7 +37,7 @@ module _ {A : Type 0} (f : A → LayerState) where
   before (x ∷ xs) (suc i) y = ap (λ l. f x ∷ l) (before xs i y)
 
   pub is_loaded_at : (xs : List A) (i : ℕ) (d y : A) → i < length xs → (spec : LayerSpec) (told told_new : Told) (counts now : Counts) (first : Result Loaded LoadError)
-      → LoadsLayer told.disk spec (f (get_or xs i d)) (f y) first → LoadsFiles told told_new spec.place first → LoadCounts told told_new first counts now
+      → LoadsLayer told.disk spec (f (get_or xs i d)) (f y) first → LoadsFiles told told_new spec first → LoadCounts spec told told_new first counts now
       → IsLoadedAt spec i (each f xs) (each f (set xs i y)) told told_new counts now first
   is_loaded_at xs i d y within spec told told_new counts now first loads files counted = record {
     layer = f (get_or xs i d);
@@ -64,9 +63,9 @@ at_place (y ∷ layers) (suc i) layer is = at_place layers i layer is
 
 -- the layer at the place is as it is set up
 pub set_at : (specs : List LayerSpec) (layers : List LayerState) (i : ℕ) (spec : LayerSpec) → i < length specs → spec ≡ get_or specs i spec → drop i layers ≡ all_set_up (drop i specs)
-    → (layer : LayerState) → slice_get layers i ≡ Some layer → layer ≡ set_up (blank File) spec
+    → (layer : LayerState) → slice_get layers i ≡ Some layer → layer ≡ set_up (blank spec.sort) spec
 set_at specs layers i spec within is are layer at =
-    let one : layer ∷ drop (suc i) layers ≡ set_up (blank File) spec ∷ all_set_up (drop (suc i) specs) = sym (at_place layers i layer at) ∙ are ∙ ap all_set_up (spec_at specs i spec within is) in
+    let one : layer ∷ drop (suc i) layers ≡ set_up (blank spec.sort) spec ∷ all_set_up (drop (suc i) specs) = sym (at_place layers i layer at) ∙ are ∙ ap all_set_up (spec_at specs i spec within is) in
     cc
 
 kept_head : (i : ℕ) (new old : List LayerState) (made : LayerState) (rest : List LayerState) → take (suc i) new ≡ take (suc i) old → drop i old ≡ made ∷ rest → drop i new ≡ made ∷ drop (suc i) new

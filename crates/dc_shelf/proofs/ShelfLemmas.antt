@@ -5,27 +5,28 @@ use Rattle.std.specs.Prelude.{OnOk, IfErr}
 use Rattle.std.proofs.lemmas.List.{map-append}
 use Rattle.dc_text.specs.declared.memory.OutOfMemory.{OutOfMemory}
 use Rattle.dc_shelf.specs.declared.shelf.NotSetUp.{NotSetUp}
-use Rattle.dc_conf.specs.declared.spec.LayerSort.TheVariants.{File}
+use Rattle.dc_conf.specs.declared.spec.LayerSort.{LayerSort}
 use Rattle.dc_conf.specs.declared.spec.LayerSpec.{LayerSpec}
 use Rattle.dc_layer.specs.State.{LayerState, blank}
 use Rattle.dc_layer.specs.declared.image.Image.{Image}
 use Rattle.dc_layer.specs.declared.pattern.PatternError.{PatternError}
 use Rattle.dc_shelf.specs.Shelves.{AreBlank, AreRefusedFor, IsRefusedAt, IsRefusedFrom}
 
-blank_last : (front : List LayerState) (last : LayerState) → AreBlank (front ++ last ∷ []) → (last ≡ blank File) × AreBlank front
-blank_last [] last all = (all.0, tt)
-blank_last (layer ∷ front) last all = let later = blank_last front last all.1 in (later.0, (all.0, later.1))
+module _ (sort : LayerSort) where
+  blank_last : (front : List LayerState) (last : LayerState) → AreBlank sort (front ++ last ∷ []) → (last ≡ blank sort) × AreBlank sort front
+  blank_last [] last all = (all.0, tt)
+  blank_last (layer ∷ front) last all = let later = blank_last front last all.1 in (later.0, (all.0, later.1))
 
-pub taken_blank : {A : Type 0} (f : A → LayerState) (items rest : List A) (last : A) → items ≡ rest ++ last ∷ [] → AreBlank (each f items) → (f last ≡ blank File) × AreBlank (each f rest)
-taken_blank f items rest last are all = blank_last (each f rest) (f last) (subst AreBlank (ap (λ l. each f l) are ∙ map-append f rest (last ∷ [])) all)
+  pub taken_blank : {A : Type 0} (f : A → LayerState) (items rest : List A) (last : A) → items ≡ rest ++ last ∷ [] → AreBlank sort (each f items) → (f last ≡ blank sort) × AreBlank sort (each f rest)
+  taken_blank f items rest last are all = blank_last (each f rest) (f last) (subst (AreBlank sort) (ap (λ l. each f l) are ∙ map-append f rest (last ∷ [])) all)
 
-blank_more : (layers : List LayerState) (last : LayerState) → AreBlank layers → last ≡ blank File → AreBlank (layers ++ last ∷ [])
-blank_more [] last all is = (is, tt)
-blank_more (layer ∷ layers) last all is = (all.0, blank_more layers last all.1 is)
+  blank_more : (layers : List LayerState) (last : LayerState) → AreBlank sort layers → last ≡ blank sort → AreBlank sort (layers ++ last ∷ [])
+  blank_more [] last all is = (is, tt)
+  blank_more (layer ∷ layers) last all is = (all.0, blank_more layers last all.1 is)
 
--- a blank box behind blank ones
-pub put_blank : {A : Type 0} (f : A → LayerState) (items more : List A) (last : A) → more ≡ items ++ last ∷ [] → AreBlank (each f items) → f last ≡ blank File → AreBlank (each f more)
-put_blank f items more last are all is = subst AreBlank (sym (map-append f items (last ∷ [])) ∙ ap (λ l. each f l) (sym are)) (blank_more (each f items) (f last) all is)
+  -- a blank box behind blank ones
+  pub put_blank : {A : Type 0} (f : A → LayerState) (items more : List A) (last : A) → more ≡ items ++ last ∷ [] → AreBlank sort (each f items) → f last ≡ blank sort → AreBlank sort (each f more)
+  put_blank f items more last are all is = subst (AreBlank sort) (sym (map-append f items (last ∷ [])) ∙ ap (λ l. each f l) (sym are)) (blank_more (each f items) (f last) all is)
 
 -- the first of these databases is refused
 pub first_refused : (place : ℕ) (spec : LayerSpec) (rest : List LayerSpec) (error : PatternError) → AreRefusedFor spec error → IsRefusedFrom place (spec ∷ rest) place error

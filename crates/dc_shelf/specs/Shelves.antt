@@ -3,7 +3,7 @@ use Rattle.std.specs.Prelude.{◌≡◌, ℕ, ◌+◌, suc, false, take, drop, L
 use Rattle.std.specs.List.{AllByRecursion}
 use Rattle.dc_outside.specs.Told.{Told, Counts}
 use Rattle.dc_conf.specs.declared.spec.LayerSpec.{LayerSpec}
-use Rattle.dc_conf.specs.declared.spec.LayerSort.TheVariants.{File}
+use Rattle.dc_conf.specs.declared.spec.LayerSort.{LayerSort}
 use Rattle.dc_layer.specs.State.{LayerState, blank, set_up, saved}
 use Rattle.dc_layer.specs.Rules.{rules_of, are_patterns, are_plain}
 use Rattle.dc_layer.specs.declared.pattern.PatternError.{PatternError}
@@ -14,17 +14,13 @@ use Rattle.dc_save.specs.declared.loading.LoadError.{LoadError}
 
 -- ---- the boxes
 
--- each is a blank layer in one file
-abbrev pub AreBlank : List LayerState → Type 0
-AreBlank layers = AllByRecursion (λ layer. layer ≡ blank File) layers
-
--- each database is kept in one file
-abbrev pub AreFiles : List LayerSpec → Type 0
-AreFiles specs = AllByRecursion (λ spec. spec.sort ≡ File) specs
+-- each is a blank layer of this sort
+abbrev pub AreBlank : LayerSort → List LayerState → Type 0
+AreBlank sort layers = AllByRecursion (λ layer. layer ≡ blank sort) layers
 
 -- a layer of each database, as it is set up
 abbrev pub all_set_up : List LayerSpec → List LayerState
-all_set_up specs = each (λ spec. set_up (blank File) spec) specs
+all_set_up specs = each (λ spec. set_up (blank spec.sort) spec) specs
 
 -- why the patterns of a database are refused: at most where one isn't plain, and as bad ones only where one is no pattern
 abbrev pub AreRefusedFor : LayerSpec → PatternError → Type 0
@@ -56,7 +52,7 @@ LoadsAll (spec ∷ specs) [] new files files_new before now result = ⊥
 LoadsAll (spec ∷ specs) (layer ∷ old) [] files files_new before now result = ⊥
 LoadsAll (spec ∷ specs) (layer ∷ old) (made ∷ new) files files_new before now result =
     (first : Result Loaded LoadError) × (mid : Told) × (counts : Counts)
-    × LoadsLayer files.disk spec layer made first × LoadsFiles files mid spec.place first × LoadCounts files mid first before counts
+    × LoadsLayer files.disk spec layer made first × LoadsFiles files mid spec first × LoadCounts spec files mid first before counts
     × GoesOn first result (LoadsAll specs old new mid files_new counts now result) ((new ≡ old) × (files_new ≡ mid) × (now ≡ counts))
 
 -- ---- the machinery of the proofs
@@ -81,5 +77,5 @@ pub record IsLoadedAt (spec : LayerSpec) (place : ℕ) (old new : List LayerStat
   pub behind : drop (suc place) new ≡ drop (suc place) old
   pub kept : take place new ≡ take place old
   pub loads : LoadsLayer told.disk spec layer made first
-  pub files : LoadsFiles told told_new spec.place first
-  pub counts : LoadCounts told told_new first before now
+  pub files : LoadsFiles told told_new spec first
+  pub counts : LoadCounts spec told told_new first before now

@@ -1,6 +1,5 @@
 // The layers of a run loaded, one after another.
 ghost use Rattle.std.specs.Prelude.{◌≡◌, ◌<◌, map as each, length, take, drop, slice_get, Some};
-ghost use Rattle.dc_conf.specs.declared.spec.LayerSort.TheVariants.{File as OneFile};
 ghost use Rattle.dc_layer.specs.State.{LayerState, blank, set_up};
 ghost use Rattle.dc_save.specs.Loading.{LoadsLayer, LoadsFiles, LoadCounts};
 ghost use Rattle.dc_shelf.specs.Shelves.{all_set_up, LoadsAll, IsLoadedAt};
@@ -56,7 +55,7 @@ fn load_at<F: Files>(
     place: usize,
 ) -> Result<Loaded, LoadError>
     requires within { place < length layers.old }
-    requires set { (layer : LayerState) → slice_get (each state layers.old) place ≡ Some layer → layer ≡ set_up (blank OneFile) spec.now }
+    requires set { (layer : LayerState) → slice_get (each state layers.old) place ≡ Some layer → layer ≡ set_up (blank spec.now.sort) spec.now }
     ensures { IsLoadedAt spec.now place (each state layers.old) (each state layers.new) (F.told files.old) (F.told files.new) (F.counts files.old) (F.counts files.new) result }
 {
     let layer = &mut layers[place];
@@ -69,10 +68,10 @@ fn load_one<F: Files>(
     spec: &LayerSpec,
     layer: &mut Box<dyn Layer>,
 ) -> Result<Loaded, LoadError>
-    requires { state layer.old ≡ set_up (blank OneFile) spec.now }
+    requires { state layer.old ≡ set_up (blank spec.now.sort) spec.now }
     ensures loads { LoadsLayer (F.told files.old).disk spec.now (state layer.old) (state layer.new) result }
-    ensures files { LoadsFiles (F.told files.old) (F.told files.new) spec.now.place result }
-    ensures counts { LoadCounts (F.told files.old) (F.told files.new) result (F.counts files.old) (F.counts files.new) }
+    ensures files { LoadsFiles (F.told files.old) (F.told files.new) spec.now result }
+    ensures counts { LoadCounts spec.now (F.told files.old) (F.told files.new) result (F.counts files.old) (F.counts files.new) }
 {
     load(alloc, files, spec, layer)
 }

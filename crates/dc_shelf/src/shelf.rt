@@ -1,10 +1,9 @@
 // The shelf, and how its boxes are set up.
 ghost use Rattle.std.specs.Prelude.{◌≡◌, ◌≤◌, ◌<◌, ◌+◌, ◌++◌, ◌∷◌, [], length, IfErr, OnErr, OnOk, map as each};
-ghost use Rattle.dc_conf.specs.declared.spec.LayerSort.TheVariants.{File as OneFile};
 ghost use Rattle.dc_layer.specs.State.{blank, set_up as set_up_with};
-ghost use Rattle.dc_shelf.specs.Shelves.{AreBlank, AreFiles, all_set_up, AreRefusedFor, IsRefusedAt, IsRefusedFrom};
+ghost use Rattle.dc_shelf.specs.Shelves.{AreBlank, all_set_up, AreRefusedFor, IsRefusedAt, IsRefusedFrom};
 
-use dc_conf::spec::LayerSpec;
+use dc_conf::spec::{LayerSort, LayerSpec};
 use dc_layer::{Layer, PatternError};
 use dc_text::{Copied, Mem};
 use std::alloc::Global;
@@ -26,9 +25,13 @@ pub struct NotSetUp {
 }
 
 impl Shelf {
+    ghost use Rattle.dc_conf.specs.declared.spec.LayerSort.TheVariants.{File, Tree, Pack};
+
     /// A shelf without boxes.
     pub fn empty(alloc: Global) -> Shelf
         ensures files { result.files.items ≡ [] }
+        ensures trees { result.trees.items ≡ [] }
+        ensures packs { result.packs.items ≡ [] }
         ensures used { result.used.items ≡ [] }
     {
         Shelf {
@@ -39,85 +42,143 @@ impl Shelf {
         }
     }
 
-    /// Takes one more blank layer in a file. Where memory fails the layer is dropped and the shelf is as before.
-    pub fn take_file(&mut self, layer: Box<dyn Layer>) -> Mem<()>
-        requires blank { AreBlank (each state self.old.files.items) }
-        requires layer { state layer ≡ blank OneFile }
-        ensures blank { OnOk result (AreBlank (each state self.new.files.items)) }
-        ensures count { OnOk result (length self.new.files.items ≡ length self.old.files.items + 1) }
+    /// Takes one more blank layer of each sort. Where memory fails it may have taken the first of them.
+    pub fn take_each(
+        &mut self,
+        file: Box<dyn Layer>,
+        tree: Box<dyn Layer>,
+        pack: Box<dyn Layer>,
+    ) -> Mem<()>
+        requires files { AreBlank File (each state self.old.files.items) }
+        requires trees { AreBlank Tree (each state self.old.trees.items) }
+        requires packs { AreBlank Pack (each state self.old.packs.items) }
+        requires file { state file ≡ blank File }
+        requires tree { state tree ≡ blank Tree }
+        requires pack { state pack ≡ blank Pack }
+        ensures files { OnOk result (AreBlank File (each state self.new.files.items)) }
+        ensures trees { OnOk result (AreBlank Tree (each state self.new.trees.items)) }
+        ensures packs { OnOk result (AreBlank Pack (each state self.new.packs.items)) }
+        ensures count_files { OnOk result (length self.new.files.items ≡ length self.old.files.items + 1) }
+        ensures count_trees { OnOk result (length self.new.trees.items ≡ length self.old.trees.items + 1) }
+        ensures count_packs { OnOk result (length self.new.packs.items ≡ length self.old.packs.items + 1) }
         ensures used { self.new.used.items ≡ self.old.used.items }
-        ensures err { OnErr result (each state self.new.files.items ≡ each state self.old.files.items) }
     {
-        take(&mut self.files, layer)
+        put_file(&mut self.files, file)?;
+        put_tree(&mut self.trees, tree)?;
+        put_pack(&mut self.packs, pack)
+    }
+
+    // A blank box of the sort, taken from the others.
+    fn take(&mut self, sort: LayerSort) -> Box<dyn Layer>
+        requires files { AreBlank File (each state self.old.files.items) }
+        requires trees { AreBlank Tree (each state self.old.trees.items) }
+        requires packs { AreBlank Pack (each state self.old.packs.items) }
+        requires some_files { 0 < length self.old.files.items }
+        requires some_trees { 0 < length self.old.trees.items }
+        requires some_packs { 0 < length self.old.packs.items }
+        ensures taken { state result ≡ blank sort }
+        ensures files { AreBlank File (each state self.new.files.items) }
+        ensures trees { AreBlank Tree (each state self.new.trees.items) }
+        ensures packs { AreBlank Pack (each state self.new.packs.items) }
+        ensures count_files { length self.old.files.items ≤ length self.new.files.items + 1 }
+        ensures count_trees { length self.old.trees.items ≤ length self.new.trees.items + 1 }
+        ensures count_packs { length self.old.packs.items ≤ length self.new.packs.items + 1 }
+        ensures used { self.new.used.items ≡ self.old.used.items }
+    {
+        match sort {
+            LayerSort::File => take_last(&mut self.files),
+            LayerSort::Tree => take_last(&mut self.trees),
+            LayerSort::Pack => take_last(&mut self.packs),
+        }
     }
 }
 
-// One more blank box behind the others.
+// One more blank layer in a file behind the others.
 #[tactic(auto, using(crate::proofs::ShelfLemmas::put_blank))]
-fn take(files: &mut Vec<Box<dyn Layer>>, layer: Box<dyn Layer>) -> Mem<()>
-    requires blank { AreBlank (each state files.old.items) }
-    requires layer { state layer ≡ blank OneFile }
-    ensures blank { OnOk result (AreBlank (each state files.new.items)) }
-    ensures count { OnOk result (length files.new.items ≡ length files.old.items + 1) }
-    ensures err { OnErr result (each state files.new.items ≡ each state files.old.items) }
+fn put_file(layers: &mut Vec<Box<dyn Layer>>, layer: Box<dyn Layer>) -> Mem<()>
+    requires blank { AreBlank LayerSort.File (each state layers.old.items) }
+    requires layer { state layer ≡ blank LayerSort.File }
+    ensures blank { OnOk result (AreBlank LayerSort.File (each state layers.new.items)) }
+    ensures count { OnOk result (length layers.new.items ≡ length layers.old.items + 1) }
 {
-    files.push(layer)?;
+    layers.push(layer)?;
     Ok(())
+}
+
+// One more blank layer in a tree behind the others.
+#[tactic(auto, using(crate::proofs::ShelfLemmas::put_blank))]
+fn put_tree(layers: &mut Vec<Box<dyn Layer>>, layer: Box<dyn Layer>) -> Mem<()>
+    requires blank { AreBlank LayerSort.Tree (each state layers.old.items) }
+    requires layer { state layer ≡ blank LayerSort.Tree }
+    ensures blank { OnOk result (AreBlank LayerSort.Tree (each state layers.new.items)) }
+    ensures count { OnOk result (length layers.new.items ≡ length layers.old.items + 1) }
+{
+    layers.push(layer)?;
+    Ok(())
+}
+
+// One more blank layer in a pack behind the others.
+#[tactic(auto, using(crate::proofs::ShelfLemmas::put_blank))]
+fn put_pack(layers: &mut Vec<Box<dyn Layer>>, layer: Box<dyn Layer>) -> Mem<()>
+    requires blank { AreBlank LayerSort.Pack (each state layers.old.items) }
+    requires layer { state layer ≡ blank LayerSort.Pack }
+    ensures blank { OnOk result (AreBlank LayerSort.Pack (each state layers.new.items)) }
+    ensures count { OnOk result (length layers.new.items ≡ length layers.old.items + 1) }
+{
+    layers.push(layer)?;
+    Ok(())
+}
+
+// The last of these boxes, which are blank.
+fn take_last(layers: &mut Vec<Box<dyn Layer>>) -> Box<dyn Layer>
+    requires some { 0 < length layers.old.items }
+    ensures taken { (sort : LayerSort) → AreBlank sort (each state layers.old.items) → state result ≡ blank sort }
+    ensures left { (sort : LayerSort) → AreBlank sort (each state layers.old.items) → AreBlank sort (each state layers.new.items) }
+    ensures count { length layers.new.items + 1 ≡ length layers.old.items }
+{
+    match layers.pop() {
+        None => unreachable!(),
+        Some(layer) => layer,
+    }
 }
 
 /// Moves a blank box of the shelf into `used` for each database, in order, and sets it up.
 pub fn set_up_all(shelf: &mut Shelf, specs: &[LayerSpec]) -> Result<(), NotSetUp>
-    requires blank { AreBlank (each state shelf.old.files.items) }
-    requires room { length specs.now ≤ length shelf.old.files.items }
+    requires files { AreBlank LayerSort.File (each state shelf.old.files.items) }
+    requires trees { AreBlank LayerSort.Tree (each state shelf.old.trees.items) }
+    requires packs { AreBlank LayerSort.Pack (each state shelf.old.packs.items) }
+    requires some_files { length specs.now ≤ length shelf.old.files.items }
+    requires some_trees { length specs.now ≤ length shelf.old.trees.items }
+    requires some_packs { length specs.now ≤ length shelf.old.packs.items }
     requires few { length specs.now ≤ 16 }
-    requires sorts { AreFiles specs.now }
     requires used { shelf.old.used.items ≡ [] }
     ensures ok { OnOk result (each state shelf.new.used.items ≡ all_set_up specs.now) }
     ensures refused { IfErr result (λ refused. IsRefusedAt specs.now refused.place refused.error) }
 {
-    set_up_from(&mut shelf.files, &mut shelf.used, specs, 0)
+    set_up_from(shelf, specs, 0)
 }
 
 // The same of the databases from a place on.
-fn set_up_from(
-    files: &mut Vec<Box<dyn Layer>>,
-    used: &mut Vec<Box<dyn Layer>>,
-    specs: &[LayerSpec],
-    place: usize,
-) -> Result<(), NotSetUp>
-    requires blank { AreBlank (each state files.old.items) }
-    requires room { length specs.now ≤ length files.old.items }
+fn set_up_from(shelf: &mut Shelf, specs: &[LayerSpec], place: usize) -> Result<(), NotSetUp>
+    requires files { AreBlank LayerSort.File (each state shelf.old.files.items) }
+    requires trees { AreBlank LayerSort.Tree (each state shelf.old.trees.items) }
+    requires packs { AreBlank LayerSort.Pack (each state shelf.old.packs.items) }
+    requires some_files { length specs.now ≤ length shelf.old.files.items }
+    requires some_trees { length specs.now ≤ length shelf.old.trees.items }
+    requires some_packs { length specs.now ≤ length shelf.old.packs.items }
     requires few { place + length specs.now ≤ 16 }
-    requires sorts { AreFiles specs.now }
-    ensures ok { OnOk result (each state used.new.items ≡ each state used.old.items ++ all_set_up specs.now) }
+    ensures ok { OnOk result (each state shelf.new.used.items ≡ each state shelf.old.used.items ++ all_set_up specs.now) }
     ensures refused { IfErr result (λ refused. IsRefusedFrom place specs.now refused.place refused.error) }
 {
     match specs {
         [] => Ok(()),
-        [spec, rest @ ..] => match set_up_next(files, used, spec) {
-            Ok(()) => set_up_from(files, used, rest, place + 1),
-            Err(error) => Err(NotSetUp { place, error }),
-        },
-    }
-}
-
-// Sets up one more box.
-fn set_up_next(
-    files: &mut Vec<Box<dyn Layer>>,
-    used: &mut Vec<Box<dyn Layer>>,
-    spec: &LayerSpec,
-) -> Result<(), PatternError>
-    requires some { 0 < length files.old.items }
-    requires blank { AreBlank (each state files.old.items) }
-    requires sort { spec.now.sort ≡ OneFile }
-    ensures ok { OnOk result (each state used.new.items ≡ each state used.old.items ++ set_up_with (blank OneFile) spec.now ∷ []) }
-    ensures err { IfErr result (AreRefusedFor spec.now) }
-    ensures left { AreBlank (each state files.new.items) }
-    ensures count { length files.new.items + 1 ≡ length files.old.items }
-{
-    match files.pop() {
-        None => unreachable!(),
-        Some(layer) => set_up_into(used, layer, spec),
+        [spec, rest @ ..] => {
+            let layer = shelf.take(spec.sort);
+            match set_up_into(&mut shelf.used, layer, spec) {
+                Ok(()) => set_up_from(shelf, rest, place + 1),
+                Err(error) => Err(NotSetUp { place, error }),
+            }
+        }
     }
 }
 
@@ -127,9 +188,8 @@ fn set_up_into(
     layer: Box<dyn Layer>,
     spec: &LayerSpec,
 ) -> Result<(), PatternError>
-    requires blank { state layer ≡ blank OneFile }
-    requires sort { spec.now.sort ≡ OneFile }
-    ensures ok { OnOk result (each state used.new.items ≡ each state used.old.items ++ set_up_with (blank OneFile) spec.now ∷ []) }
+    requires blank { state layer ≡ blank spec.now.sort }
+    ensures ok { OnOk result (each state used.new.items ≡ each state used.old.items ++ set_up_with (blank spec.now.sort) spec.now ∷ []) }
     ensures err { IfErr result (AreRefusedFor spec.now) }
 {
     let mut layer = layer;
@@ -146,9 +206,8 @@ fn set_up_into(
 }
 
 fn set_up_box(layer: &mut Box<dyn Layer>, spec: &LayerSpec) -> Result<(), PatternError>
-    requires blank { state layer.old ≡ blank OneFile }
-    requires sort { spec.now.sort ≡ OneFile }
-    ensures ok { OnOk result (state layer.new ≡ set_up_with (blank OneFile) spec.now) }
+    requires blank { state layer.old ≡ blank spec.now.sort }
+    ensures ok { OnOk result (state layer.new ≡ set_up_with (blank spec.now.sort) spec.now) }
     ensures err { IfErr result (AreRefusedFor spec.now) }
 {
     match spec.copied() {

@@ -1,17 +1,24 @@
 -- What the files hold determines what a run begins from, where no call of them failed.
-use Rattle.std.proofs.Common.{◌≡◌, ℕ, Bool, List, [], ◌∷◌, ◌++◌, Option, Some, ap, sym, subst, ◌∙◌, arith}
+use Rattle.std.proofs.Common.{◌≡◌, ℕ, Bool, List, [], ◌∷◌, ◌++◌, Option, None, Some, ap, sym, subst, inl, inr, ◌∙◌, arith}
 use Rattle.std.specs.Prelude.{◌-◌, ◌^◌, ◌<◌, ◌≤◌, true, false, map as each, Result, Ok, Err}
 use Rattle.dc_item.specs.Records.{Reads}
 use Rattle.dc_item.specs.Table.{table_of}
+use Rattle.dc_item.specs.declared.entry.Entry.{Entry}
 use Rattle.dc_outside.specs.Disk.{Disk}
 use Rattle.dc_outside.specs.Steps.{after_look}
 use Rattle.dc_outside.specs.Told.{Told, Counts}
-use Rattle.dc_outside.specs.declared.files.FilesOp.TheVariants.{Read}
+use Rattle.dc_outside.specs.Counts.{FaultRose}
+use Rattle.dc_outside.specs.declared.files.FilesOp.{FilesOp}
+use Rattle.dc_outside.specs.declared.files.FilesOp.TheVariants.{Read, List as ListOf}
 use Rattle.dc_conf.specs.Configuration.{Configuration, configuration, plan_of}
 use Rattle.dc_conf.specs.Stanzas.{stanzas, fields_of}
 use Rattle.dc_conf.specs.declared.spec.LayerSpec.{LayerSpec}
 use Rattle.dc_layer.specs.State.{LayerState}
-use Rattle.dc_save.specs.Loading.{LoadsLayer, LoadsFiles, LoadCounts, IsHere, with_loaded, text_in}
+use Rattle.dc_conf.specs.declared.spec.LayerSort.{LayerSort}
+use Rattle.dc_conf.specs.declared.spec.LayerSort.TheVariants.{File, Tree, Pack}
+use Rattle.dc_save.specs.FolderLoading.{Holds, HoldAll, IsListedAt, IsFolderHere, LoadsFolderFiles, FailsOn, its_files, path_at, reads_of, after_reads}
+use Rattle.dc_save.specs.Loading.{LoadsBy, LoadsFilesBy, LoadCountsBy, LoadsLayer, LoadsFiles, LoadCounts, IsHere, with_loaded, text_in}
+use Rattle.dc_run.proofs.CrashLemmas.{load_reads as load_disk}
 use Rattle.dc_save.specs.declared.loading.Loaded.{Loaded}
 use Rattle.dc_save.specs.declared.loading.Loaded.TheVariants.{Here, LeftOut}
 use Rattle.dc_save.specs.declared.loading.LoadError.{LoadError}
@@ -28,29 +35,82 @@ no_error error is = cc
 
 -- ---- one load
 
+here_counts : (sort : LayerSort) (files mid : Told) (before counts : Counts) → LoadCountsBy sort files mid (Ok Here) before counts → counts ≡ before
+here_counts File files mid before counts counted = counted
+here_counts Tree files mid before counts counted = counted
+here_counts Pack files mid before counts counted = counted
+
+out_counts : (sort : LayerSort) (files mid : Told) (before counts : Counts) → LoadCountsBy sort files mid (Ok LeftOut) before counts → FaultRose before counts
+out_counts File files mid before counts counted = counted
+out_counts Tree files mid before counts counted = counted
+out_counts Pack files mid before counts counted = counted
+
 module _ (spec : LayerSpec) (layer made : LayerState) (files mid : Told) (before counts : Counts) (more last : Type 0) where
   -- the counts don't fall, and the other loads follow
-  goes_later : (first : Result Loaded LoadError) → LoadCounts files mid first before counts → GoesOn first (Ok tt) more last → (before.faults ≤ counts.faults) × more
-  goes_later (Ok Here) counted goes = (still before counts counted, goes)
-  goes_later (Ok LeftOut) counted goes = (counted.faults.later, goes)
+  goes_later : (first : Result Loaded LoadError) → LoadCounts spec files mid first before counts → GoesOn first (Ok tt) more last → (before.faults ≤ counts.faults) × more
+  goes_later (Ok Here) counted goes = (still before counts (here_counts spec.sort files mid before counts counted), goes)
+  goes_later (Ok LeftOut) counted goes = ((out_counts spec.sort files mid before counts counted).faults.later, goes)
   goes_later (Err error) counted goes = absurd (no_error error goes.0)
 
   -- where no failure is counted, the layer is here
   abbrev GoesHere : Type 0
-  GoesHere = IsHere files.disk spec layer made × (mid ≡ after_look files Read spec.place true) × (counts ≡ before)
+  GoesHere = LoadsLayer files.disk spec layer made (Ok Here) × LoadsFiles files mid spec (Ok Here) × (counts ≡ before)
 
   goes_here : (n : ℕ) → n < 2 ^ 64 - 1 → n ≤ before.faults → counts.faults ≤ n → (first : Result Loaded LoadError)
-      → LoadsLayer files.disk spec layer made first → LoadsFiles files mid spec.place first → LoadCounts files mid first before counts → GoesOn first (Ok tt) more last → GoesHere
-  goes_here n room low high (Ok Here) loads looks counted goes = (loads, looks, counted)
-  goes_here n room low high (Ok LeftOut) loads looks counted goes = absurd (no_rise n before counts room low high counted)
+      → LoadsLayer files.disk spec layer made first → LoadsFiles files mid spec first → LoadCounts spec files mid first before counts → GoesOn first (Ok tt) more last → GoesHere
+  goes_here n room low high (Ok Here) loads looks counted goes = (loads, looks, here_counts spec.sort files mid before counts counted)
+  goes_here n room low high (Ok LeftOut) loads looks counted goes = absurd (no_rise n before counts room low high (out_counts spec.sort files mid before counts counted))
   goes_here n room low high (Err error) loads looks counted goes = absurd (no_error error goes.0)
 
-one_here : (disk : Disk) (spec : LayerSpec) (layer made other : LayerState) → IsHere (Some disk) spec layer made → IsHere (Some disk) spec layer other → made ≡ other
-one_here disk spec layer made other first second =
+-- ---- what is here is determined
+
+one_file : (disk : Disk) (spec : LayerSpec) (layer made other : LayerState) → IsHere (Some disk) spec layer made → IsHere (Some disk) spec layer other → made ≡ other
+one_file disk spec layer made other first second =
     let found : first.found ≡ second.found = first.found_is ∙ sym second.found_is in
     let reads : Reads (text_in second.found) first.records = subst (λ (f : Option (List ℕ)). Reads (text_in f) first.records) found first.reads in
     let records : first.records ≡ second.records = reads.are ∙ sym second.reads.are in
     first.layer_is ∙ (λ i. with_loaded spec layer (table_of (records i)) (found i)) ∙ sym second.layer_is
+
+one_held : (spec : LayerSpec) (file : List ℕ) (found : Option (List ℕ)) (one other : List Entry) → Holds spec file found one → Holds spec file found other → one ≡ other
+one_held spec file None one other first second = first ∙ sym second
+one_held spec file (Some text) one other first second = first.0.are ∙ sym second.0.are
+
+all_held : (disk : Disk) (spec : LayerSpec) (files : List (List ℕ)) (one other : List Entry) → HoldAll (Some disk) spec files one → HoldAll (Some disk) spec files other → one ≡ other
+all_held disk spec [] one other first second = first ∙ sym second
+all_held disk spec (file ∷ files) one other first second =
+    let found : first.0 ≡ second.0 = first.3 ∙ sym second.3 in
+    let here : first.1 ≡ second.1 = one_held spec file second.0 first.1 second.1 (subst (λ (f : Option (List ℕ)). Holds spec file f first.1) found first.4) second.4 in
+    first.6 ∙ (λ i. here i ++ all_held disk spec files first.2 second.2 first.5 second.5 i) ∙ sym second.6
+
+one_folder : (disk : Disk) (spec : LayerSpec) (layer made other : LayerState) → IsFolderHere (Some disk) spec layer made → IsFolderHere (Some disk) spec layer other → made ≡ other
+one_folder disk spec layer made other first second =
+    let listed : first.listed ≡ second.listed = first.listed_is ∙ sym second.listed_is in
+    let entries : first.entries ≡ second.entries
+    = all_held disk spec (its_files spec second.listed) first.entries second.entries (subst (λ (l : List (List ℕ)). HoldAll (Some disk) spec (its_files spec l) first.entries) listed first.hold) second.hold in
+    first.layer_is ∙ (λ i. record layer { table = table_of (entries i) }) ∙ sym second.layer_is
+
+one_by : (sort : LayerSort) (disk : Disk) (spec : LayerSpec) (layer made other : LayerState) → LoadsBy sort (Some disk) spec layer made (Ok Here) → LoadsBy sort (Some disk) spec layer other (Ok Here) → made ≡ other
+one_by File disk spec layer made other first second = one_file disk spec layer made other first second
+one_by Tree disk spec layer made other first second = one_folder disk spec layer made other first second
+one_by Pack disk spec layer made other first second = one_folder disk spec layer made other first second
+
+one_here : (disk : Disk) (spec : LayerSpec) (layer made other : LayerState) → LoadsLayer (Some disk) spec layer made (Ok Here) → LoadsLayer (Some disk) spec layer other (Ok Here) → made ≡ other
+one_here disk spec layer made other first second = one_by spec.sort disk spec layer made other first second
+
+-- and so is what the files tell then
+one_listed : (disk : Disk) (spec : LayerSpec) (files mid other : Told) → files.disk ≡ Some disk → LoadsFolderFiles files mid spec (Ok Here) → LoadsFolderFiles files other spec (Ok Here) → mid ≡ other
+one_listed disk spec files mid other told first second =
+    let listed : first.0 ≡ second.0
+    = subst (λ (d : Option Disk). IsListedAt d spec.place first.0) told first.1 ∙ sym (subst (λ (d : Option Disk). IsListedAt d spec.place second.0) told second.1) in
+    first.2 ∙ ap (λ (l : List (List ℕ)). after_reads files spec (its_files spec l)) listed ∙ sym second.2
+
+told_by : (sort : LayerSort) (disk : Disk) (spec : LayerSpec) (files mid other : Told) → files.disk ≡ Some disk → LoadsFilesBy sort files mid spec (Ok Here) → LoadsFilesBy sort files other spec (Ok Here) → mid ≡ other
+told_by File disk spec files mid other told first second = first ∙ sym second
+told_by Tree disk spec files mid other told first second = one_listed disk spec files mid other told first second
+told_by Pack disk spec files mid other told first second = one_listed disk spec files mid other told first second
+
+one_told : (disk : Disk) (spec : LayerSpec) (files mid other : Told) → files.disk ≡ Some disk → LoadsFiles files mid spec (Ok Here) → LoadsFiles files other spec (Ok Here) → mid ≡ other
+one_told disk spec files mid other told first second = told_by spec.sort disk spec files mid other told first second
 
 -- ---- all loads
 
@@ -65,12 +125,33 @@ loads_later (spec ∷ specs) (layer ∷ old) (made ∷ new) files files_new befo
     omega arith
 
 -- the files tell as before
-look_told : (disk : Disk) (spec : LayerSpec) (files mid : Told) (ok : Bool) → mid ≡ after_look files Read spec.place ok → IsTold disk files → IsTold disk mid
-look_told disk spec files mid ok is told = (told.0 ++ record { op = Read; path = spec.place; ok = ok } ∷ [], is ∙ ap (λ (t : Told). after_look t Read spec.place ok) told.1)
+look_told : (disk : Disk) (op : FilesOp) (path : List ℕ) (files : Told) (ok : Bool) → IsTold disk files → IsTold disk (after_look files op path ok)
+look_told disk op path files ok told = (told.0 ++ record { op = op; path = path; ok = ok } ∷ [], ap (λ (t : Told). after_look t op path ok) told.1)
 
-load_told : (disk : Disk) (spec : LayerSpec) (files mid : Told) (more last : Type 0) (first : Result Loaded LoadError) → LoadsFiles files mid spec.place first → GoesOn first (Ok tt) more last → IsTold disk files → IsTold disk mid
-load_told disk spec files mid more last (Ok Here) looks goes told = look_told disk spec files mid true looks told
-load_told disk spec files mid more last (Ok LeftOut) looks goes told = look_told disk spec files mid false looks told
+reads_told : (disk : Disk) (spec : LayerSpec) (files : List (List ℕ)) (told : Told) → IsTold disk told → IsTold disk (reads_of told spec files)
+reads_told disk spec [] told is = is
+reads_told disk spec (file ∷ files) told is = reads_told disk spec files (after_look told Read (path_at spec file) true) (look_told disk Read (path_at spec file) told true is)
+
+folder_told : (disk : Disk) (spec : LayerSpec) (files : List (List ℕ)) (told : Told) → IsTold disk told → IsTold disk (after_reads told spec files)
+folder_told disk spec files told is = reads_told disk spec files (after_look told ListOf spec.place true) (look_told disk ListOf spec.place told true is)
+
+failed_told : (disk : Disk) (spec : LayerSpec) (path : List ℕ) (files mid : Told) → FailsOn spec path files mid → IsTold disk files → IsTold disk mid
+failed_told disk spec path files mid (inl is) told = subst (IsTold disk) (sym is.1) (look_told disk ListOf path files false told)
+failed_told disk spec path files mid (inr is) told = subst (IsTold disk) (sym is.told_is) (look_told disk Read path (after_reads files spec is.before) false (folder_told disk spec is.before files told))
+
+here_told : (sort : LayerSort) (disk : Disk) (spec : LayerSpec) (files mid : Told) → LoadsFilesBy sort files mid spec (Ok Here) → IsTold disk files → IsTold disk mid
+here_told File disk spec files mid looks told = subst (IsTold disk) (sym looks) (look_told disk Read spec.place files true told)
+here_told Tree disk spec files mid looks told = subst (IsTold disk) (sym looks.2) (folder_told disk spec (its_files spec looks.0) files told)
+here_told Pack disk spec files mid looks told = subst (IsTold disk) (sym looks.2) (folder_told disk spec (its_files spec looks.0) files told)
+
+out_told : (sort : LayerSort) (disk : Disk) (spec : LayerSpec) (files mid : Told) → LoadsFilesBy sort files mid spec (Ok LeftOut) → IsTold disk files → IsTold disk mid
+out_told File disk spec files mid looks told = subst (IsTold disk) (sym looks) (look_told disk Read spec.place files false told)
+out_told Tree disk spec files mid looks told = failed_told disk spec looks.0 files mid looks.1 told
+out_told Pack disk spec files mid looks told = failed_told disk spec looks.0 files mid looks.1 told
+
+load_told : (disk : Disk) (spec : LayerSpec) (files mid : Told) (more last : Type 0) (first : Result Loaded LoadError) → LoadsFiles files mid spec first → GoesOn first (Ok tt) more last → IsTold disk files → IsTold disk mid
+load_told disk spec files mid more last (Ok Here) looks goes told = here_told spec.sort disk spec files mid looks told
+load_told disk spec files mid more last (Ok LeftOut) looks goes told = out_told spec.sort disk spec files mid looks told
 load_told disk spec files mid more last (Err error) looks goes told = absurd (no_error error goes.0)
 
 loads_told : (disk : Disk) (specs : List LayerSpec) (old new : List LayerState) (files files_new : Told) (before now : Counts) → LoadsAll specs old new files files_new before now (Ok tt) → IsTold disk files → IsTold disk files_new
@@ -98,12 +179,12 @@ module _ (disk : Disk) (n m : ℕ) (room : n < 2 ^ 64 - 1) (other_room : m < 2 ^
       let two_rest : second.2.faults ≤ b_now.faults = loads_later specs old b second.1 b_files second.2 b_now two_goes.1 in
       let one_is = goes_here spec layer made files first.1 before first.2 _ _ n room low (omega arith) first.0 first.3 first.4 first.5 first.6 in
       let two_is = goes_here spec layer other files second.1 other_before second.2 _ _ m other_room other_low (omega arith) second.0 second.3 second.4 second.5 second.6 in
-      let then_told : Told = after_look files Read spec.place true in
-      let one_loads : LoadsAll specs old a then_told a_files first.2 a_now (Ok tt) = subst (λ (t : Told). LoadsAll specs old a t a_files first.2 a_now (Ok tt)) one_is.1 one_goes.1 in
-      let two_loads : LoadsAll specs old b then_told b_files second.2 b_now (Ok tt) = subst (λ (t : Told). LoadsAll specs old b t b_files second.2 b_now (Ok tt)) two_is.1 two_goes.1 in
-      let rest = loads_once specs old a b then_told a_files b_files first.2 a_now second.2 b_now told (omega arith) high (omega arith) other_high one_loads two_loads in
+      let told_alike : second.1 ≡ first.1 = one_told disk spec files second.1 first.1 told two_is.1 one_is.1 in
+      let two_loads : LoadsAll specs old b first.1 b_files second.2 b_now (Ok tt) = subst (λ (t : Told). LoadsAll specs old b t b_files second.2 b_now (Ok tt)) told_alike two_goes.1 in
+      let then_told : first.1.disk ≡ Some disk = load_disk files first.1 spec (Ok Here) one_is.1 ∙ told in
+      let rest = loads_once specs old a b first.1 a_files b_files first.2 a_now second.2 b_now then_told (omega arith) high (omega arith) other_high one_goes.1 two_loads in
       let here : made ≡ other
-      = one_here disk spec layer made other (subst (λ (d : Option Disk). IsHere d spec layer made) told one_is.0) (subst (λ (d : Option Disk). IsHere d spec layer other) told two_is.0) in
+      = one_here disk spec layer made other (subst (λ (d : Option Disk). LoadsLayer d spec layer made (Ok Here)) told one_is.0) (subst (λ (d : Option Disk). LoadsLayer d spec layer other (Ok Here)) told two_is.0) in
       ((λ i. here i ∷ rest.0 i), rest.1)
 
 -- ---- the start
