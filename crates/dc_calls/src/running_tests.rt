@@ -1,7 +1,9 @@
 // A run over a real folder.
 ghost use Rattle.std.specs.Prelude.{◌≡◌, ◌≤◌, [], length, IfSome, map as each};
+ghost use Rattle.dc_conf.specs.declared.spec.LayerSort.TheVariants.{File as OneFile, Tree, Pack};
 ghost use Rattle.dc_shelf.specs.Shelves.{AreBlank};
 
+use dc_dirs::{DirTreeLayer, PackageDirLayer};
 use dc_host::{HostChild, HostFiles};
 use dc_layer::{FileLayer, Layer};
 use dc_outside::{Files, MemLink};
@@ -42,14 +44,20 @@ fn configure(rt: &HostRuntime, folder: &str) -> Option<()> {
 
 // A shelf of blank layers.
 fn blank_shelf(alloc: Global) -> Option<Shelf>
-    ensures blank { IfSome result (λ shelf. AreBlank (each (λ b. state (b.vtable, b.value)) shelf.files.items)) }
-    ensures room { IfSome result (λ shelf. 16 ≤ length shelf.files.items) }
+    ensures files { IfSome result (λ shelf. AreBlank OneFile (each (λ b. state (b.vtable, b.value)) shelf.files.items)) }
+    ensures trees { IfSome result (λ shelf. AreBlank Tree (each (λ b. state (b.vtable, b.value)) shelf.trees.items)) }
+    ensures packs { IfSome result (λ shelf. AreBlank Pack (each (λ b. state (b.vtable, b.value)) shelf.packs.items)) }
+    ensures some_files { IfSome result (λ shelf. 16 ≤ length shelf.files.items) }
+    ensures some_trees { IfSome result (λ shelf. 16 ≤ length shelf.trees.items) }
+    ensures some_packs { IfSome result (λ shelf. 16 ≤ length shelf.packs.items) }
     ensures used { IfSome result (λ shelf. shelf.used.items ≡ []) }
 {
     let mut shelf = Shelf::empty(alloc);
     while shelf.files.len() < 16 {
-        let layer: Box<dyn Layer> = Box::new(alloc, FileLayer::blank(alloc)).ok()?;
-        shelf.take_file(layer).ok()?;
+        let file: Box<dyn Layer> = Box::new(alloc, FileLayer::blank(alloc)).ok()?;
+        let tree: Box<dyn Layer> = Box::new(alloc, DirTreeLayer::blank(alloc)).ok()?;
+        let pack: Box<dyn Layer> = Box::new(alloc, PackageDirLayer::blank(alloc)).ok()?;
+        shelf.take_each(file, tree, pack).ok()?;
     }
     Some(shelf)
 }

@@ -1,44 +1,45 @@
 // A run over a shelf of blank layers, or of tired ones.
 ghost use Rattle.std.specs.Prelude.{◌≡◌, ◌≤◌, [], length, IfOk, map as each};
-ghost use Rattle.dc_conf.specs.declared.spec.LayerSort.TheVariants.{File as OneFile};
+ghost use Rattle.dc_conf.specs.declared.spec.LayerSort.TheVariants.{File as OneFile, Tree, Pack};
 ghost use Rattle.dc_layer.specs.State.{blank};
 ghost use Rattle.dc_outside.specs.Programs.{Unstarted};
 ghost use Rattle.dc_shelf.specs.Shelves.{AreBlank};
 
+use dc_dirs::{DirTreeLayer, PackageDirLayer};
 use dc_layer::{FileLayer, Layer, TiredLayer};
 use dc_outside::{MemChild, MemFiles, MemLink};
 use dc_run::{Outcome, Settings, Shelf, run_words};
 use dc_text::{List, Mem, Name, OutOfMemory, Text};
 use std::alloc::Global;
 
-// A layer in any box.
-macro_rules! boxed {
-    ($layer:expr) => {{
-        let layer: Box<dyn Layer> = $layer?;
-        layer
+// One more blank layer of each sort on the shelf.
+macro_rules! fill {
+    ($shelf:ident, $boxes:expr) => {{
+        let (file, tree, pack) = $boxes?;
+        $shelf.take_each(file, tree, pack)?;
     }};
 }
 
-// A shelf with as many boxes as a configuration has databases.
+// A shelf with as many boxes of each sort as a configuration has databases.
 macro_rules! shelf_of {
-    ($alloc:expr, $layer:expr) => {{
+    ($alloc:expr, $boxes:expr) => {{
         let mut shelf = Shelf::empty($alloc);
-        shelf.take_file(boxed!($layer))?;
-        shelf.take_file(boxed!($layer))?;
-        shelf.take_file(boxed!($layer))?;
-        shelf.take_file(boxed!($layer))?;
-        shelf.take_file(boxed!($layer))?;
-        shelf.take_file(boxed!($layer))?;
-        shelf.take_file(boxed!($layer))?;
-        shelf.take_file(boxed!($layer))?;
-        shelf.take_file(boxed!($layer))?;
-        shelf.take_file(boxed!($layer))?;
-        shelf.take_file(boxed!($layer))?;
-        shelf.take_file(boxed!($layer))?;
-        shelf.take_file(boxed!($layer))?;
-        shelf.take_file(boxed!($layer))?;
-        shelf.take_file(boxed!($layer))?;
-        shelf.take_file(boxed!($layer))?;
+        fill!(shelf, $boxes);
+        fill!(shelf, $boxes);
+        fill!(shelf, $boxes);
+        fill!(shelf, $boxes);
+        fill!(shelf, $boxes);
+        fill!(shelf, $boxes);
+        fill!(shelf, $boxes);
+        fill!(shelf, $boxes);
+        fill!(shelf, $boxes);
+        fill!(shelf, $boxes);
+        fill!(shelf, $boxes);
+        fill!(shelf, $boxes);
+        fill!(shelf, $boxes);
+        fill!(shelf, $boxes);
+        fill!(shelf, $boxes);
+        fill!(shelf, $boxes);
         shelf
     }};
 }
@@ -59,20 +60,28 @@ pub struct Played {
     pub held: Text,
 }
 
-// A blank layer in a file.
-fn file_box(alloc: Global) -> Mem<Box<FileLayer>>
-    ensures { IfOk result (λ b. ⟦<FileLayer as Layer>⟧.state b.value ≡ blank OneFile) }
+// A blank layer of each sort.
+fn blank_boxes(alloc: Global) -> Mem<(Box<FileLayer>, Box<DirTreeLayer>, Box<PackageDirLayer>)>
+    ensures file { IfOk result (λ boxes. ⟦<FileLayer as Layer>⟧.state boxes.0.value ≡ blank OneFile) }
+    ensures tree { IfOk result (λ boxes. ⟦<DirTreeLayer as Layer>⟧.state boxes.1.value ≡ blank Tree) }
+    ensures pack { IfOk result (λ boxes. ⟦<PackageDirLayer as Layer>⟧.state boxes.2.value ≡ blank Pack) }
 {
-    let layer = Box::new(alloc, FileLayer::blank(alloc))?;
-    Ok(layer)
+    let file = Box::new(alloc, FileLayer::blank(alloc))?;
+    let tree = Box::new(alloc, DirTreeLayer::blank(alloc))?;
+    let pack = Box::new(alloc, PackageDirLayer::blank(alloc))?;
+    Ok((file, tree, pack))
 }
 
-// One that takes one change.
-fn tired_box(alloc: Global) -> Mem<Box<TiredLayer>>
-    ensures { IfOk result (λ b. ⟦<TiredLayer as Layer>⟧.state b.value ≡ blank OneFile) }
+// The same, where the one in a file takes one change.
+fn tired_boxes(alloc: Global) -> Mem<(Box<TiredLayer>, Box<DirTreeLayer>, Box<PackageDirLayer>)>
+    ensures file { IfOk result (λ boxes. ⟦<TiredLayer as Layer>⟧.state boxes.0.value ≡ blank OneFile) }
+    ensures tree { IfOk result (λ boxes. ⟦<DirTreeLayer as Layer>⟧.state boxes.1.value ≡ blank Tree) }
+    ensures pack { IfOk result (λ boxes. ⟦<PackageDirLayer as Layer>⟧.state boxes.2.value ≡ blank Pack) }
 {
-    let layer = Box::new(alloc, TiredLayer::blank(alloc, 1))?;
-    Ok(layer)
+    let file = Box::new(alloc, TiredLayer::blank(alloc, 1))?;
+    let tree = Box::new(alloc, DirTreeLayer::blank(alloc))?;
+    let pack = Box::new(alloc, PackageDirLayer::blank(alloc))?;
+    Ok((file, tree, pack))
 }
 
 /// Runs the words over blank layers.
@@ -86,11 +95,11 @@ pub fn play(
 ) -> Mem<Played>
     requires { child.old.program.life ≡ Unstarted }
 {
-    let mut shelf = shelf_of!(alloc, file_box(alloc));
+    let mut shelf = shelf_of!(alloc, blank_boxes(alloc));
     play_over(alloc, task, io, err, child, files, &mut shelf)
 }
 
-/// Runs the words over blank layers each of which takes one change.
+/// Runs the words over blank layers of which each in a file takes one change.
 pub fn play_tired(
     alloc: Global,
     task: Task<'_>,
@@ -101,7 +110,7 @@ pub fn play_tired(
 ) -> Mem<Played>
     requires { child.old.program.life ≡ Unstarted }
 {
-    let mut shelf = shelf_of!(alloc, tired_box(alloc));
+    let mut shelf = shelf_of!(alloc, tired_boxes(alloc));
     play_over(alloc, task, io, err, child, files, &mut shelf)
 }
 
@@ -115,8 +124,12 @@ fn play_over(
     files: &mut MemFiles,
     shelf: &mut Shelf,
 ) -> Mem<Played>
-    requires blank { AreBlank (each (λ b. state (b.vtable, b.value)) shelf.old.files.items) }
-    requires room { 16 ≤ length shelf.old.files.items }
+    requires files { AreBlank OneFile (each (λ b. state (b.vtable, b.value)) shelf.old.files.items) }
+    requires trees { AreBlank Tree (each (λ b. state (b.vtable, b.value)) shelf.old.trees.items) }
+    requires packs { AreBlank Pack (each (λ b. state (b.vtable, b.value)) shelf.old.packs.items) }
+    requires some_files { 16 ≤ length shelf.old.files.items }
+    requires some_trees { 16 ≤ length shelf.old.trees.items }
+    requires some_packs { 16 ≤ length shelf.old.packs.items }
     requires used { shelf.old.used.items ≡ [] }
     requires unstarted { child.old.program.life ≡ Unstarted }
 {

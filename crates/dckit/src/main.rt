@@ -1,26 +1,19 @@
 //! The program: the edge to the host, and the call of the run.
 #![tactic(auto)]
 
+mod filling;
 mod surroundings;
 
+use crate::filling::run_over;
 use crate::surroundings::{read_settings, read_words};
 use dc_host::{HostChild, HostErr, HostFiles, HostLink, HostOutput};
-use dc_layer::{FileLayer, Layer};
-use dc_run::{Settings, Shelf, run_words};
+use dc_run::Settings;
 use dc_text::{List, Mem, Text};
 use std::alloc::Global;
 use std::process::ExitCode;
 
 /// The exit status where memory ran out before the run began.
 const OUT_OF_MEMORY: u8 = 122;
-
-// A blank layer in a file, as a box.
-macro_rules! blank_layer {
-    ($alloc:expr) => {{
-        let layer: Box<dyn Layer> = Box::new($alloc, FileLayer::blank($alloc))?;
-        layer
-    }};
-}
 
 fn main(rt: HostRuntime) -> ExitCode {
     match run(rt) {
@@ -40,29 +33,9 @@ fn run(rt: HostRuntime) -> Mem<u8> {
     let mut err = HostErr::new(HostOutput::new(&rt, &rt.stderr(), "/dev/stderr"));
     let mut child = HostChild::new(alloc, &rt);
     let mut files = HostFiles::new(alloc, rt, open_to_all(alloc, &settings, &words)?);
-    let mut shelf = Shelf::empty(alloc);
-    shelf.take_file(blank_layer!(alloc))?;
-    shelf.take_file(blank_layer!(alloc))?;
-    shelf.take_file(blank_layer!(alloc))?;
-    shelf.take_file(blank_layer!(alloc))?;
-    shelf.take_file(blank_layer!(alloc))?;
-    shelf.take_file(blank_layer!(alloc))?;
-    shelf.take_file(blank_layer!(alloc))?;
-    shelf.take_file(blank_layer!(alloc))?;
-    shelf.take_file(blank_layer!(alloc))?;
-    shelf.take_file(blank_layer!(alloc))?;
-    shelf.take_file(blank_layer!(alloc))?;
-    shelf.take_file(blank_layer!(alloc))?;
-    shelf.take_file(blank_layer!(alloc))?;
-    shelf.take_file(blank_layer!(alloc))?;
-    shelf.take_file(blank_layer!(alloc))?;
-    shelf.take_file(blank_layer!(alloc))?;
-    let outcome = run_words(
-        alloc, &words, &settings, &mut io, &mut err, &mut child, &mut files, &mut shelf,
-    );
-    // the program ends here, and what its databases hold isn't given back entry by entry
-    std::mem::forget(shelf);
-    Ok(outcome.status)
+    run_over(
+        alloc, &words, &settings, &mut io, &mut err, &mut child, &mut files,
+    )
 }
 
 // The paths of files that are read without a lock: that of the configuration, which no run writes, and those of the template

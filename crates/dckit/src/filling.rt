@@ -1,0 +1,68 @@
+// The shelf of a run, filled with blank layers.
+ghost use Rattle.std.specs.Prelude.{◌≡◌, IfOk};
+ghost use Rattle.dc_conf.specs.declared.spec.LayerSort.TheVariants.{File as OneFile, Tree, Pack};
+ghost use Rattle.dc_outside.specs.Programs.{Unstarted};
+ghost use Rattle.dc_layer.specs.State.{blank};
+
+use dc_dirs::{DirTreeLayer, PackageDirLayer};
+use dc_layer::{FileLayer, Layer};
+use dc_outside::{Child, Files, Link};
+use dc_run::{Settings, Shelf, run_words};
+use dc_text::{List, Mem, Text};
+use std::alloc::Global;
+
+// One more blank layer of each sort on the shelf.
+macro_rules! fill {
+    ($shelf:ident, $alloc:expr) => {{
+        let (file, tree, pack) = blank_boxes($alloc)?;
+        $shelf.take_each(file, tree, pack)?;
+    }};
+}
+
+// A blank layer of each sort.
+fn blank_boxes(alloc: Global) -> Mem<(Box<FileLayer>, Box<DirTreeLayer>, Box<PackageDirLayer>)>
+    ensures file { IfOk result (λ boxes. ⟦<FileLayer as Layer>⟧.state boxes.0.value ≡ blank OneFile) }
+    ensures tree { IfOk result (λ boxes. ⟦<DirTreeLayer as Layer>⟧.state boxes.1.value ≡ blank Tree) }
+    ensures pack { IfOk result (λ boxes. ⟦<PackageDirLayer as Layer>⟧.state boxes.2.value ≡ blank Pack) }
+{
+    let file = Box::new(alloc, FileLayer::blank(alloc))?;
+    let tree = Box::new(alloc, DirTreeLayer::blank(alloc))?;
+    let pack = Box::new(alloc, PackageDirLayer::blank(alloc))?;
+    Ok((file, tree, pack))
+}
+
+/// Runs the words over a shelf of blank layers: one of each sort for each of the sixteen databases that a configuration may have. What made
+/// a box of any layer could break what is said of it, so that no function hands one out.
+pub fn run_over<L: Link, E: Link, C: Child, F: Files>(
+    alloc: Global,
+    words: &List<Text>,
+    settings: &Settings,
+    io: &mut L,
+    err: &mut E,
+    child: &mut C,
+    files: &mut F,
+) -> Mem<u8>
+    requires { (C.program child.old).life ≡ Unstarted }
+{
+    let mut shelf = Shelf::empty(alloc);
+    fill!(shelf, alloc);
+    fill!(shelf, alloc);
+    fill!(shelf, alloc);
+    fill!(shelf, alloc);
+    fill!(shelf, alloc);
+    fill!(shelf, alloc);
+    fill!(shelf, alloc);
+    fill!(shelf, alloc);
+    fill!(shelf, alloc);
+    fill!(shelf, alloc);
+    fill!(shelf, alloc);
+    fill!(shelf, alloc);
+    fill!(shelf, alloc);
+    fill!(shelf, alloc);
+    fill!(shelf, alloc);
+    fill!(shelf, alloc);
+    let outcome = run_words(alloc, words, settings, io, err, child, files, &mut shelf);
+    // the program ends here, and what its databases hold isn't given back entry by entry
+    std::mem::forget(shelf);
+    Ok(outcome.status)
+}
