@@ -1,6 +1,7 @@
 // A run over a real folder.
 ghost use Rattle.std.specs.Prelude.{◌≡◌, ◌≤◌, [], length, IfSome, map as each};
 ghost use Rattle.dc_conf.specs.declared.spec.LayerSort.TheVariants.{File as OneFile, Tree, Pack};
+ghost use Rattle.dc_layer.specs.State.{blank};
 ghost use Rattle.dc_shelf.specs.Shelves.{AreBlank};
 
 use dc_dirs::{DirTreeLayer, PackageDirLayer};
@@ -42,6 +43,18 @@ fn configure(rt: &HostRuntime, folder: &str) -> Option<()> {
     Some(())
 }
 
+// A blank layer of each sort.
+fn blank_boxes(alloc: Global) -> Option<(Box<FileLayer>, Box<DirTreeLayer>, Box<PackageDirLayer>)>
+    ensures file { IfSome result (λ boxes. ⟦<FileLayer as Layer>⟧.state boxes.0.value ≡ blank OneFile) }
+    ensures tree { IfSome result (λ boxes. ⟦<DirTreeLayer as Layer>⟧.state boxes.1.value ≡ blank Tree) }
+    ensures pack { IfSome result (λ boxes. ⟦<PackageDirLayer as Layer>⟧.state boxes.2.value ≡ blank Pack) }
+{
+    let file = Box::new(alloc, FileLayer::blank(alloc)).ok()?;
+    let tree = Box::new(alloc, DirTreeLayer::blank(alloc)).ok()?;
+    let pack = Box::new(alloc, PackageDirLayer::blank(alloc)).ok()?;
+    Some((file, tree, pack))
+}
+
 // A shelf of blank layers.
 fn blank_shelf(alloc: Global) -> Option<Shelf>
     ensures files { IfSome result (λ shelf. AreBlank OneFile (each (λ b. state (b.vtable, b.value)) shelf.files.items)) }
@@ -54,9 +67,7 @@ fn blank_shelf(alloc: Global) -> Option<Shelf>
 {
     let mut shelf = Shelf::empty(alloc);
     while shelf.files.len() < 16 {
-        let file: Box<dyn Layer> = Box::new(alloc, FileLayer::blank(alloc)).ok()?;
-        let tree: Box<dyn Layer> = Box::new(alloc, DirTreeLayer::blank(alloc)).ok()?;
-        let pack: Box<dyn Layer> = Box::new(alloc, PackageDirLayer::blank(alloc)).ok()?;
+        let (file, tree, pack) = blank_boxes(alloc)?;
         shelf.take_each(file, tree, pack).ok()?;
     }
     Some(shelf)
