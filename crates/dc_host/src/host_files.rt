@@ -24,7 +24,8 @@ const PIECE: usize = 16_384;
 
 /// The files of the host. Each error of a call is a fault but for a file that isn't there, and so are a file that is too
 /// large, what isn't a file in the place of one, a file that another program has locked, and a path or the name of a file
-/// that isn't UTF-8. The files that are read and those that take their places stay locked to the end.
+/// that isn't UTF-8. The folders that are listed, the files that are read elsewhere, and those that take their places stay locked to
+/// the end.
 #[derive(Drop)]
 pub struct HostFiles<R> {
     alloc: Global,
@@ -68,7 +69,7 @@ impl<R: SystemFiles<File = File> + Alloc + Clone + Drop> Files for HostFiles<R> 
         ensures changed { self.new.changed ≡ self.old.changed }
         ensures counts { Counted self.old.counts self.new.counts result }
     {
-        let answer = list_files(self.alloc, &self.rt, dir);
+        let answer = list_files(self.alloc, &self.rt, &mut self.guard, dir);
         self.counts.count(answer)
     }
 
@@ -174,12 +175,15 @@ fn read_pieces<F: Read>(alloc: Global, file: &mut F, piece: &mut [u8]) -> Result
     Err(FilesError::Failed)
 }
 
-fn list_files<R: SystemFiles + Alloc + Clone + Drop>(
+fn list_files<R: SystemFiles<File = File> + Alloc + Clone + Drop>(
     alloc: Global,
     rt: &R,
+    guard: &mut Guard,
     dir: &Text,
 ) -> Result<List<Text>, FilesError> {
-    let found = files_below(alloc, rt, path_of(dir)?)?;
+    let name = path_of(dir)?;
+    guard.enter(rt, dir, name)?;
+    let found = files_below(alloc, rt, name)?;
     let mut paths = List::new(alloc);
     for (path, _) in found.iter() {
         paths.push(Text::from_bytes(alloc, path)?)?;

@@ -2,7 +2,7 @@
 ghost use Rattle.std.specs.Prelude.{◌≡◌};
 
 use crate::host_limits::SizeLimit;
-use crate::host_paths::{failed, is_missing};
+use crate::host_paths::{failed, is_missing, path_of};
 use dc_outside::FilesError;
 use dc_text::{List, Text, TextMap};
 use std::alloc::Global;
@@ -46,14 +46,17 @@ struct Written {
     held: Held,
 }
 
-/// The locks that a program holds to its end: those of the files that it read, and of the files that took their places.
-/// Perl's debconf locks the same files in the same way (flock, exclusive, without waiting), so the two exclude each other.
+/// The locks that a program holds to its end: those of the folders that it listed, and of the files that it read elsewhere, or
+/// that took their places. Perl's debconf locks the same files in the same way (flock, exclusive, without waiting), and in a folder
+/// the file `.lock`, so the two exclude each other.
 #[derive(Drop)]
 pub struct Guard {
     alloc: Global,
     // paths of files that are read without a lock
     open_to_all: List<Text>,
     held: List<Held>,
+    // paths of the folders that are locked, with a slash behind them
+    folders: List<Text>,
     written: Option<Written>,
     // paths at which nothing stood when they were read
     missing: TextMap<()>,
@@ -68,13 +71,60 @@ impl Guard {
             alloc,
             open_to_all,
             held: List::new(alloc),
+            folders: List::new(alloc),
             written: None,
             missing: TextMap::new(alloc),
             limit: None,
         }
     }
 
-    /// Opens the file at the path to be read, and locks it if it can be opened for writing. `None` where nothing stands there.
+    /// Locks the folder, and the file `.lock` in it where one stands. The files below it are locked with it, since a folder may
+    /// hold more files than a program may have open. One that isn't there, or can't be opened, isn't locked.
+    pub fn enter<R: SystemFiles<File = File>>(
+        &mut self,
+        rt: &R,
+        folder: &Text,
+        name: &str,
+    ) -> Result<(), FilesError> {
+        let Ok(file) = fs::open(rt, name) else {
+            return Ok(());
+        };
+        self.hold(file)?;
+        let mut below = folder.copy()?;
+        below.push(b'/')?;
+        self.folders.push(below)?;
+        let mut lock_path = folder.copy()?;
+        lock_path.append(b"/.lock")?;
+        match OpenOptions::new()
+            .read(true)
+            .write(true)
+            .open(rt, path_of(&lock_path)?)
+        {
+            Ok(file) => self.hold(file),
+            Err(_) => Ok(()),
+        }
+    }
+
+    // Locks the file and keeps its lock, unless it is held.
+    fn hold(&mut self, file: File) -> Result<(), FilesError> {
+        let id = id_of(&done(file.metadata())?);
+        if !self.holds(id) {
+            lock(&file)?;
+            self.held.push(Held { file, id })?;
+        }
+        Ok(())
+    }
+
+    // Whether the path lies below a folder that is locked.
+    fn is_below_locked(&self, path: &Text) -> bool {
+        self.folders
+            .as_slice()
+            .iter()
+            .any(|folder| path.bytes().starts_with(folder.bytes()))
+    }
+
+    /// Opens the file at the path to be read, and locks it if it can be opened for writing and no lock of a folder stands for it.
+    /// `None` where nothing stands there.
     /// What isn't a file, and a file that another program has locked, is a fault.
     pub fn open<R: SystemFiles<File = File>>(
         &mut self,
@@ -84,9 +134,10 @@ impl Guard {
     ) -> Result<Option<File>, FilesError> {
         match fs::metadata(rt, name) {
             Ok(found) if !found.is_file() => Err(FilesError::Failed),
-            Ok(found) if self.is_open_to_all(path) || self.holds(id_of(&found)) => to_read(
-                rt, name,
-            ),
+            Ok(found)
+                if self.is_open_to_all(path)
+                    || self.is_below_locked(path)
+                    || self.holds(id_of(&found)) => to_read(rt, name),
             Ok(_) => self.open_locked(rt, name),
             Err(error) if is_missing(&error) => {
                 self.missing.insert(path.copy()?, ())?;
@@ -226,12 +277,14 @@ impl Guard {
         }
     }
 
-    // Keeps the lock of the file that was written at the path.
+    // Keeps the lock of the file that was written at the path, unless that of a folder stands for it.
     fn keep(&mut self, path: &Text) -> Result<(), FilesError> {
         match self.written.take() {
             Some(written) if written.path.bytes() == path.bytes() => {
-                let Written { path: _, held } = written;
-                self.held.push(held)?;
+                let Written { path, held } = written;
+                if !self.is_below_locked(&path) {
+                    self.held.push(held)?;
+                }
             }
             other => self.written = other,
         }

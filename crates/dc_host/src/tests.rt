@@ -271,6 +271,32 @@ fn a_locked_file_is_a_fault(rt: HostRuntime) {
 }
 
 #[test]
+fn a_listed_folder_is_locked(rt: HostRuntime) {
+    let folder = make_folder(&rt, "listed").ok().expect(&rt, "done");
+    let path = text_inside(&rt, &folder, "q").expect(&rt, "done");
+    let new = text_inside(&rt, &folder, "q-new").expect(&rt, "done");
+    let dir = Text::from_bytes(rt.alloc(), folder.as_bytes());
+    let dir = dir.ok().expect(&rt, "done");
+    let mut first = HostFiles::new(
+        rt.alloc(),
+        rt.clone().ok().expect(&rt, "done"),
+        List::new(rt.alloc()),
+    );
+    assert_eq!(rt; first.list(&dir).is_ok(), true);
+    assert_eq!(rt; can_use(&mut first, &new, &path), (true, true));
+    assert_eq!(rt; first.list(&dir).is_ok(), true, "its own");
+    let mut other = HostFiles::new(
+        rt.alloc(),
+        rt.clone().ok().expect(&rt, "done"),
+        List::new(rt.alloc()),
+    );
+    assert_eq!(rt; other.list(&dir).is_ok(), false, "the first has it");
+    fs::remove_dir_all(&rt, folder.as_str())
+        .ok()
+        .expect(&rt, "done");
+}
+
+#[test]
 fn a_file_that_came_meanwhile_is_kept(rt: HostRuntime) {
     let folder = make_folder(&rt, "meanwhile").ok().expect(&rt, "done");
     let path = text_inside(&rt, &folder, "q").expect(&rt, "done");
