@@ -1,6 +1,7 @@
 pub mod AfterLemmas
 pub mod EffectLemmas
 pub mod FirstBad
+pub mod FurtherLines
 pub mod Groups
 pub mod ItemLemmas
 pub mod NamesReadLemmas

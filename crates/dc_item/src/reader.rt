@@ -1,11 +1,16 @@
 // The reader of records, which takes one line after another.
-ghost use Rattle.std.specs.Prelude.{◌≡◌, IfOk, OnOk, None, Some, if◌then◌else◌};
+ghost use Rattle.std.specs.Prelude.{◌≡◌, IfOk, OnOk, None, Some, false, if◌then◌else◌, codes, map as each};
+ghost use Rattle.std.specs.Str.{bytes_eq};
+ghost use Rattle.dc_text.specs.Bytes.{lower};
+ghost use Rattle.dc_item.specs.Grammar.{line_said, headed_line, indented_line, name_line, owners_line, flags_line, variables_line, field_line, variable_line};
 
 use crate::entry::Entry;
 use crate::item::Item;
 use crate::names_read::NamesRead;
+use crate::reading::{flags_in, is_word, names_in};
 use crate::record_line::RecordLine;
-use dc_text::{FieldKey, FlagName, List, Mem, Name, Settled, VarKey};
+use dc_text::bytes::{is_blank, is_indented, split_at_byte, trim, without_space};
+use dc_text::{FieldKey, List, Mem, Name, NameRefused, OutOfMemory, VarKey, settle};
 use std::alloc::Global;
 
 /// A record of which some lines were read.
@@ -38,58 +43,62 @@ impl Open {
         }
     }
 
-    // Adds what a further line says, and answers whether the line stands.
-    fn add(&mut self, part: RecordLine) -> Mem<bool>
-        ensures { IfOk result (λ stands. added self.old part ≡ (if stands then Some self.new else None)) }
+    // Takes a line with this word before its colon, other than a Name line, and answers whether it stands.
+    fn add_headed(&mut self, alloc: Global, word: &[u8], rest: &[u8]) -> Mem<bool>
+        requires { bytes_eq (each lower word.now) (codes "name") ≡ false }
+        ensures { IfOk result (λ stands. added self.old (headed_line (each lower word.now) rest.now) ≡ (if stands then Some self.new else None)) }
     {
-        match part {
-            RecordLine::Field(key, value) => self.add_field(key, value),
-            RecordLine::Owners(names) => self.add_owners(names),
-            RecordLine::Flags(flags) => self.add_flags(flags),
-            RecordLine::Variables => Ok(self.begin_variables()),
-            RecordLine::Variable(key, value) => self.add_variable(key, value),
-            _ => Ok(false),
+        if is_word(word, b"owners") {
+            self.add_owners(alloc, rest)
+        } else if is_word(word, b"flags") {
+            self.add_flags(alloc, rest)
+        } else if is_word(word, b"variables") {
+            Ok(self.begin_variables(rest))
+        } else {
+            self.add_field(alloc, word, rest)
         }
     }
 
-    fn add_field(&mut self, key: FieldKey, value: Settled) -> Mem<bool>
-        ensures { IfOk result (λ stands. added self.old (RecordLine.Field key value) ≡ (if stands then Some self.new else None)) }
-    {
-        if !self.item.put_new_field(key, value)? {
-            return Ok(false);
-        }
-        self.in_variables = false;
-        Ok(true)
-    }
-
-    fn add_owners(&mut self, names: List<Name>) -> Mem<bool>
-        ensures { IfOk result (λ stands. added self.old (RecordLine.Owners names) ≡ (if stands then Some self.new else None)) }
+    fn add_owners(&mut self, alloc: Global, rest: &[u8]) -> Mem<bool>
+        ensures { IfOk result (λ stands. added self.old (owners_line rest.now) ≡ (if stands then Some self.new else None)) }
     {
         if self.has_owners {
             return Ok(false);
         }
-        self.item.put_owners(names)?;
-        self.has_owners = true;
-        self.in_variables = false;
-        Ok(true)
+        match names_in(alloc, rest) {
+            Ok(names) => {
+                self.item.put_owners(names)?;
+                self.has_owners = true;
+                self.in_variables = false;
+                Ok(true)
+            }
+            Err(NameRefused::Bad) => Ok(false),
+            Err(NameRefused::OutOfMemory) => Err(OutOfMemory),
+        }
     }
 
-    fn add_flags(&mut self, flags: List<FlagName>) -> Mem<bool>
-        ensures { IfOk result (λ stands. added self.old (RecordLine.Flags flags) ≡ (if stands then Some self.new else None)) }
+    fn add_flags(&mut self, alloc: Global, rest: &[u8]) -> Mem<bool>
+        ensures { IfOk result (λ stands. added self.old (flags_line rest.now) ≡ (if stands then Some self.new else None)) }
     {
         if self.has_flags {
             return Ok(false);
         }
-        self.item.put_flags(flags)?;
-        self.has_flags = true;
-        self.in_variables = false;
-        Ok(true)
+        match flags_in(alloc, rest) {
+            Ok(flags) => {
+                self.item.put_flags(flags)?;
+                self.has_flags = true;
+                self.in_variables = false;
+                Ok(true)
+            }
+            Err(NameRefused::Bad) => Ok(false),
+            Err(NameRefused::OutOfMemory) => Err(OutOfMemory),
+        }
     }
 
-    fn begin_variables(&mut self) -> bool
-        ensures { added self.old RecordLine.Variables ≡ (if result then Some self.new else None) }
+    fn begin_variables(&mut self, rest: &[u8]) -> bool
+        ensures { added self.old (variables_line rest.now) ≡ (if result then Some self.new else None) }
     {
-        if self.has_variables {
+        if self.has_variables || !is_blank(rest) {
             return false;
         }
         self.has_variables = true;
@@ -97,13 +106,47 @@ impl Open {
         true
     }
 
-    fn add_variable(&mut self, key: VarKey, value: Settled) -> Mem<bool>
-        ensures { IfOk result (λ stands. added self.old (RecordLine.Variable key value) ≡ (if stands then Some self.new else None)) }
+    fn add_field(&mut self, alloc: Global, key: &[u8], rest: &[u8]) -> Mem<bool>
+        ensures { IfOk result (λ stands. added self.old (field_line (each lower key.now) rest.now) ≡ (if stands then Some self.new else None)) }
+    {
+        match FieldKey::read(alloc, key) {
+            Ok(key) => {
+                let value = settle(alloc, without_space(rest))?;
+                if !self.item.put_new_field(key, value)? {
+                    return Ok(false);
+                }
+                self.in_variables = false;
+                Ok(true)
+            }
+            Err(NameRefused::Bad) => Ok(false),
+            Err(NameRefused::OutOfMemory) => Err(OutOfMemory),
+        }
+    }
+
+    // Takes a line that is indented, and answers whether it stands.
+    fn add_indented(&mut self, alloc: Global, line: &[u8]) -> Mem<bool>
+        ensures { IfOk result (λ stands. added self.old (indented_line line.now) ≡ (if stands then Some self.new else None)) }
+    {
+        match split_at_byte(line, b'=') {
+            None => Ok(false),
+            Some((key, rest)) => self.add_variable(alloc, trim(key), rest),
+        }
+    }
+
+    fn add_variable(&mut self, alloc: Global, key: &[u8], rest: &[u8]) -> Mem<bool>
+        ensures { IfOk result (λ stands. added self.old (variable_line key.now rest.now) ≡ (if stands then Some self.new else None)) }
     {
         if !self.in_variables {
             return Ok(false);
         }
-        self.item.put_new_variable(key, value)
+        match VarKey::read(alloc, key) {
+            Ok(key) => {
+                let value = settle(alloc, without_space(rest))?;
+                self.item.put_new_variable(key, value)
+            }
+            Err(NameRefused::Bad) => Ok(false),
+            Err(NameRefused::OutOfMemory) => Err(OutOfMemory),
+        }
     }
 }
 
@@ -117,7 +160,7 @@ pub struct Reader {
 }
 
 impl Reader {
-    ghost use Rattle.dc_item.specs.Reader.{step, closed, at_start};
+    ghost use Rattle.dc_item.specs.Reader.{step, with_current, added, closed, at_start};
 
     /// Before the first line.
     pub fn new(alloc: Global) -> Self
@@ -130,27 +173,72 @@ impl Reader {
         }
     }
 
-    /// Takes the next line, and answers whether it stands.
-    pub fn take(&mut self, alloc: Global, line: u64, part: RecordLine) -> Mem<bool>
-        ensures { IfOk result (λ stands. step self.old line part ≡ (if stands then Some self.new else None)) }
+    /// Takes the next line, which has this number, and answers whether it stands.
+    pub fn take(&mut self, alloc: Global, number: u64, line: &[u8]) -> Mem<bool>
+        ensures { IfOk result (λ stands. step self.old number (line_said line.now) ≡ (if stands then Some self.new else None)) }
     {
-        match part {
-            RecordLine::Blank => {
-                self.close()?;
-                Ok(true)
-            }
-            RecordLine::Name(name) => {
-                if self.current.is_some() || !self.names.add(&name)? {
-                    return Ok(false);
-                }
-                self.current = Some(Open::new(alloc, name, line));
-                Ok(true)
-            }
-            RecordLine::Nothing => Ok(false),
-            part => match &mut self.current {
-                None => Ok(false),
-                Some(open) => open.add(part),
-            },
+        if is_blank(line) {
+            self.close()?;
+            return Ok(true);
+        }
+        if is_indented(line) {
+            return self.add_indented(alloc, line);
+        }
+        match split_at_byte(line, b':') {
+            None => Ok(false),
+            Some((word, rest)) => self.take_headed(alloc, number, word, rest),
+        }
+    }
+
+    fn take_headed(&mut self, alloc: Global, number: u64, word: &[u8], rest: &[u8]) -> Mem<bool>
+        ensures { IfOk result (λ stands. step self.old number (headed_line (each lower word.now) rest.now) ≡ (if stands then Some self.new else None)) }
+    {
+        if is_word(word, b"name") {
+            self.take_name(alloc, number, rest)
+        } else {
+            self.add_headed(alloc, word, rest)
+        }
+    }
+
+    fn take_name(&mut self, alloc: Global, number: u64, rest: &[u8]) -> Mem<bool>
+        ensures { IfOk result (λ stands. step self.old number (name_line rest.now) ≡ (if stands then Some self.new else None)) }
+    {
+        match Name::read(alloc, trim(rest)) {
+            Ok(name) => self.begin(alloc, number, name),
+            Err(NameRefused::Bad) => Ok(false),
+            Err(NameRefused::OutOfMemory) => Err(OutOfMemory),
+        }
+    }
+
+    // Begins a record of the name, and answers whether one begins here.
+    fn begin(&mut self, alloc: Global, number: u64, name: Name) -> Mem<bool>
+        ensures { IfOk result (λ stands. step self.old number (RecordLine.Name name) ≡ (if stands then Some self.new else None)) }
+    {
+        if self.current.is_some() || !self.names.add(&name)? {
+            return Ok(false);
+        }
+        self.current = Some(Open::new(alloc, name, number));
+        Ok(true)
+    }
+
+    // Gives a line with this word before its colon, other than a Name line, to the record that is open.
+    fn add_headed(&mut self, alloc: Global, word: &[u8], rest: &[u8]) -> Mem<bool>
+        requires { bytes_eq (each lower word.now) (codes "name") ≡ false }
+        ensures { IfOk result (λ stands. with_current self.old (λ current. added current (headed_line (each lower word.now) rest.now)) ≡ (if stands then Some self.new else None)) }
+    {
+        match &mut self.current {
+            None => Ok(false),
+            Some(open) => open.add_headed(alloc, word, rest),
+        }
+    }
+
+    // Gives a line that is indented to the record that is open.
+    fn add_indented(&mut self, alloc: Global, line: &[u8]) -> Mem<bool>
+        ensures { IfOk result (λ stands. with_current self.old (λ current. added current (indented_line line.now)) ≡ (if stands then Some self.new else None)) }
+    {
+        match &mut self.current {
+            None => Ok(false),
+            Some(open) => open.add_indented(alloc, line),
         }
     }
 

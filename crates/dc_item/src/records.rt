@@ -6,7 +6,6 @@ ghost use Rattle.dc_item.specs.Reader.{read_all, Fails};
 
 use crate::entry::Entry;
 use crate::reader::Reader;
-use crate::reading::read_line;
 use dc_text::bytes::split_line;
 use dc_text::{List, OutOfMemory};
 use std::alloc::Global;
@@ -56,8 +55,7 @@ fn read_lines(alloc: Global, bytes: &[u8]) -> Result<Reader, RecordError>
     while !rest.is_empty() {
         let (text, after) = split_line(rest);
         line += 1;
-        let part = read_line(alloc, text)?;
-        if !reader.take(alloc, line, part)? {
+        if !reader.take(alloc, line, text)? {
             return Err(RecordError::Bad { line });
         }
         rest = after;
