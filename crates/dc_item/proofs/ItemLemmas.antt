@@ -124,9 +124,9 @@ pub with_new_variable : (b : Bool) (f v w : Texts (List ℕ)) (s : TextSet) (os 
 with_new_variable true f v w s os k x kept is key value = with_variable f v w s os k x kept is key value
 with_new_variable false f v w s os k x kept is key value = subst (λ m. Kept f s m os) (sym is) kept
 
-pub with_flags : (f v : Texts (List ℕ)) (s t : TextSet) (os flags : List (List ℕ)) → Kept f s v os → t ≡ set_of flags → list_all is_flag_name flags ≡ true → Kept f t v os
-with_flags f v s t os flags kept is all = (
-  record { fields = kept.0.fields; flags = subst (KeepsAll is_flag_name) (sym is) (KeepsAll-set_of is_flag_name flags all); variables = kept.0.variables; owners = kept.0.owners },
+pub with_flags : (f v : Texts (List ℕ)) (s t : TextSet) (os : List (List ℕ)) → Kept f s v os → KeepsAll is_flag_name t → Kept f t v os
+with_flags f v s t os kept keeps = (
+  record { fields = kept.0.fields; flags = keeps; variables = kept.0.variables; owners = kept.0.owners },
   kept.1,
 )
 

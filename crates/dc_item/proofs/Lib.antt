@@ -1,6 +1,7 @@
 pub mod AfterLemmas
 pub mod EffectLemmas
 pub mod FirstBad
+pub mod FlagSets
 pub mod FurtherLines
 pub mod Groups
 pub mod ItemLemmas

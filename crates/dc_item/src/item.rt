@@ -1,6 +1,5 @@
 // Items: the fields, flags, variables and owners of questions and templates.
-ghost use Rattle.std.specs.Prelude.{◌≡◌, IfOk, OnOk, OnErr, true, if◌then◌else◌, not};
-ghost use Rattle.std.specs.List.{list_all};
+ghost use Rattle.std.specs.Prelude.{◌≡◌, ℕ, List as Listed, IfOk, OnOk, OnErr, true, if◌then◌else◌, not};
 ghost use Rattle.std.specs.FinMap as map;
 ghost use Rattle.std.specs.Option.{option_copied};
 ghost use Rattle.dc_text.specs.Bytes.{is_nil};
@@ -244,12 +243,11 @@ impl Item {
     }
 
     // Makes these the flags that are true.
-    pub(crate) fn put_flags(&mut self, flags: List<FlagName>) -> Mem<()>
-        ensures ok { OnOk result (self.new ≡ record self.old { flags = set_of flags }) }
-        ensures err { OnErr result (self.new ≡ self.old) }
+    pub(crate) fn put_flags(&mut self, flags: SmallMap<()>)
+        requires { (flag : Listed ℕ) → map.contains_key flags flag ≡ true → is_flag_name flag ≡ true }
+        ensures { self.new ≡ record self.old { flags = flags } }
     {
-        self.flags = set_of_flags(self.alloc, flags)?;
-        Ok(())
+        self.flags = flags;
     }
 
     // Makes these the owners.
@@ -260,16 +258,4 @@ impl Item {
         self.owners = in_order(self.alloc, owners)?;
         Ok(())
     }
-}
-
-fn set_of_flags(alloc: Global, flags: List<FlagName>) -> Mem<SmallMap<()>>
-    ensures value { IfOk result (λ set. set ≡ set_of flags) }
-    ensures flags { IfOk result (λ set. list_all is_flag_name flags ≡ true) }
-{
-    let mut left = flags;
-    let mut set = SmallMap::new(alloc);
-    while let Some(flag) = left.pop() {
-        set.insert(flag.into_text(), ())?;
-    }
-    Ok(set)
 }

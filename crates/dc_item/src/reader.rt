@@ -85,7 +85,7 @@ impl Open {
         }
         match flags_in(alloc, rest) {
             Ok(flags) => {
-                self.item.put_flags(flags)?;
+                self.item.put_flags(flags);
                 self.has_flags = true;
                 self.in_variables = false;
                 Ok(true)

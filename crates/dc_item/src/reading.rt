@@ -4,11 +4,12 @@ ghost use Rattle.std.specs.List.{list_all};
 ghost use Rattle.std.specs.Str.{bytes_eq};
 ghost use Rattle.dc_text.specs.Bytes.{lower};
 ghost use Rattle.dc_text.specs.Lines.{unless_empty};
+ghost use Rattle.dc_text.specs.Maps.{set_of};
 ghost use Rattle.dc_text.specs.Names.{is_name, is_flag_name};
 ghost use Rattle.dc_item.specs.Grammar.{pieces};
 
 use dc_text::bytes::{split_at_byte, trim};
-use dc_text::{FlagName, List, Name, NameRefused};
+use dc_text::{FlagName, List, Name, NameRefused, SmallMap};
 use std::alloc::Global;
 
 /// Whether the bytes spell the word, without regard to case.
@@ -36,18 +37,19 @@ pub fn names_in(alloc: Global, text: &[u8]) -> Result<List<Name>, NameRefused>
     Ok(names)
 }
 
-/// The flags between commas. `Bad` comes exactly where one of them is no name of a flag.
-pub fn flags_in(alloc: Global, text: &[u8]) -> Result<List<FlagName>, NameRefused>
-    ensures value { IfOk result (λ flags. flags ≡ pieces text.now) }
+/// The set of the flags between commas. `Bad` comes exactly where one of them is no name of a flag.
+pub fn flags_in(alloc: Global, text: &[u8]) -> Result<SmallMap<()>, NameRefused>
+    ensures value { IfOk result (λ flags. flags ≡ set_of (pieces text.now)) }
     ensures ok { OnOk result (list_all is_flag_name (pieces text.now) ≡ true) }
     ensures bad { result ≡ Err NameRefused.Bad → list_all is_flag_name (pieces text.now) ≡ false }
 {
-    let mut flags = List::new(alloc);
+    let mut flags = SmallMap::new(alloc);
     let mut rest = text;
     while !rest.is_empty() {
         let (piece, after) = split_piece(rest);
         if !piece.is_empty() {
-            flags.push(FlagName::read(alloc, piece)?)?;
+            let flag = FlagName::read(alloc, piece)?;
+            flags.insert(flag.into_text(), ())?;
         }
         rest = after;
     }
