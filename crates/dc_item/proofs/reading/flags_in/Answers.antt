@@ -1,10 +1,21 @@
-use Rattle.std.proofs.Common.{refl, ap, ◌∙◌}
+use Rattle.std.proofs.Common.{◌≡◌, true, sym, ap, ◌∙◌}
+use Rattle.std.specs.FinMap.{insert, empty}
+use Rattle.dc_text.specs.Bytes.{trimmed}
+use Rattle.dc_text.specs.Maps.{set_of}
+use Rattle.dc_text.specs.Names.{is_flag_name}
 use Rattle.dc_item.specs.Grammar.{pieces}
-use Rattle.dc_item.proofs.FlagSets.{with_all, with_all-empty}
+use Rattle.dc_item.proofs.PieceLemmas.{pieces-one, all-one}
 use Rattle.dc_item.proofs.reading.flags_in.Goals as goal
 
-pub loop-rest-init : goal.loop-rest-init
-loop-rest-init c = record {
-  so_far = ap (λ set. with_all set (pieces c.args.text.now)) c.new-flags.ensures ∙ with_all-empty (pieces c.args.text.now);
-  good = refl;
-}
+pub returns-in_ok-insert-in-Ok-clause-value : goal.returns-in_ok-insert-in-Ok-clause-value
+returns-in_ok-insert-in-Ok-clause-value c =
+    let text = c.args.text.now in
+    let good : is_flag_name (trimmed text) ≡ true = ap is_flag_name (sym c.trim.ensures) ∙ c.in-Ok.ensures.ok in
+    c.in_ok-insert-in-Ok.ensures.ok ∙ ap (λ flags. insert flags c.into_text.result tt) c.new-flags.ensures
+    ∙ ap (λ flag. insert empty flag tt) (c.into_text.ensures.value ∙ c.in-Ok.ensures.value ∙ c.trim.ensures) ∙ ap set_of (sym (pieces-one text good))
+
+pub returns-in_ok-insert-in-Ok-clause-ok : goal.returns-in_ok-insert-in-Ok-clause-ok
+returns-in_ok-insert-in-Ok-clause-ok c =
+    let text = c.args.text.now in
+    let good : is_flag_name (trimmed text) ≡ true = ap is_flag_name (sym c.trim.ensures) ∙ c.in-Ok.ensures.ok in
+    all-one is_flag_name (pieces text) (trimmed text) (pieces-one text good) good

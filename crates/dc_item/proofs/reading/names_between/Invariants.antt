@@ -2,7 +2,7 @@ use Rattle.std.proofs.Common.{◌≡◌, ◌++◌, length, true}
 use Rattle.std.specs.List.{list_all}
 use Rattle.dc_text.specs.Names.{is_name}
 use Rattle.dc_item.specs.Grammar.{pieces}
-use Rattle.dc_item.proofs.reading.names_in.Given as goal
+use Rattle.dc_item.proofs.reading.names_between.Given as goal
 
 abbrev pub invariant-loop-rest : goal.invariant-loop-rest
 invariant-loop-rest l = record {

@@ -4,7 +4,7 @@ use Rattle.dc_text.specs.Maps.{set_of}
 use Rattle.dc_text.specs.Names.{is_flag_name}
 use Rattle.dc_item.specs.Grammar.{pieces}
 use Rattle.dc_item.proofs.FlagSets.{with_all}
-use Rattle.dc_item.proofs.reading.flags_in.Given as goal
+use Rattle.dc_item.proofs.reading.flags_between.Given as goal
 
 abbrev pub invariant-loop-rest : goal.invariant-loop-rest
 invariant-loop-rest l = record {
