@@ -1,7 +1,8 @@
 // What one line of a database text says.
 use dc_text::{FieldKey, FlagName, List, Name, Settled, VarKey};
 
-/// What a line of a database text says, wherever it stands.
+/// What a line of a database text says, wherever it stands. Contracts speak of it; the reader puts what it says into the
+/// record at once.
 #[derive(Drop)]
 pub enum RecordLine {
     Blank,
