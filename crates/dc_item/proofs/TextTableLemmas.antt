@@ -1,11 +1,13 @@
 -- A hash map of the library's, whose keys are seen as texts, as a finite map from texts.
-use Rattle.std.proofs.Common.{◌≡◌, ℕ, zero, suc, Bool, true, false, cond, List, [], ◌∷◌, ◌++◌, take, drop, Some, None, Option, refl, sym, ap, ◌∙◌, subst}
+use borrow.Follows.Closed.{read_of}
+use Rattle.std.proofs.Common.{◌≡◌, ℕ, zero, suc, Bool, true, false, cond, List, [], ◌∷◌, ◌++◌, take, drop, Some, None, Option, refl, sym, ap, ◌∙◌, subst, inl, inr, MutBor}
 use Rattle.std.specs.Prelude.{T, ◌&&◌, is_some, map}
 use Rattle.std.specs.List.{AllByRecursion, IsDistinct}
 use Rattle.std.specs.List.Sorted.{IsStrictlySortedBy}
 use Rattle.std.specs.Str.{bytes_eq}
 use Rattle.std.specs.declared.cmp.Ordering.{Ordering}
 use Rattle.std.specs.declared.cmp.Ordering.TheVariants.{Less, Equal, Greater}
+use Rattle.std.specs.Option.{ghost_name_of, option_copied_mut}
 use Rattle.std.specs.Ordering.{eq_by_cmp, is_eq, is_lt, match_ordering}
 use Rattle.std.specs.Cmp.{eq_by_cmp_equiv}
 use Rattle.std.specs.Cmp.Lexicographic.{nat_list_cmp_total}
@@ -221,3 +223,10 @@ module _ {Y K X Z : Type 0} (f : Y → List ℕ) (g : K → List ℕ) (h : X →
         shown-grows g h es fs before k v so_far is (ap (λ q. find text_cmp q before) key ∙ new)
             ∙ ap (λ l. from_entries l) ((λ i. before ++ (key i, h v) ∷ []) ∙ sym (map-append (λ (e : Y × Z). (f e.0, e.1)) (take n all) ((y, h v) ∷ [])) ∙ ap (seen f) (sym next.0)),
       )
+
+-- ---- a value that is lent
+
+-- what a loan may leave is the same as another, where it is with whatever stands behind the loan, and with no loan
+pub same_lent : {X R : Type 0} (o : Option (MutBor X)) (f g : X → R) (v w : R) → (is_some (option_copied_mut o) ≡ true → (x : X) → f x ≡ g x) → v ≡ w → read_of (ghost_name_of o) f v ≡ read_of (ghost_name_of o) g w
+same_lent (Some r) f g v w at none = λ i. inl (r.ghost_name, λ x. at refl x i)
+same_lent None f g v w at none = λ i. inr (none i)

@@ -6,3 +6,4 @@ pub mod Printed
 pub mod Reader
 pub mod Records
 pub mod Table
+pub mod TableLends

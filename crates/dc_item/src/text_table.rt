@@ -1,8 +1,8 @@
 // Maps from texts that have many entries.
-ghost use Rattle.std.specs.Prelude.{◌≡◌, OnOk, OnErr, IfOk, Some, true, map as each};
-ghost use Rattle.std.specs.Option.{option_copied};
+ghost use Rattle.std.specs.Prelude.{◌≡◌, OnOk, OnErr, IfOk, map as each};
+ghost use Rattle.std.specs.Borrow.{sem};
+ghost use Rattle.std.specs.Option.{option_copied, option_copied_mut};
 ghost use Rattle.std.specs.FinMap as map;
-ghost use Rattle.dc_text.specs.Bytes.{is_nil};
 
 use dc_text::{Mem, Text};
 use indexmap::IndexMap;
@@ -32,6 +32,8 @@ impl<V> Model for TextTable<V> {
 }
 
 impl<V: Drop> TextTable<V> {
+    ghost use Rattle.dc_item.specs.TableLends.{lends_value};
+
     /// The empty map.
     pub fn new(alloc: Global) -> Self
         ensures { result ≡ map.empty }
@@ -65,16 +67,12 @@ impl<V: Drop> TextTable<V> {
         Ok(())
     }
 
-    /// Puts the value at a key that is there, and hands out the one that stood there. It takes no memory.
-    pub fn replace(&mut self, key: &[u8], value: V) -> V
-        requires { map.contains_key self.old key.now ≡ true }
-        ensures old { map.get self.old key.now ≡ Some result }
-        ensures new { self.new ≡ map.insert self.old key.now value }
+    /// The value at the key, to write, if there is one.
+    pub fn get_mut(&mut self, key: &[u8]) -> Option<&mut V>
+        ensures* writes_back { sem 𝓛 (lends_value V.row self.entry key.now result) }
+        ensures value { option_copied_mut result ≡ map.get self.old key.now }
     {
-        match self.entries.get_mut(key) {
-            Some(place) => std::mem::replace(place, value),
-            None => unreachable!(),
-        }
+        self.entries.get_mut(key)
     }
 
     /// Takes the key and its value away, if they are there.

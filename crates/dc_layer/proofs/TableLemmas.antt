@@ -1,6 +1,6 @@
 -- The names of a table's items, and those that were touched.
 use Rattle.std.proofs.Common.{◌≡◌, ℕ, Bool, true, false, cond, List, [], ◌∷◌, Some, None, map as each, refl, sym, ap, ◌∙◌, subst, Result, Ok, Err}
-use Rattle.std.specs.Prelude.{is_some, ◌&&◌, ◌||◌, OnOk, OnErr, MatchOption}
+use Rattle.std.specs.Prelude.{is_some, ◌&&◌, ◌||◌, OnOk, OnErr}
 use Rattle.std.specs.List.{list_all, list_any}
 use Rattle.std.specs.Ordering.{eq_by_cmp}
 use Rattle.std.specs.Cmp.{eq_by_cmp_equiv}
@@ -10,8 +10,6 @@ use Rattle.dc_text.specs.Maps.{text_cmp}
 use Rattle.dc_text.specs.Names.{is_name}
 use Rattle.dc_item.specs.Item.{ItemParts}
 use Rattle.dc_text.proofs.MapLemmas.{exact_texts}
-use Rattle.dc_item.specs.After.{asked}
-use Rattle.dc_item.specs.declared.op.Op.{Op}
 use Rattle.dc_item.proofs.ItemLemmas.{same_key}
 use Rattle.dc_layer.specs.State.{Table}
 
@@ -55,15 +53,6 @@ names_are_names m named = all_listed (keys m) (λ q e. named q (contains_key-key
 
 -- ---- an item written over
 
-cond_twice : {A : Type 0} (b : Bool) (x y z : A) → cond b x (cond b y z) ≡ cond b x z
-cond_twice true x y z = refl
-cond_twice false x y z = refl
-
-pub insert_twice : (m : Table) (k : List ℕ) (v w : ItemParts) → insert (insert m k v) k w ≡ insert m k w
-insert_twice m k v w = same_map nat_list_cmp_total exact_texts _ _ (λ q.
-    get-insert nat_list_cmp_total (insert m k v) k w q ∙ ap (cond (eq_by_cmp text_cmp q k) (Some w)) (get-insert nat_list_cmp_total m k v q)
-    ∙ cond_twice (eq_by_cmp text_cmp q k) (Some w) (Some v) (get m q) ∙ sym (get-insert nat_list_cmp_total m k w q))
-
 there_again : (m : Table) (k : List ℕ) (v : ItemParts) → get m k ≡ Some v → insert m k v ≡ m
 there_again m k v e = same_map nat_list_cmp_total exact_texts _ _ (λ q. get-insert nat_list_cmp_total m k v q
     ∙ elim (eq_by_cmp text_cmp q k) as (λ b. eq_by_cmp text_cmp q k ≡ b → cond b (Some v) (get m q) ≡ get m q) [
@@ -71,15 +60,7 @@ there_again m k v e = same_map nat_list_cmp_total exact_texts _ _ (λ q. get-ins
       | false ↦ λ t. refl
     ] refl)
 
-pub has_inserted : (m : Table) (k : List ℕ) (v : ItemParts) → contains_key (insert m k v) k ≡ true
-has_inserted m k v = ap is_some (get-insert nat_list_cmp_total m k v k ∙ ap (λ b. cond b (Some v) (get m k)) ((eq_by_cmp_equiv nat_list_cmp_total).refl k))
-
--- the item is what the operation asks for, where it was done, and what it was, where it wasn't
-pub applied_ok : {T E : Type 0} (r : Result T E) (m new : Table) (k : List ℕ) (op : Op) (old made : ItemParts) → get m k ≡ Some old → new ≡ insert m k made → OnOk r (made ≡ asked op old)
-    → OnOk r (MatchOption (get m k) (new ≡ m) (λ item. new ≡ insert m k (asked op item)))
-applied_ok (Ok x) m new k op old made was put is = subst (λ o. MatchOption o (new ≡ m) (λ item. new ≡ insert m k (asked op item))) (sym was) (put ∙ ap (insert m k) is)
-applied_ok (Err e) m new k op old made was put is = tt
-
+-- an item that isn't changed is written over by itself
 pub applied_err : {T E : Type 0} (r : Result T E) (m new : Table) (k : List ℕ) (old made : ItemParts) → get m k ≡ Some old → new ≡ insert m k made → OnErr r (made ≡ old) → OnErr r (new ≡ m)
 applied_err (Ok x) m new k old made was put is = tt
 applied_err (Err e) m new k old made was put is = put ∙ ap (insert m k) is ∙ there_again m k old was

@@ -13,10 +13,9 @@ use Rattle.dc_layer.specs.State.{touch, firsts}
 abbrev pub names_in : List (Vec ℕ Global) → List (List ℕ)
 names_in keys = each (λ k. k.items) keys
 
-any-names : (eq : Vec ℕ Global → Vec ℕ Global → Bool) → ((k j : Vec ℕ Global) → eq k j ≡ bytes_eq k.items j.items) → (ks : List (Vec ℕ Global)) (k : Vec ℕ Global)
-    → list_any (eq k) ks ≡ list_any (bytes_eq k.items) (names_in ks)
-any-names eq same [] k = refl
-any-names eq same (j ∷ ks) k = (λ i. same k j i || any-names eq same ks k i)
+any-names : (test : Vec ℕ Global → Bool) (name : List ℕ) → ((k : Vec ℕ Global) → test k ≡ bytes_eq name k.items) → (ks : List (Vec ℕ Global)) → list_any test ks ≡ list_any (bytes_eq name) (names_in ks)
+any-names test name same [] = refl
+any-names test name same (k ∷ ks) = (λ i. same k i || any-names test name same ks i)
 
 either : (b : Bool) (ks : List (Vec ℕ Global)) (k : Vec ℕ Global) → names_in (cond b ks (ks ++ k ∷ [])) ≡ cond b (names_in ks) (names_in ks ++ k.items ∷ [])
 either true ks k = refl
@@ -26,7 +25,12 @@ either false ks k = map-append (λ j. j.items) ks (k ∷ [])
 pub names_in-insert_key : (eq : Vec ℕ Global → Vec ℕ Global → Bool) → ((k j : Vec ℕ Global) → eq k j ≡ bytes_eq k.items j.items) → (ks : List (Vec ℕ Global)) (k : Vec ℕ Global)
     → names_in (insert_key eq ks k) ≡ touch (names_in ks) k.items
 names_in-insert_key eq same ks k =
-    either (list_any (eq k) ks) ks k ∙ ap (λ b. cond b (names_in ks) (names_in ks ++ k.items ∷ [])) (any-names eq same ks k)
+    either (list_any (eq k) ks) ks k ∙ ap (λ b. cond b (names_in ks) (names_in ks ++ k.items ∷ [])) (any-names (eq k) k.items (same k) ks)
+
+-- a name that is there was touched already
+pub touched_already : (test : Vec ℕ Global → Bool) (name : List ℕ) → ((k : Vec ℕ Global) → test k ≡ bytes_eq name k.items) → (ks : List (Vec ℕ Global)) → list_any test ks ≡ true
+    → names_in ks ≡ touch (names_in ks) name
+touched_already test name same ks is = ap (λ b. cond b (names_in ks) (names_in ks ++ name ∷ [])) (sym is ∙ any-names test name same ks)
 
 pub each_name : {A : Type 0} (f : List ℕ → A) (ks : List (Vec ℕ Global)) → each f (names_in ks) ≡ each (λ k. f k.items) ks
 each_name f [] = refl

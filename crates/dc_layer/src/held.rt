@@ -112,6 +112,9 @@ fn change_touched(
     ensures same_table { OnErr result (table.new ≡ table.old) }
     ensures same_touched { OnErr result (each (λ k. k.items) touched.new.keys ≡ each (λ k. k.items) touched.old.keys) }
 {
+    if touched.contains(name.bytes()) {
+        return table.change(name, op);
+    }
     let mark = name.copy()?.into_text().into_vec()?;
     touched.reserve(1)?;
     table.change(name, op)?;
@@ -128,9 +131,20 @@ fn remove_touched(table: &mut ItemTable, touched: &mut IndexSet<Vec<u8>>, name: 
     ensures same_table { OnErr result (table.new ≡ table.old) }
     ensures same_touched { OnErr result (each (λ k. k.items) touched.new.keys ≡ each (λ k. k.items) touched.old.keys) }
 {
-    let mark = name.copy()?.into_text().into_vec()?;
-    touched.insert(mark)?;
+    touch_name(touched, name)?;
     table.remove(name.bytes());
+    Ok(())
+}
+
+// Touches the name, or changes nothing. It takes no memory where the name was touched before.
+fn touch_name(touched: &mut IndexSet<Vec<u8>>, name: &Name) -> Mem<()>
+    ensures ok { OnOk result (each (λ k. k.items) touched.new.keys ≡ touch (each (λ k. k.items) touched.old.keys) name.now) }
+    ensures err { OnErr result (each (λ k. k.items) touched.new.keys ≡ each (λ k. k.items) touched.old.keys) }
+{
+    if touched.contains(name.bytes()) {
+        return Ok(());
+    }
+    touched.insert(name.copy()?.into_text().into_vec()?)?;
     Ok(())
 }
 

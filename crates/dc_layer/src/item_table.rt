@@ -89,13 +89,10 @@ impl ItemTable {
         ensures ok { OnOk result (MatchOption (map.get self.old name.now) (self.new ≡ self.old) (λ item. self.new ≡ map.insert self.old name.now (asked op.now item))) }
         ensures err { OnErr result (self.new ≡ self.old) }
     {
-        if !self.items.contains(name) {
-            return Ok(());
+        match self.items.get_mut(name) {
+            Some(item) => item.apply(op),
+            None => Ok(()),
         }
-        let mut item = self.items.replace(name, Item::new(self.alloc));
-        let done = item.apply(op);
-        let _ = self.items.replace(name, item);
-        done
     }
 
     /// Takes the item at the name away, if there is one.

@@ -1,32 +1,28 @@
-use Rattle.std.proofs.Common.{◌≡◌, sym, ap, subst, ◌∙◌}
+use Rattle.std.proofs.Common.{◌≡◌, OnErr, Some, true, sym, ap, subst, ◌∙◌}
+use Rattle.std.specs.Prelude.{is_some}
+use Rattle.std.specs.Option.{option_copied_mut}
 use Rattle.std.specs.FinMap as map
-use Rattle.dc_layer.proofs.TableLemmas.{AreNamed, are_named_insert, insert_twice, has_inserted, applied_ok, applied_err}
+use Rattle.dc_layer.proofs.TableLemmas.{AreNamed, are_named_insert, applied_err}
 use Rattle.dc_layer.proofs.item_table.ItemTable.apply.Goals as goal
-
-pub replace-requires : goal.replace-requires
-replace-requires c = ap (λ m. map.contains_key m c.args.name.now) c.replace-item.ensures.new ∙ has_inserted c.self.inside.items c.args.name.now c.new.result
+use Rattle.dc_layer.proofs.item_table.ItemTable.apply.Goals.{in-Some, in-None}
 
 pub invariant_of-self : goal.invariant_of-self
-invariant_of-self c =
-    let made = c.apply-done.new.self in
-    let put : c.replace.new.self ≡ map.insert c.self.inside.items c.args.name.now made
-    = c.replace.ensures.new ∙ ap (λ m. map.insert m c.args.name.now made) c.replace-item.ensures.new ∙ insert_twice c.self.inside.items c.args.name.now c.new.result made in
-    subst AreNamed (sym put) (are_named_insert c.self.inside.items c.args.name.now made c.self.invariant (c.self.invariant c.args.name.now (sym c.contains.ensures ∙ c.if-not-contains.false)))
-
-pub returns-clause-ok : goal.returns-clause-ok
-returns-clause-ok c =
-    let made = c.apply-done.new.self in
-    let put : c.replace.new.self ≡ map.insert c.args.self.now c.args.name.now made
-    = c.replace.ensures.new ∙ ap (λ m. map.insert m c.args.name.now made) c.replace-item.ensures.new ∙ insert_twice c.self.inside.items c.args.name.now c.new.result made
-    ∙ ap (λ m. map.insert m c.args.name.now made) c.self.view_is in
-    applied_ok c.apply-done.result c.args.self.now c.replace.new.self c.args.name.now c.args.op.now c.replace-item.result made
-    (ap (λ m. map.get m c.args.name.now) (sym c.self.view_is) ∙ c.replace-item.ensures.old) put c.apply-done.ensures.ok
+invariant_of-self c = elim c.match-get_mut.branch [
+  | in-Some w ↦
+      let there : map.contains_key c.self.inside.items c.args.name.now ≡ true = ap is_some (sym c.get_mut.ensures.value ∙ ap option_copied_mut w.in-Some.is) in
+      subst (λ s. AreNamed s.items) (sym w.self-inside-is) (are_named_insert c.self.inside.items c.args.name.now w.apply.new.self c.self.invariant (c.self.invariant c.args.name.now there))
+  | in-None w ↦ subst (λ s. AreNamed s.items) (sym w.self-inside-is) c.self.invariant
+]
 
 pub returns-clause-err : goal.returns-clause-err
-returns-clause-err c =
-    let made = c.apply-done.new.self in
-    let put : c.replace.new.self ≡ map.insert c.args.self.now c.args.name.now made
-    = c.replace.ensures.new ∙ ap (λ m. map.insert m c.args.name.now made) c.replace-item.ensures.new ∙ insert_twice c.self.inside.items c.args.name.now c.new.result made
-    ∙ ap (λ m. map.insert m c.args.name.now made) c.self.view_is in
-    applied_err c.apply-done.result c.args.self.now c.replace.new.self c.args.name.now c.replace-item.result made
-    (ap (λ m. map.get m c.args.name.now) (sym c.self.view_is) ∙ c.replace-item.ensures.old) put c.apply-done.ensures.err
+returns-clause-err c = elim c.match-get_mut.branch [
+  | in-Some w ↦
+      let was : map.get c.args.self.now c.args.name.now ≡ Some w.in-Some.item.now
+      = ap (λ m. map.get m c.args.name.now) (sym c.self.view_is) ∙ sym c.get_mut.ensures.value ∙ ap option_copied_mut w.in-Some.is in
+      subst (λ r. OnErr r (c.match-get_mut.self-inside.items ≡ c.args.self.now)) (sym w.result-is) (
+      applied_err w.apply.result c.args.self.now c.match-get_mut.self-inside.items c.args.name.now w.in-Some.item.now w.apply.new.self was
+      (ap (λ s. s.items) w.self-inside-is ∙ ap (λ m. map.insert m c.args.name.now w.apply.new.self) c.self.view_is)
+      w.apply.ensures.err
+      )
+  | in-None w ↦ subst (λ r. OnErr r (c.match-get_mut.self-inside.items ≡ c.args.self.now)) (sym w.result-is) tt
+]
