@@ -1,4 +1,5 @@
--- The texts of prefixes, from which the files of a PackageDir are made.
+-- The texts of prefixes, as they are filled record by record. The proofs alone speak of them: what the file of a prefix holds is said by
+-- `prefix_image` of State.
 use Rattle.std.specs.Prelude.{ℕ, List, [], ◌++◌, map as each, filter, Vec}
 use Rattle.std.specs.List.{flat_map}
 use Rattle.std.specs.Str.{bytes_eq}
