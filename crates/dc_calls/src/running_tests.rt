@@ -23,19 +23,21 @@ fn make_folder(rt: &HostRuntime, name: &str) -> io::Result<String> {
 }
 
 // The path of a name in the folder.
-fn inside(rt: &HostRuntime, folder: &str, name: &str) -> io::Result<String> {
-    Ok(format!(in rt.alloc(); "{folder}/{name}")?)
+fn inside(rt: &HostRuntime, folder: &str, name: &str) -> Option<String> {
+    format!(in rt.alloc(); "{folder}/{name}").ok()
 }
 
 // The same, as the files take it.
-fn text_inside(rt: &HostRuntime, folder: &str, name: &str) -> Option<Text> {
-    let path = inside(rt, folder, name).ok()?;
-    Some(Text::from_bytes(rt.alloc(), path.as_bytes()).ok()?)
+fn text_inside(alloc: Global, folder: &str, name: &str) -> Option<Text> {
+    let mut path = Text::from_bytes(alloc, folder.as_bytes()).ok()?;
+    path.push(b'/').ok()?;
+    path.append(name.as_bytes()).ok()?;
+    Some(path)
 }
 
 // Writes a configuration of questions and templates in the folder.
 fn configure(rt: &HostRuntime, folder: &str) -> Option<()> {
-    let path = inside(rt, folder, "conf").ok()?;
+    let path = inside(rt, folder, "conf")?;
     let conf = format!(in rt.alloc();
         "Config: q\nTemplates: t\n\nName: q\nDriver: File\nFilename: {folder}/questions\n\nName: t\nDriver: File\nFilename: {folder}/templates\n"
     ).ok()?;
@@ -77,7 +79,7 @@ fn blank_shelf(alloc: Global) -> Option<Shelf>
 fn answered(rt: &HostRuntime, folder: &str, input: &[u8]) -> Option<Text> {
     let alloc = rt.alloc();
     let settings = Settings {
-        conf_path: text_inside(rt, folder, "conf")?,
+        conf_path: text_inside(alloc, folder, "conf")?,
         frontend: None,
         priority: None,
         lang: Text::new(alloc),
@@ -115,7 +117,7 @@ fn paths_in(rt: &HostRuntime, folder: &str) -> Option<Text> {
 #[test]
 fn a_run_saves_its_questions(rt: HostRuntime) {
     let folder = make_folder(&rt, "run").ok().expect(&rt, "done");
-    let path = inside(&rt, &folder, "questions").ok().expect(&rt, "done");
+    let path = inside(&rt, &folder, "questions").expect(&rt, "done");
     configure(&rt, folder.as_str()).expect(&rt, "done");
     let old = "Name: a/b\nValue: old\n";
     fs::write(&rt, path.as_str(), old).ok().expect(&rt, "done");

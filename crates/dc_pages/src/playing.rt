@@ -1,4 +1,4 @@
-// A run over a shelf of blank layers, or of tired ones.
+// A run over a shelf of blank layers, which may be tired.
 ghost use Rattle.std.specs.Prelude.{◌≡◌, ◌≤◌, [], length, IfOk, map as each};
 ghost use Rattle.dc_conf.specs.declared.spec.LayerSort.TheVariants.{File as OneFile, Tree, Pack};
 ghost use Rattle.dc_layer.specs.State.{blank};
@@ -6,7 +6,7 @@ ghost use Rattle.dc_outside.specs.Programs.{Unstarted};
 ghost use Rattle.dc_shelf.specs.Shelves.{AreBlank};
 
 use dc_dirs::{DirTreeLayer, PackageDirLayer};
-use dc_layer::{FileLayer, Layer, TiredLayer};
+use dc_layer::{Layer, TiredLayer};
 use dc_outside::{MemChild, MemFiles, MemLink};
 use dc_run::{Outcome, Settings, Shelf, run_words};
 use dc_text::{List, Mem, Name, OutOfMemory, Text};
@@ -14,33 +14,9 @@ use std::alloc::Global;
 
 // One more blank layer of each sort on the shelf.
 macro_rules! fill {
-    ($shelf:ident, $boxes:expr) => {{
-        let (file, tree, pack) = $boxes?;
+    ($shelf:ident, $alloc:expr, $changes:expr) => {{
+        let (file, tree, pack) = blank_boxes($alloc, $changes)?;
         $shelf.take_each(file, tree, pack)?;
-    }};
-}
-
-// A shelf with as many boxes of each sort as a configuration has databases.
-macro_rules! shelf_of {
-    ($alloc:expr, $boxes:expr) => {{
-        let mut shelf = Shelf::empty($alloc);
-        fill!(shelf, $boxes);
-        fill!(shelf, $boxes);
-        fill!(shelf, $boxes);
-        fill!(shelf, $boxes);
-        fill!(shelf, $boxes);
-        fill!(shelf, $boxes);
-        fill!(shelf, $boxes);
-        fill!(shelf, $boxes);
-        fill!(shelf, $boxes);
-        fill!(shelf, $boxes);
-        fill!(shelf, $boxes);
-        fill!(shelf, $boxes);
-        fill!(shelf, $boxes);
-        fill!(shelf, $boxes);
-        fill!(shelf, $boxes);
-        fill!(shelf, $boxes);
-        shelf
     }};
 }
 
@@ -49,6 +25,8 @@ macro_rules! shelf_of {
 pub struct Task<'t> {
     pub words: &'t List<Text>,
     pub settings: &'t Settings,
+    /// How many changes each layer in a file takes before it finds no memory.
+    pub changes: u64,
     /// The question of which it is told what the databases hold at the end.
     pub held: Option<&'t Name>,
 }
@@ -60,31 +38,22 @@ pub struct Played {
     pub held: Text,
 }
 
-// A blank layer of each sort.
-fn blank_boxes(alloc: Global) -> Mem<(Box<FileLayer>, Box<DirTreeLayer>, Box<PackageDirLayer>)>
-    ensures file { IfOk result (λ boxes. ⟦<FileLayer as Layer>⟧.state boxes.0.value ≡ blank OneFile) }
-    ensures tree { IfOk result (λ boxes. ⟦<DirTreeLayer as Layer>⟧.state boxes.1.value ≡ blank Tree) }
-    ensures pack { IfOk result (λ boxes. ⟦<PackageDirLayer as Layer>⟧.state boxes.2.value ≡ blank Pack) }
-{
-    let file = Box::new(alloc, FileLayer::blank(alloc))?;
-    let tree = Box::new(alloc, DirTreeLayer::blank(alloc))?;
-    let pack = Box::new(alloc, PackageDirLayer::blank(alloc))?;
-    Ok((file, tree, pack))
-}
-
-// The same, where the one in a file takes one change.
-fn tired_boxes(alloc: Global) -> Mem<(Box<TiredLayer>, Box<DirTreeLayer>, Box<PackageDirLayer>)>
+// A blank layer of each sort, of which the one in a file takes so many changes.
+fn blank_boxes(
+    alloc: Global,
+    changes: u64,
+) -> Mem<(Box<TiredLayer>, Box<DirTreeLayer>, Box<PackageDirLayer>)>
     ensures file { IfOk result (λ boxes. ⟦<TiredLayer as Layer>⟧.state boxes.0.value ≡ blank OneFile) }
     ensures tree { IfOk result (λ boxes. ⟦<DirTreeLayer as Layer>⟧.state boxes.1.value ≡ blank Tree) }
     ensures pack { IfOk result (λ boxes. ⟦<PackageDirLayer as Layer>⟧.state boxes.2.value ≡ blank Pack) }
 {
-    let file = Box::new(alloc, TiredLayer::blank(alloc, 1))?;
+    let file = Box::new(alloc, TiredLayer::blank(alloc, changes))?;
     let tree = Box::new(alloc, DirTreeLayer::blank(alloc))?;
     let pack = Box::new(alloc, PackageDirLayer::blank(alloc))?;
     Ok((file, tree, pack))
 }
 
-/// Runs the words over blank layers.
+/// Runs the words over blank layers: one of each sort for each of the sixteen databases that a configuration may have.
 pub fn play(
     alloc: Global,
     task: Task<'_>,
@@ -95,22 +64,23 @@ pub fn play(
 ) -> Mem<Played>
     requires { child.old.program.life ≡ Unstarted }
 {
-    let mut shelf = shelf_of!(alloc, blank_boxes(alloc));
-    play_over(alloc, task, io, err, child, files, &mut shelf)
-}
-
-/// Runs the words over blank layers of which each in a file takes one change.
-pub fn play_tired(
-    alloc: Global,
-    task: Task<'_>,
-    io: &mut MemLink,
-    err: &mut MemLink,
-    child: &mut MemChild,
-    files: &mut MemFiles,
-) -> Mem<Played>
-    requires { child.old.program.life ≡ Unstarted }
-{
-    let mut shelf = shelf_of!(alloc, tired_boxes(alloc));
+    let mut shelf = Shelf::empty(alloc);
+    fill!(shelf, alloc, task.changes);
+    fill!(shelf, alloc, task.changes);
+    fill!(shelf, alloc, task.changes);
+    fill!(shelf, alloc, task.changes);
+    fill!(shelf, alloc, task.changes);
+    fill!(shelf, alloc, task.changes);
+    fill!(shelf, alloc, task.changes);
+    fill!(shelf, alloc, task.changes);
+    fill!(shelf, alloc, task.changes);
+    fill!(shelf, alloc, task.changes);
+    fill!(shelf, alloc, task.changes);
+    fill!(shelf, alloc, task.changes);
+    fill!(shelf, alloc, task.changes);
+    fill!(shelf, alloc, task.changes);
+    fill!(shelf, alloc, task.changes);
+    fill!(shelf, alloc, task.changes);
     play_over(alloc, task, io, err, child, files, &mut shelf)
 }
 

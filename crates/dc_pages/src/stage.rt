@@ -2,7 +2,7 @@
 ghost use Rattle.std.specs.Prelude.{◌≡◌};
 ghost use Rattle.dc_outside.specs.Programs.{Unstarted};
 
-use crate::playing::{Played, Task, play, play_tired};
+use crate::playing::{Played, Task, play};
 use crate::ran::Ran;
 use crate::speaker::{Speaker, add_numbers, number_at};
 use crate::telling::{append_calls, append_file, append_path, append_talk};
@@ -22,7 +22,8 @@ pub struct Stage {
     /// The numbers of the calls of files that fail, and of the first that stops them all.
     failing: Vec<u64>,
     stopped: Option<u64>,
-    is_tired: bool,
+    /// How many changes each layer in a file takes before it finds no memory.
+    changes: u64,
     /// Words of the next run.
     words: List<Text>,
     /// The question of which it is told what the databases hold.
@@ -55,7 +56,7 @@ impl Stage {
             settings,
             failing: Vec::new(alloc),
             stopped: None,
-            is_tired: false,
+            changes: u64::MAX,
             words: List::new(alloc),
             held: None,
             io: Speaker::new(alloc),
@@ -92,7 +93,7 @@ impl Stage {
             b"frontend" => self.settings.frontend = Some(words.get(0)?.copy().ok()?),
             b"priority" => self.settings.priority = Some(words.get(0)?.copy().ok()?),
             b"nonint_seen" => self.settings.nonint_seen = true,
-            b"tired" => self.is_tired = true,
+            b"tired" => self.changes = 1,
             b"files_fail" => add_numbers(&mut self.failing, words)?,
             b"stopped" => self.stopped = Some(number_at(words, 0)?),
             b"words" => self.add_words(text)?,
@@ -251,13 +252,10 @@ impl Stage {
         let task = Task {
             words: &self.words,
             settings: &self.settings,
+            changes: self.changes,
             held: self.held.as_ref(),
         };
-        if self.is_tired {
-            play_tired(self.alloc, task, io, err, child, files)
-        } else {
-            play(self.alloc, task, io, err, child, files)
-        }
+        play(self.alloc, task, io, err, child, files)
     }
 
     // What stands at the paths now, and which other files don't stand as before.
