@@ -4,10 +4,11 @@ use Rattle.std.specs.Prelude.{◌==◌, ◌≢◌, replicate, T, ◌&&◌, is_so
 use Rattle.std.proofs.Math.Seq.{take-append_seam, drop-append_seam}
 use Rattle.std.proofs.Math.Nat.{div-add-mod, mod-lt}
 use Rattle.std.proofs.lemmas.Bool.Decides.{nat_tests}
+use Rattle.std.proofs.lemmas.List.{append-nil}
 use Rattle.std.specs.declared.cmp.Ordering.{Ordering}
 use Rattle.std.specs.Ordering.{is_lt, is_eq}
 use Rattle.std.specs.Cmp.Lexicographic.{nat_list_cmp_total}
-use Rattle.std.specs.FinMap.{put, is_sorted, find}
+use Rattle.std.specs.FinMap.{FinMap, put, is_sorted, find, get, contains_key, from_sorted, get-from_sorted}
 use Rattle.std.specs.FinMap.Entries.{by_order, below_all}
 use Rattle.std.specs.declared.cmp.Ordering.TheVariants.{Less, Equal, Greater}
 use Rattle.dc_text.specs.Maps.{text_cmp}
@@ -310,13 +311,13 @@ module _ (q : List ℕ) (count : ℕ) (bytes : List ℕ) (start end : ℕ) (ther
   counted : length (before q (entries_in count bytes)) + cond there 1 0 + length (behind q (entries_in count bytes)) ≡ count
   counted = ap (λ b. length (before q (entries_in count bytes)) + cond b 1 0 + length (behind q (entries_in count bytes))) is_there ∙ length-place q (entries_in count bytes) ∙ length-entries_in count bytes
 
-  pub put_packed : (v : List ℕ) (more : ℕ) (new : List ℕ) → new ≡ take start bytes ++ (packed ((q, v) ∷ []) ++ drop end bytes) → more ≡ cond there count (count + 1)
+  pub put_packed : (v : List ℕ) (more : ℕ) (piece new : List ℕ) → piece ≡ packed ((q, v) ∷ []) → new ≡ take start bytes ++ (piece ++ drop end bytes) → more ≡ cond there count (count + 1)
       → (entries_in more new ≡ put text_cmp q v (entries_in count bytes)) × IsPacked more new
-  put_packed v more new is many =
+  put_packed v more piece new entry is many =
       let es : List (List ℕ × List ℕ) = entries_in count bytes in
       let fs : List (List ℕ × List ℕ) = before q es ++ (q, v) ∷ behind q es in
       let laid : new ≡ packed fs
-      = is ∙ (λ i. starts i ++ (packed ((q, v) ∷ []) ++ ends i)) ∙ ap (λ l. packed (before q es) ++ l) (sym (packed-append ((q, v) ∷ []) (behind q es))) ∙ sym (packed-append (before q es) ((q, v) ∷ behind q es)) in
+      = is ∙ (λ i. starts i ++ (entry i ++ ends i)) ∙ ap (λ l. packed (before q es) ++ l) (sym (packed-append ((q, v) ∷ []) (behind q es))) ∙ sym (packed-append (before q es) ((q, v) ∷ behind q es)) in
       let count_is : more ≡ length fs = one_more there count (length (before q es)) (length (behind q es)) (length fs) more counted (length-append (before q es) ((q, v) ∷ behind q es)) many in
       let anew : (entries_in more new ≡ fs) × IsPacked more new = packed_anew fs more new laid count_is in
       (anew.0 ∙ sym (put-place q v es), anew.1)
@@ -330,3 +331,55 @@ module _ (q : List ℕ) (count : ℕ) (bytes : List ℕ) (start end : ℕ) (ther
       let with_it : length (before q es) + 1 + length (behind q es) ≡ count = ap (λ b. length (before q es) + cond b 1 0 + length (behind q es)) (sym has) ∙ counted in
       let anew : (entries_in left new ≡ fs) × IsPacked left new = packed_anew fs left new laid (omega (arith, length-append (before q es) (behind q es))) in
       (anew.0 ∙ sym (without-place q es h), anew.1)
+
+-- ---- how an entry is written
+
+-- a length, written byte by byte
+pub length_laid : (n k : ℕ) (old mid new : List ℕ) → mid ≡ old ++ replicate k 255 → k ≡ n / 255 → new ≡ mid ++ (n % 255) ∷ [] → new ≡ old ++ packed_length n
+unfolding packed_length
+length_laid n k old mid new so_far whole last =
+    last ∙ ap (λ l. l ++ (n % 255) ∷ []) so_far ∙ append_assoc old (replicate k 255) ((n % 255) ∷ [])
+    ∙ ap (λ j. old ++ (replicate j 255 ++ (n % 255) ∷ [])) whole
+
+-- an entry, written piece by piece
+pub entry_laid : (mark : ℕ) (key value b0 b1 b2 b3 b4 b5 : List ℕ) → b0 ≡ [] → b1 ≡ b0 ++ packed_length (length key + 1) → b2 ≡ b1 ++ mark ∷ [] → b3 ≡ b2 ++ key
+    → b4 ≡ b3 ++ packed_length (length value) → b5 ≡ b4 ++ value → b5 ≡ packed ((mark ∷ key, value) ∷ [])
+unfolding packed_text
+entry_laid mark key value b0 b1 b2 b3 b4 b5 e0 e1 e2 e3 e4 e5 =
+    let one_more : length key + 1 ≡ suc (length key) = omega arith in
+    let front : List ℕ = packed_length (suc (length key)) in
+    let value_length : List ℕ = packed_length (length value) in
+    let laid : ((((front ++ mark ∷ []) ++ key) ++ value_length) ++ value) ≡ (front ++ (mark ∷ key)) ++ ((value_length ++ value) ++ []) = simp (append_assoc, append-nil) in
+    e5 ∙ ap (λ l. l ++ value) (e4 ∙ ap (λ l. l ++ value_length) (e3 ∙ ap (λ l. l ++ key) (e2 ∙ ap (λ l. l ++ mark ∷ []) (e1 ∙ (λ i. e0 i ++ packed_length (one_more i))))))
+    ∙ laid
+
+-- ---- the map of packed entries
+
+length-packed_text : (text : List ℕ) → 1 ≤ length (packed_text text)
+unfolding packed_text packed_length
+length-packed_text text = omega (arith, length-append (replicate (length text / 255) 255 ++ (length text % 255) ∷ []) text, length-append (replicate (length text / 255) 255) ((length text % 255) ∷ []))
+
+length-packed : (es : List (List ℕ × List ℕ)) → length es ≤ length (packed es)
+length-packed [] = omega arith
+length-packed (e ∷ es) =
+    omega (arith, length-packed es, length-packed_text e.0, length-append (packed_text e.0) (packed_text e.1 ++ packed es), length-append (packed_text e.1) (packed es))
+
+-- there are no more entries than bytes
+pub count_fits : (count : ℕ) (bytes : List ℕ) → IsPacked count bytes → count ≤ length bytes
+count_fits count bytes is_packed = omega (arith, length-entries_in count bytes, length-packed (entries_in count bytes), ap length is_packed)
+
+-- a value is got at the place of its key
+pub get-place : (q : List ℕ) (es : List (List ℕ × List ℕ)) → T (is_sorted text_cmp es) → value_at q es ≡ get (from_sorted {R = text_cmp} es) q
+get-place q es h = sym (find-place q es h) ∙ sym (get-from_sorted text_cmp es q h)
+
+not_some : (o : Option (List ℕ)) → is_some o ≡ false → o ≡ None
+not_some None e = refl
+not_some (Some v) e = absurd (cc)
+
+-- a key that isn't there is taken away
+pub without_missing : (q : List ℕ) (es : List (List ℕ × List ℕ)) → T (is_sorted text_cmp es) → is_some (value_at q es) ≡ false → es ≡ without q es
+without_missing q es h missing = sym (without_none q es (find-place q es h ∙ not_some _ missing))
+
+-- a key is there if its place has a value
+pub there-place : (q : List ℕ) (es : List (List ℕ × List ℕ)) (m : FinMap {K = List ℕ} text_cmp (List ℕ)) → T (is_sorted text_cmp es) → from_sorted es ≡ m → is_some (value_at q es) ≡ contains_key m q
+there-place q es m h is = ap is_some (get-place q es h) ∙ ap (λ n. contains_key n q) is

@@ -78,15 +78,27 @@ fn place_of<'a>(bytes: &'a [u8], count: usize, mark: u8, key: &[u8]) -> Place<'a
         let (entry_key, behind_key) = split_text(rest);
         let (value, behind) = split_text(behind_key);
         match compare(mark, key, entry_key) {
-            Ordering::Less => return Place { from: rest, behind: rest, value: None },
-            Ordering::Equal => return Place { from: rest, behind, value: Some(value) },
+            Ordering::Less => return Place {
+                from: rest,
+                behind: rest,
+                value: None,
+            },
+            Ordering::Equal => return Place {
+                from: rest,
+                behind,
+                value: Some(value),
+            },
             Ordering::Greater => {
                 rest = behind;
                 left -= 1;
             }
         }
     }
-    Place { from: rest, behind: rest, value: None }
+    Place {
+        from: rest,
+        behind: rest,
+        value: None,
+    }
 }
 
 // Where the bytes of the entries before a key end, where those of the entries behind it begin, and whether it is there.
@@ -147,7 +159,10 @@ fn packed_entry(alloc: Global, mark: u8, key: &[u8], value: &[u8]) -> Mem<Vec<u8
 fn joined(alloc: Global, front: &[u8], middle: &[u8], back: &[u8]) -> Mem<Vec<u8>>
     ensures { IfOk result (λ bytes. bytes.items ≡ front.now ++ (middle.now ++ back.now)) }
 {
-    let count = front.len().saturating_add(middle.len()).saturating_add(back.len());
+    let count = front
+        .len()
+        .saturating_add(middle.len())
+        .saturating_add(back.len());
     let mut bytes = Vec::with_capacity(alloc, count)?;
     bytes.extend_from_slice(front)?;
     bytes.extend_from_slice(middle)?;
