@@ -1,14 +1,14 @@
 -- What is packed is read again, and the place of a key among entries in order.
 use Rattle.std.proofs.Common.{◌≡◌, ℕ, zero, suc, ◌+◌, ◌-◌, ◌*◌, ◌/◌, ◌%◌, ◌<◌, ◌≤◌, Bool, true, false, cond, not, List, [], ◌∷◌, ◌++◌, length, take, drop, Some, None, Option, refl, sym, ap, subst, ◌∙◌, arith, append_assoc, length-append}
-use Rattle.std.specs.Prelude.{◌==◌, ◌≢◌, replicate, T, ◌&&◌, is_some}
+use Rattle.std.specs.Prelude.{◌==◌, ◌≢◌, replicate, T, ◌&&◌, is_some, map}
 use Rattle.std.proofs.Math.Seq.{take-append_seam, drop-append_seam}
 use Rattle.std.proofs.Math.Nat.{div-add-mod, mod-lt}
 use Rattle.std.proofs.lemmas.Bool.Decides.{nat_tests}
-use Rattle.std.proofs.lemmas.List.{append-nil}
+use Rattle.std.proofs.lemmas.List.{append-nil, map-append}
 use Rattle.std.specs.declared.cmp.Ordering.{Ordering}
 use Rattle.std.specs.Ordering.{is_lt, is_eq}
 use Rattle.std.specs.Cmp.Lexicographic.{nat_list_cmp_total}
-use Rattle.std.specs.FinMap.{FinMap, put, is_sorted, find, get, contains_key, from_sorted, get-from_sorted}
+use Rattle.std.specs.FinMap.{FinMap, put, is_sorted, find, get, contains_key, entries, len, from_sorted, get-from_sorted, entries-from_sorted, len-entries}
 use Rattle.std.specs.FinMap.Entries.{by_order, below_all}
 use Rattle.std.specs.declared.cmp.Ordering.TheVariants.{Less, Equal, Greater}
 use Rattle.dc_text.specs.Maps.{text_cmp}
@@ -383,3 +383,15 @@ without_missing q es h missing = sym (without_none q es (find-place q es h ∙ n
 -- a key is there if its place has a value
 pub there-place : (q : List ℕ) (es : List (List ℕ × List ℕ)) (m : FinMap {K = List ℕ} text_cmp (List ℕ)) → T (is_sorted text_cmp es) → from_sorted es ≡ m → is_some (value_at q es) ≡ contains_key m q
 there-place q es m h is = ap is_some (get-place q es h) ∙ ap (λ n. contains_key n q) is
+
+-- ---- entries listed one by one
+
+pub listed : {A E : Type 0} (f : A → E) (xs ys : List A) (x : A) (rest all : List E) (e : E) → ys ≡ xs ++ x ∷ [] → f x ≡ e → map f xs ++ e ∷ rest ≡ all → map f ys ++ rest ≡ all
+listed f xs ys x rest all e is same so_far =
+    ap (λ l. map f l ++ rest) is ∙ ap (λ l. l ++ rest) (map-append f xs (x ∷ [])) ∙ append_assoc (map f xs) (f x ∷ []) rest
+    ∙ ap (λ y. map f xs ++ y ∷ rest) same ∙ so_far
+
+-- how many entries the map has
+pub len-packed : (count : ℕ) (bytes : List ℕ) (m : FinMap {K = List ℕ} text_cmp (List ℕ)) → T (is_sorted text_cmp (entries_in count bytes)) → from_sorted (entries_in count bytes) ≡ m → count ≡ len m
+len-packed count bytes m h is =
+    sym (length-entries_in count bytes) ∙ ap length (sym (entries-from_sorted text_cmp (entries_in count bytes) h) ∙ ap entries is) ∙ sym (len-entries m)

@@ -207,6 +207,24 @@ fn count_with(count: usize, is_there: bool) -> usize
     if is_there { count } else { count + 1 }
 }
 
+// So many packed entries as a list.
+fn entries_of<'a>(alloc: Global, bytes: &'a [u8], count: usize) -> Mem<Vec<(&'a [u8], &'a [u8])>>
+    requires { IsPacked count bytes.now }
+    ensures { IfOk result (λ es. each (λ e. (e.0.now, e.1.now)) es.items ≡ entries_in count bytes.now) }
+{
+    let mut entries = Vec::with_capacity(alloc, count)?;
+    let mut left = count;
+    let mut rest = bytes;
+    while 0 < left {
+        let (key, behind_key) = split_text(rest);
+        let (value, behind) = split_text(behind_key);
+        entries.push((key, value))?;
+        rest = behind;
+        left -= 1;
+    }
+    Ok(entries)
+}
+
 /// Entries of a map from texts, in byte order of the keys, packed into one piece of memory. To find a key is to go over those
 /// before it.
 #[derive(Drop)]
@@ -286,6 +304,26 @@ impl Packed {
             cut_out(&mut self.bytes, span.start, span.end);
             self.count -= 1;
         }
+    }
+
+    /// The entries, in byte order of their keys.
+    pub(crate) fn entries(&self) -> Mem<Vec<(&[u8], &[u8])>>
+        ensures { IfOk result (λ es. each (λ e. (e.0.now, e.1.now)) es.items ≡ map.entries self.now) }
+    {
+        let entries = entries_of(*self.bytes.allocator(), &self.bytes, self.count)?;
+        Ok(entries)
+    }
+
+    /// How many entries there are.
+    pub(crate) fn len(&self) -> usize
+        ensures { result ≡ map.len self.now }
+    {
+        self.count
+    }
+
+    /// The allocator of the bytes.
+    pub(crate) fn allocator(&self) -> Global {
+        *self.bytes.allocator()
     }
 
     /// An equal map.
