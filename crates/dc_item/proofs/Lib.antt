@@ -8,6 +8,7 @@ pub mod ItemLemmas
 pub mod NamesReadLemmas
 pub mod OpenRecord
 pub mod OwnerPlaces
+pub mod PackedLemmas
 pub mod PieceLemmas
 pub mod PrintedBytes
 pub mod PrintedLines

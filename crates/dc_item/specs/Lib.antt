@@ -2,6 +2,7 @@ pub mod After
 pub mod Grammar
 pub mod Item
 pub mod Owners
+pub mod Packed
 pub mod Printed
 pub mod Reader
 pub mod Records

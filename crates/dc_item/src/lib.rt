@@ -8,6 +8,7 @@ pub mod laws;
 mod names_read;
 pub mod op;
 mod owners;
+mod packed;
 mod printing;
 mod reader;
 mod reading;
