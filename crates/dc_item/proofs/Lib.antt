@@ -3,6 +3,7 @@ pub mod EffectLemmas
 pub mod FirstBad
 pub mod Groups
 pub mod ItemLemmas
+pub mod ManyLemmas
 pub mod NamesReadLemmas
 pub mod OpenRecord
 pub mod OwnerPlaces
