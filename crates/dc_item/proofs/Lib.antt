@@ -5,6 +5,7 @@ pub mod FlagSets
 pub mod FurtherLines
 pub mod Groups
 pub mod ItemLemmas
+pub mod ManyLemmas
 pub mod NamesReadLemmas
 pub mod OpenRecord
 pub mod OwnerPlaces

@@ -3,6 +3,7 @@ pub mod Grammar
 pub mod Item
 pub mod Owners
 pub mod Packed
+pub mod PartMap
 pub mod Printed
 pub mod Reader
 pub mod Records
