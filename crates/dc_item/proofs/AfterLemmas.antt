@@ -48,7 +48,7 @@ texts_entry_decides a b =
     both_decide (bytes_eq a.0 b.0) (bytes_eq a.1 b.1) (bytes_eq-Decides a.0 b.0) (bytes_eq-Decides a.1 b.1) (λ p q i. (p i, q i))
     (λ r. (ap (λ (e : List ℕ × List ℕ). e.0) r, ap (λ (e : List ℕ × List ℕ). e.1) r))
 
-map_eq-Decides : (m n : Texts (List ℕ)) → Decides (map_eq bytes_eq m n) (m ≡ n)
+pub map_eq-Decides : (m n : Texts (List ℕ)) → Decides (map_eq bytes_eq m n) (m ≡ n)
 map_eq-Decides m n =
     let lists = slice_eq-Decides texts_entry_decides (entries m) (entries n) (map_eq bytes_eq m n) refl in
     (λ h. same_entries_map m n (lists.0 h), λ r. lists.1 (ap entries r))

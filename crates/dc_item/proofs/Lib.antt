@@ -1,7 +1,6 @@
 pub mod AfterLemmas
 pub mod EffectLemmas
 pub mod FirstBad
-pub mod FlagSets
 pub mod FurtherLines
 pub mod Groups
 pub mod ItemLemmas
@@ -10,11 +9,15 @@ pub mod NamesReadLemmas
 pub mod OpenRecord
 pub mod OwnerPlaces
 pub mod PackedLemmas
+pub mod PartLemmas
 pub mod PieceLemmas
 pub mod PrintedBytes
 pub mod PrintedLines
 pub mod PrintedText
 pub mod ReadTables
 pub mod ReaderLemmas
+pub mod RecordPrinted
+pub mod SectionLemmas
+pub mod StepLemmas
 pub mod TextTableLemmas
 pub mod VariableLines

@@ -7,5 +7,6 @@ pub mod PartMap
 pub mod Printed
 pub mod Reader
 pub mod Records
+pub mod Sections
 pub mod Table
 pub mod TableLends

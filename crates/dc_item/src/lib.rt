@@ -6,6 +6,7 @@ pub mod entry;
 pub mod item;
 pub mod laws;
 mod many;
+mod marks;
 mod names_read;
 pub mod op;
 mod owners;

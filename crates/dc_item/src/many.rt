@@ -146,7 +146,11 @@ impl Many {
         ensures err { OnErr result (self.new ≡ self.old) }
     {
         let alloc = *self.pairs.allocator();
-        let pair = Pair::new(alloc, marked(alloc, mark, key)?, Text::from_bytes(alloc, value)?)?;
+        let pair = Pair::new(
+            alloc,
+            marked(alloc, mark, key)?,
+            Text::from_bytes(alloc, value)?,
+        )?;
         match search(&self.pairs, mark, key) {
             Ok(place) => self.pairs[place] = pair,
             Err(place) => self.pairs.insert(place, pair)?,
