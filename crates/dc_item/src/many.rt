@@ -146,7 +146,11 @@ impl Many {
         ensures err { OnErr result (self.new ≡ self.old) }
     {
         let alloc = *self.pairs.allocator();
-        let pair = Pair::new(alloc, marked(alloc, mark, key)?, Text::from_bytes(alloc, value)?)?;
+        let pair = Pair::new(
+            alloc,
+            marked(alloc, mark, key)?,
+            Text::from_bytes(alloc, value)?,
+        )?;
         match search(&self.pairs, mark, key) {
             Ok(place) => self.pairs[place] = pair,
             Err(place) => self.pairs.insert(place, pair)?,
@@ -161,6 +165,13 @@ impl Many {
         if let Ok(place) = search(&self.pairs, mark, key) {
             let _ = self.pairs.remove(place);
         }
+    }
+
+    /// Gives back the memory that no entry takes.
+    pub(crate) fn shrink(&mut self)
+        ensures { self.new ≡ self.old }
+    {
+        self.pairs.shrink_to_fit();
     }
 
     /// The entries, in byte order of their keys.
