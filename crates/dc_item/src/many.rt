@@ -167,6 +167,13 @@ impl Many {
         }
     }
 
+    /// Gives back the memory that no entry takes.
+    pub(crate) fn shrink(&mut self)
+        ensures { self.new ≡ self.old }
+    {
+        self.pairs.shrink_to_fit();
+    }
+
     /// The entries, in byte order of their keys.
     pub(crate) fn entries(&self) -> Mem<Vec<(&[u8], &[u8])>>
         ensures { IfOk result (λ es. each (λ e. (e.0.now, e.1.now)) es.items ≡ map.entries self.now) }

@@ -111,6 +111,12 @@ impl PartMap {
         ensures put { IfOk result (λ is_new. self.new ≡ (if is_new then map.insert self.old (mark ∷ key.now) value.now else self.old)) }
         ensures err { OnErr result (self.new ≡ self.old) }
     {
+        if let Kept::Few(few) = &mut self.kept {
+            if few.len() < FEW {
+                let is_new = few.insert_new(mark, key, value)?;
+                return Ok(is_new);
+            }
+        }
         if self.contains(mark, key) {
             return Ok(false);
         }
@@ -125,6 +131,16 @@ impl PartMap {
         match &mut self.kept {
             Kept::Few(few) => few.remove(mark, key),
             Kept::Many(many) => many.remove(mark, key),
+        }
+    }
+
+    /// Gives back the memory that no entry takes.
+    pub fn shrink(&mut self)
+        ensures { self.new ≡ self.old }
+    {
+        match &mut self.kept {
+            Kept::Few(few) => few.shrink(),
+            Kept::Many(many) => many.shrink(),
         }
     }
 

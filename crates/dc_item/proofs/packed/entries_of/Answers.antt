@@ -1,4 +1,4 @@
-use Rattle.std.proofs.Common.{◌≡◌, ◌∷◌, ◌-◌, ◌++◌, List, ℕ, Bor, map, ap, ◌∙◌, sym, subst}
+use Rattle.std.proofs.Common.{◌-◌, ◌++◌, List, ℕ, Bor, map, ap, ◌∙◌, sym, subst}
 use Rattle.dc_item.specs.Packed.{HasText, IsPacked, text_at, behind_text, entries_in}
 use Rattle.dc_item.proofs.PackedLemmas.{has_key, has_value, later_packed, opened, listed}
 use Rattle.dc_item.proofs.packed.entries_of.Goals as goal

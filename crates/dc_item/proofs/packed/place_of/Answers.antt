@@ -1,7 +1,5 @@
 use Rattle.std.proofs.Common.{◌-◌, ◌∷◌, ap, ◌∙◌, sym, subst}
-use Rattle.std.specs.declared.cmp.Ordering.TheVariants.{Equal, Greater}
-use Rattle.dc_text.specs.Maps.{text_cmp}
-use Rattle.dc_item.specs.Packed.{HasText, IsPacked, behind_text, packed, behind, entries_in}
+use Rattle.dc_item.specs.Packed.{HasText, IsPacked, behind_text, packed}
 use Rattle.dc_item.proofs.PackedLemmas.{has_key, has_value, later_packed, passed, met}
 use Rattle.dc_item.proofs.packed.place_of.Goals as goal
 

@@ -1,4 +1,4 @@
-use Rattle.std.proofs.Common.{◌≡◌, ◌∷◌, ◌-◌, ◌≤◌, List, ℕ, length, take, drop, ap, ◌∙◌, arith}
+use Rattle.std.proofs.Common.{◌∷◌, ◌-◌, List, ℕ, length, take, drop, ap, ◌∙◌, arith}
 use Rattle.dc_item.specs.Packed.{packed, entries_in, before, from, behind}
 use Rattle.dc_item.proofs.PackedLemmas.{parts, at_from, at_behind}
 use Rattle.dc_item.proofs.packed.span_of.Goals as goal

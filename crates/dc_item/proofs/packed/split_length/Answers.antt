@@ -1,5 +1,4 @@
-use Rattle.std.proofs.Common.{◌≡◌, ◌+◌, ◌≤◌, length, sym, ap, ◌∙◌, arith}
-use Rattle.dc_item.specs.Packed.{length_at, behind_length}
+use Rattle.std.proofs.Common.{sym, ◌∙◌, arith}
 use Rattle.dc_item.proofs.PackedLemmas.{bounded, length_ends, length_goes_on, no_length}
 use Rattle.dc_item.proofs.packed.split_length.Goals as goal
 

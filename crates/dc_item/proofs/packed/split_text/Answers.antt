@@ -1,5 +1,5 @@
-use Rattle.std.proofs.Common.{◌≡◌, take, drop, refl, ◌∙◌, subst, ◌≤◌, length, ℕ, List, sym}
-use Rattle.dc_item.specs.Packed.{length_at, behind_length, text_at, behind_text, HasText}
+use Rattle.std.proofs.Common.{take, drop, ◌∙◌}
+use Rattle.dc_item.specs.Packed.{text_at, behind_text, HasText}
 use Rattle.dc_item.proofs.packed.split_text.Goals as goal
 
 pub split_at-requires : goal.split_at-requires
