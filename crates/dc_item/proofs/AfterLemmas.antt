@@ -18,20 +18,6 @@ use Rattle.dc_item.specs.declared.op.Op.{Op}
 use Rattle.dc_item.specs.declared.op.Op.TheVariants.{Put, SetField, DropField, SetFlag, SetVar, AddOwner, DropOwners}
 use Rattle.dc_item.specs.declared.op.After.TheVariants.{Same, Changed, Gone}
 
-and-true : (a : Bool) → (a && true) ≡ a
-and-true true = refl
-and-true false = refl
-
-firsts_eq : (es fs : List (List ℕ × Unit {0})) → pointwise (entry_eq (λ _ _. true)) es fs ≡ pointwise bytes_eq (each (λ e. e.0) es) (each (λ e. e.0) fs)
-firsts_eq [] [] = refl
-firsts_eq [] (f ∷ fs) = refl
-firsts_eq (e ∷ es) [] = refl
-firsts_eq (e ∷ es) (f ∷ fs) = λ i. and-true (bytes_eq e.0 f.0) i && firsts_eq es fs i
-
--- sets are the same where their members are
-pub set_eq-map_eq : (s t : TextSet) → map_eq (λ _ _. true) s t ≡ set_eq s t
-set_eq-map_eq s t = firsts_eq (entries s) (entries t)
-
 -- ---- the tests decide equality
 
 both_decide : {P Q R : Type 0} (a b : Bool) → Decides a P → Decides b Q → (P → Q → R) → (R → P × Q) → Decides (a && b) R

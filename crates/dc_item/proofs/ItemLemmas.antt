@@ -1,5 +1,5 @@
 -- What an item keeps, when something is put into it, and owners in order.
-use Rattle.std.proofs.Common.{◌≡◌, ℕ, ◌+◌, ◌<◌, ◌≤◌, arith, length, take, get_or, Bool, true, false, cond, List, [], ◌∷◌, ◌++◌, Some, None, Option, map as each, refl, sym, ap, ◌∙◌, subst}
+use Rattle.std.proofs.Common.{◌≡◌, ℕ, ◌+◌, ◌<◌, ◌≤◌, arith, length, take, get_or, Bool, true, false, cond, List, [], ◌∷◌, ◌++◌, Some, None, Option, map as each, refl, sym, ap, ◌∙◌}
 use Rattle.std.specs.Prelude.{is_some, not, ◌&&◌, ◌||◌}
 use Rattle.std.specs.List.{filter, list_all, list_any}
 use Rattle.std.proofs.lemmas.List.{take_more}
@@ -7,6 +7,7 @@ use Rattle.std.specs.declared.cmp.Ordering.{Ordering}
 use Rattle.std.specs.declared.cmp.Ordering.TheVariants.{Less, Equal, Greater}
 use Rattle.std.specs.Ordering.{eq_by_cmp, is_eq}
 use Rattle.std.specs.Cmp.Lexicographic.{nat_list_cmp_total}
+use Rattle.std.proofs.lemmas.Cmp.{tied_itself}
 use Rattle.std.specs.FinMap.{get, insert, contains_key, empty, entries, keys, put, remove, retain_keys, from_entries, entries_sorted, same_map, contains_key-keys, get-empty, get-entries, get-from_entries, get-insert, get-remove, get-retain_keys, entries-insert}
 use Rattle.std.specs.FinMap.Entries.{by_order, where_key, find-where_key, is_sorted-where_key}
 use Rattle.dc_text.specs.Maps.{Texts, TextSet, set_of, text_cmp}
@@ -14,7 +15,7 @@ use Rattle.dc_text.specs.Names.{is_name, is_field_key, is_flag_name, is_variable
 use Rattle.dc_text.specs.Settled.{is_settled}
 use Rattle.dc_text.proofs.MapLemmas.{exact_texts, get-set_of, set_of-push, entries-in_order, from_entries-entries}
 use Rattle.dc_item.specs.After.{without, left_of}
-use Rattle.dc_item.specs.Item.{ItemParts, IsItem, no_parts, selves}
+use Rattle.dc_item.specs.Item.{IsItem, no_parts, selves}
 
 is_equal : (o : Ordering) → is_eq o ≡ true → o ≡ Equal
 is_equal Less e = absurd (cc)
@@ -76,6 +77,17 @@ listed p (t ∷ ts) q all e =
 
 pub KeepsAll-set_of : (p : List ℕ → Bool) (ts : List (List ℕ)) → list_all p ts ≡ true → KeepsAll p (set_of ts)
 KeepsAll-set_of p ts all q e = listed p ts q all (sym (contains_key-set_of ts q) ∙ e)
+
+every : (p : List ℕ → Bool) (ks : List (List ℕ)) → ((q : List ℕ) → list_any (eq_by_cmp text_cmp q) ks ≡ true → p q ≡ true) → list_all p ks ≡ true
+every p [] h = refl
+every p (k ∷ ks) h = (λ i. h k (ap (λ o. is_eq o || list_any (eq_by_cmp text_cmp k) ks) (tied_itself nat_list_cmp_total k)) i && every p ks (λ q e. h q (either (eq_by_cmp text_cmp q k) _ e)) i) where
+  either : (a b : Bool) → b ≡ true → (a || b) ≡ true
+  either true b e = refl
+  either false b e = e
+
+-- each of the keys passes
+pub all_keys : (p : List ℕ → Bool) (s : TextSet) → KeepsAll p s → list_all p (keys s) ≡ true
+all_keys p s keeps = every p (keys s) (λ q e. keeps q (contains_key-keys s q ∙ e))
 
 pub list_all-push : (p : List ℕ → Bool) (ts : List (List ℕ)) (t : List ℕ) → list_all p ts ≡ true → p t ≡ true → list_all p (ts ++ t ∷ []) ≡ true
 list_all-push p [] t all e = rw e refl

@@ -8,7 +8,7 @@ use Rattle.std.specs.Cmp.Lexicographic.{nat_list_cmp_total}
 use Rattle.std.proofs.lemmas.Bool.Decides.{nat_tests, same_from_decides}
 use Rattle.std.specs.FinMap.{get, insert, remove, contains_key, empty, same_map, get-empty, get-insert, get-remove}
 use Rattle.dc_text.specs.Bytes.{is_nil}
-use Rattle.dc_text.specs.Maps.{Texts, TextSet, text_cmp}
+use Rattle.dc_text.specs.Maps.{Texts, text_cmp}
 use Rattle.dc_text.specs.Names.{is_name, is_field_key, is_flag_name, is_variable_key}
 use Rattle.dc_text.specs.Settled.{is_settled}
 use Rattle.dc_text.proofs.MapLemmas.{exact_texts}

@@ -1,18 +1,17 @@
 -- Sections of marked texts: what is put or taken away under a mark is put into its section or taken out of it, and the
 -- others stay.
 use Rattle.std.proofs.Common.{◌≡◌, ℕ, Bool, true, false, cond, List, [], ◌∷◌, Some, None, Option, arith, map as each, refl, sym, ap, ◌∙◌, subst}
-use Rattle.std.specs.Prelude.{T, is_some, not, ◌==◌, ◌&&◌, ◌||◌}
-use Rattle.std.specs.List.{filter, list_any}
+use Rattle.std.specs.Prelude.{T, is_some, ◌==◌, ◌&&◌}
+use Rattle.std.specs.List.{filter}
 use Rattle.std.specs.declared.cmp.Ordering.{Ordering}
 use Rattle.std.specs.declared.cmp.Ordering.TheVariants.{Less, Equal, Greater}
 use Rattle.std.specs.Ordering.{eq_by_cmp, is_eq, is_lt, ordering_then, nat_cmp}
 use Rattle.std.specs.Cmp.{unsigned_tied}
 use Rattle.std.specs.Cmp.Lexicographic.{nat_list_cmp_total}
 use Rattle.std.proofs.lemmas.Bool.Decides.{nat_tests}
-use Rattle.std.proofs.lemmas.Cmp.{tied_itself}
 use Rattle.std.specs.FinMap.{get, insert, contains_key, empty, entries, keys, remove, find, is_sorted, from_entries, entries_sorted, same_map, contains_key-keys, get-empty, get-entries, get-from_entries, get-insert, get-remove}
-use Rattle.std.specs.FinMap.Entries.{below_all, where_key, is_sorted-where_key}
-use Rattle.dc_text.specs.Maps.{Texts, TextSet, set_of, text_cmp}
+use Rattle.std.specs.FinMap.Entries.{below_all, is_sorted-where_key}
+use Rattle.dc_text.specs.Maps.{Texts, set_of, text_cmp}
 use Rattle.dc_text.proofs.MapLemmas.{exact_texts, get-set_of, entries-in_order}
 use Rattle.dc_item.specs.Sections.{has_mark, unmarked, under, keys_under, section, members}
 

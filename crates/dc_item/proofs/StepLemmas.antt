@@ -1,10 +1,9 @@
 -- A record that is open has no owners before the line of its owners, and no flag before that of its flags.
-use Rattle.std.proofs.Common.{◌≡◌, ℕ, Bool, true, false, cond, List, [], ◌∷◌, ◌++◌, Some, None, Option, refl, sym, ap, subst, ◌∙◌}
+use Rattle.std.proofs.Common.{◌≡◌, ℕ, Bool, true, false, cond, [], ◌∷◌, ◌++◌, Some, None, Option, refl, sym, subst}
 use Rattle.std.specs.Prelude.{MatchOption, ◌||◌, is_some}
 use Rattle.std.specs.Option.{option_map_or}
-use Rattle.std.specs.FinMap.{contains_key, insert}
-use Rattle.dc_text.specs.Maps.{set_of}
-use Rattle.dc_item.specs.Reader.{added, begun, closed, entry_of, step, at_start, IsOpen, IsReading}
+use Rattle.std.specs.FinMap.{contains_key}
+use Rattle.dc_item.specs.Reader.{added, entry_of, step, IsOpen, IsReading}
 use Rattle.dc_item.specs.declared.record_line.RecordLine.{RecordLine}
 use Rattle.dc_item.specs.declared.record_line.RecordLine.TheVariants.{Blank, Name, Owners, Flags, Variables, Variable, Field, Nothing}
 use Rattle.dc_item.specs.declared.reader.Open.{Open}

@@ -122,6 +122,13 @@ impl Item {
         Ok(item)
     }
 
+    // Gives back the memory that nothing takes.
+    pub(crate) fn shrink(&mut self)
+        ensures { self.new ≡ self.old }
+    {
+        self.parts.shrink();
+    }
+
     // Puts the field, in the place of one with its key.
     pub(crate) fn put_field(&mut self, key: &FieldKey, value: &Settled) -> Mem<()>
         ensures ok { OnOk result (self.new ≡ record self.old { fields = map.insert self.old.fields key.now value.now }) }

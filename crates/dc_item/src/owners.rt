@@ -1,4 +1,4 @@
-// Owners, which are kept in byte order.
+// Owners, and names in byte order.
 ghost use Rattle.std.specs.Prelude.{◌≡◌, IfOk, MatchResult, true, map as each};
 ghost use Rattle.std.specs.List.{list_all};
 ghost use Rattle.std.specs.FinMap as map;
@@ -64,6 +64,7 @@ fn named(alloc: Global, names: &List<Name>) -> Mem<TextMap<()>>
 
 /// The owners among the entries of an item.
 pub fn owners_among(alloc: Global, entries: &[(&[u8], &[u8])]) -> Mem<List<Name>>
+    requires { list_all is_name (keys_under owners_mark (each (λ e. (e.0.now, e.1.now)) entries.now)) ≡ true }
     ensures { IfOk result (λ owners. owners ≡ keys_under owners_mark (each (λ e. (e.0.now, e.1.now)) entries.now)) }
 {
     let mut owners = List::new(alloc);
@@ -75,8 +76,9 @@ pub fn owners_among(alloc: Global, entries: &[(&[u8], &[u8])]) -> Mem<List<Name>
     Ok(owners)
 }
 
-// The name that the bytes of an owner are. They are one, so that what fails is memory.
+// The name that the bytes are. They are one, so that nothing but memory fails.
 fn name_of(alloc: Global, bytes: &[u8]) -> Mem<Name>
+    requires { is_name bytes.now ≡ true }
     ensures { IfOk result (λ name. name ≡ bytes.now) }
 {
     match Name::read(alloc, bytes) {

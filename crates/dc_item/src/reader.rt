@@ -255,13 +255,14 @@ impl Reader {
         if let Some(open) = self.current.take() {
             let Open {
                 name,
-                item,
+                mut item,
                 line,
                 has_owners: _,
                 has_flags: _,
                 has_variables: _,
                 in_variables: _,
             } = open;
+            item.shrink();
             self.done.push(Entry { name, item, line })?;
         }
         Ok(())

@@ -1,5 +1,4 @@
 use Rattle.std.proofs.Common.{rules, arith, cond, Some, None, ap, ◌∙◌}
-use Rattle.dc_item.specs.Grammar.{line_said}
 use Rattle.dc_item.proofs.StepLemmas.{reading_after}
 use Rattle.dc_item.proofs.records.read_lines.Goals as goal
 

@@ -1,4 +1,4 @@
-use Rattle.std.proofs.Common.{map as each, ap, sym, ◌∙◌}
+use Rattle.std.proofs.Common.{map as each, ap, ◌∙◌}
 use Rattle.std.specs.Str.{bytes_eq}
 use Rattle.std.specs.Cmp.Lexicographic.{pointwise}
 use Rattle.dc_item.specs.After.{entry_eq, parts_eq}

@@ -1,6 +1,5 @@
 use Rattle.std.proofs.Common.{◌≡◌, ◌∷◌, [], ap, sym, ◌∙◌}
 use Rattle.std.specs.FinMap as map
-use Rattle.dc_item.specs.Item.{ItemParts}
 use Rattle.dc_item.specs.After as after
 use Rattle.dc_item.specs.Sections.{flags_mark}
 use Rattle.dc_item.proofs.PartLemmas.{put_flag, with_flag, drop_flag, without_flag}

@@ -1,6 +1,5 @@
 use Rattle.std.proofs.Common.{◌≡◌, take}
 use Rattle.dc_text.specs.Maps.{set_of}
-use Rattle.dc_item.specs.Item.{ItemParts}
 use Rattle.dc_item.proofs.item.Item.with_owners.Given as goal
 
 abbrev pub invariant-loop-owner : goal.invariant-loop-owner
