@@ -18,20 +18,6 @@ use Rattle.dc_item.specs.declared.op.Op.{Op}
 use Rattle.dc_item.specs.declared.op.Op.TheVariants.{Put, SetField, DropField, SetFlag, SetVar, AddOwner, DropOwners}
 use Rattle.dc_item.specs.declared.op.After.TheVariants.{Same, Changed, Gone}
 
-and-true : (a : Bool) → (a && true) ≡ a
-and-true true = refl
-and-true false = refl
-
-firsts_eq : (es fs : List (List ℕ × Unit {0})) → pointwise (entry_eq (λ _ _. true)) es fs ≡ pointwise bytes_eq (each (λ e. e.0) es) (each (λ e. e.0) fs)
-firsts_eq [] [] = refl
-firsts_eq [] (f ∷ fs) = refl
-firsts_eq (e ∷ es) [] = refl
-firsts_eq (e ∷ es) (f ∷ fs) = λ i. and-true (bytes_eq e.0 f.0) i && firsts_eq es fs i
-
--- sets are the same where their members are
-pub set_eq-map_eq : (s t : TextSet) → map_eq (λ _ _. true) s t ≡ set_eq s t
-set_eq-map_eq s t = firsts_eq (entries s) (entries t)
-
 -- ---- the tests decide equality
 
 both_decide : {P Q R : Type 0} (a b : Bool) → Decides a P → Decides b Q → (P → Q → R) → (R → P × Q) → Decides (a && b) R
@@ -48,7 +34,7 @@ texts_entry_decides a b =
     both_decide (bytes_eq a.0 b.0) (bytes_eq a.1 b.1) (bytes_eq-Decides a.0 b.0) (bytes_eq-Decides a.1 b.1) (λ p q i. (p i, q i))
     (λ r. (ap (λ (e : List ℕ × List ℕ). e.0) r, ap (λ (e : List ℕ × List ℕ). e.1) r))
 
-map_eq-Decides : (m n : Texts (List ℕ)) → Decides (map_eq bytes_eq m n) (m ≡ n)
+pub map_eq-Decides : (m n : Texts (List ℕ)) → Decides (map_eq bytes_eq m n) (m ≡ n)
 map_eq-Decides m n =
     let lists = slice_eq-Decides texts_entry_decides (entries m) (entries n) (map_eq bytes_eq m n) refl in
     (λ h. same_entries_map m n (lists.0 h), λ r. lists.1 (ap entries r))

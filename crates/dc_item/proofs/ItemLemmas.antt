@@ -1,5 +1,5 @@
 -- What an item keeps, when something is put into it, and owners in order.
-use Rattle.std.proofs.Common.{◌≡◌, ℕ, ◌+◌, ◌<◌, ◌≤◌, arith, length, take, get_or, Bool, true, false, cond, List, [], ◌∷◌, ◌++◌, Some, None, Option, map as each, refl, sym, ap, ◌∙◌, subst}
+use Rattle.std.proofs.Common.{◌≡◌, ℕ, ◌+◌, ◌<◌, ◌≤◌, arith, length, take, get_or, Bool, true, false, cond, List, [], ◌∷◌, ◌++◌, Some, None, Option, map as each, refl, sym, ap, ◌∙◌}
 use Rattle.std.specs.Prelude.{is_some, not, ◌&&◌, ◌||◌}
 use Rattle.std.specs.List.{filter, list_all, list_any}
 use Rattle.std.proofs.lemmas.List.{take_more}
@@ -7,6 +7,7 @@ use Rattle.std.specs.declared.cmp.Ordering.{Ordering}
 use Rattle.std.specs.declared.cmp.Ordering.TheVariants.{Less, Equal, Greater}
 use Rattle.std.specs.Ordering.{eq_by_cmp, is_eq}
 use Rattle.std.specs.Cmp.Lexicographic.{nat_list_cmp_total}
+use Rattle.std.proofs.lemmas.Cmp.{tied_itself}
 use Rattle.std.specs.FinMap.{get, insert, contains_key, empty, entries, keys, put, remove, retain_keys, from_entries, entries_sorted, same_map, contains_key-keys, get-empty, get-entries, get-from_entries, get-insert, get-remove, get-retain_keys, entries-insert}
 use Rattle.std.specs.FinMap.Entries.{by_order, where_key, find-where_key, is_sorted-where_key}
 use Rattle.dc_text.specs.Maps.{Texts, TextSet, set_of, text_cmp}
@@ -14,7 +15,7 @@ use Rattle.dc_text.specs.Names.{is_name, is_field_key, is_flag_name, is_variable
 use Rattle.dc_text.specs.Settled.{is_settled}
 use Rattle.dc_text.proofs.MapLemmas.{exact_texts, get-set_of, set_of-push, entries-in_order, from_entries-entries}
 use Rattle.dc_item.specs.After.{without, left_of}
-use Rattle.dc_item.specs.Item.{ItemParts, IsItem, no_parts, selves}
+use Rattle.dc_item.specs.Item.{IsItem, no_parts, selves}
 
 is_equal : (o : Ordering) → is_eq o ≡ true → o ≡ Equal
 is_equal Less e = absurd (cc)
@@ -77,6 +78,17 @@ listed p (t ∷ ts) q all e =
 pub KeepsAll-set_of : (p : List ℕ → Bool) (ts : List (List ℕ)) → list_all p ts ≡ true → KeepsAll p (set_of ts)
 KeepsAll-set_of p ts all q e = listed p ts q all (sym (contains_key-set_of ts q) ∙ e)
 
+every : (p : List ℕ → Bool) (ks : List (List ℕ)) → ((q : List ℕ) → list_any (eq_by_cmp text_cmp q) ks ≡ true → p q ≡ true) → list_all p ks ≡ true
+every p [] h = refl
+every p (k ∷ ks) h = (λ i. h k (ap (λ o. is_eq o || list_any (eq_by_cmp text_cmp k) ks) (tied_itself nat_list_cmp_total k)) i && every p ks (λ q e. h q (either (eq_by_cmp text_cmp q k) _ e)) i) where
+  either : (a b : Bool) → b ≡ true → (a || b) ≡ true
+  either true b e = refl
+  either false b e = e
+
+-- each of the keys passes
+pub all_keys : (p : List ℕ → Bool) (s : TextSet) → KeepsAll p s → list_all p (keys s) ≡ true
+all_keys p s keeps = every p (keys s) (λ q e. keeps q (contains_key-keys s q ∙ e))
+
 pub list_all-push : (p : List ℕ → Bool) (ts : List (List ℕ)) (t : List ℕ) → list_all p ts ≡ true → p t ≡ true → list_all p (ts ++ t ∷ []) ≡ true
 list_all-push p [] t all e = rw e refl
 list_all-push p (s ∷ ts) t all e = let parts : (p s ≡ true) × (list_all p ts ≡ true) = both _ _ all in rw parts.0 (list_all-push p ts t parts.1 e)
@@ -91,45 +103,6 @@ IsItem-no_parts = record {
   owners = KeepsAll-set_of is_name [] refl;
 }
 
--- an item without anything, and its owners in order
-pub begins : (f v : Texts (List ℕ)) (s : TextSet) (owners : List (List ℕ)) → f ≡ empty → s ≡ empty → v ≡ empty → owners ≡ []
-    → IsItem (record { fields = f; flags = s; variables = v; owners = set_of owners }) × (owners ≡ keys (set_of owners))
-begins f v s owners fe se ve oe = (
-  subst IsItem (λ i. record { fields = sym fe i; flags = sym se i; variables = sym ve i; owners = set_of (sym oe i) }) IsItem-no_parts,
-  oe ∙ sym (ap (λ os. keys (set_of os)) oe ∙ ap (λ es. each (λ (e : List ℕ × Unit {0}). e.0) es) (entries-in_order [] tt)),
-)
-
--- the owners' list says which they are
-abbrev pub Kept : Texts (List ℕ) → TextSet → Texts (List ℕ) → List (List ℕ) → Type 0
-Kept f s v owners = IsItem (record { fields = f; flags = s; variables = v; owners = set_of owners }) × (owners ≡ keys (set_of owners))
-
-pub with_field : (f g v : Texts (List ℕ)) (s : TextSet) (os : List (List ℕ)) (k x : List ℕ) → Kept f s v os → g ≡ insert f k x → is_field_key k ≡ true → is_settled x ≡ true → Kept g s v os
-with_field f g v s os k x kept is key value = (
-  record { fields = subst (Keeps is_field_key is_settled) (sym is) (Keeps-insert is_field_key is_settled f k x kept.0.fields key value); flags = kept.0.flags; variables = kept.0.variables; owners = kept.0.owners },
-  kept.1,
-)
-
-pub with_variable : (f v w : Texts (List ℕ)) (s : TextSet) (os : List (List ℕ)) (k x : List ℕ) → Kept f s v os → w ≡ insert v k x → is_variable_key k ≡ true → is_settled x ≡ true → Kept f s w os
-with_variable f v w s os k x kept is key value = (
-  record { fields = kept.0.fields; flags = kept.0.flags; variables = subst (Keeps is_variable_key is_settled) (sym is) (Keeps-insert is_variable_key is_settled v k x kept.0.variables key value); owners = kept.0.owners },
-  kept.1,
-)
-
--- a field that is put if there is none with its key
-pub with_new_field : (b : Bool) (f g v : Texts (List ℕ)) (s : TextSet) (os : List (List ℕ)) (k x : List ℕ) → Kept f s v os → g ≡ cond b (insert f k x) f → is_field_key k ≡ true → is_settled x ≡ true → Kept g s v os
-with_new_field true f g v s os k x kept is key value = with_field f g v s os k x kept is key value
-with_new_field false f g v s os k x kept is key value = subst (λ m. Kept m s v os) (sym is) kept
-
-pub with_new_variable : (b : Bool) (f v w : Texts (List ℕ)) (s : TextSet) (os : List (List ℕ)) (k x : List ℕ) → Kept f s v os → w ≡ cond b (insert v k x) v → is_variable_key k ≡ true → is_settled x ≡ true → Kept f s w os
-with_new_variable true f v w s os k x kept is key value = with_variable f v w s os k x kept is key value
-with_new_variable false f v w s os k x kept is key value = subst (λ m. Kept f s m os) (sym is) kept
-
-pub with_flags : (f v : Texts (List ℕ)) (s t : TextSet) (os : List (List ℕ)) → Kept f s v os → KeepsAll is_flag_name t → Kept f t v os
-with_flags f v s t os kept keeps = (
-  record { fields = kept.0.fields; flags = keeps; variables = kept.0.variables; owners = kept.0.owners },
-  kept.1,
-)
-
 set_of-firsts : (es : List (List ℕ × Unit {0})) → set_of (each (λ e. e.0) es) ≡ from_entries es
 set_of-firsts [] = refl
 set_of-firsts (e ∷ es) = ap (λ s. insert s e.0 tt) (set_of-firsts es)
@@ -142,52 +115,28 @@ set_of-keys s = set_of-firsts (entries s) ∙ from_entries-entries s
 pub set_of-is_keys : (os : List (List ℕ)) (t : TextSet) → os ≡ keys t → set_of os ≡ t
 set_of-is_keys os t is = ap set_of is ∙ set_of-keys t
 
-pub with_owners : (f v : Texts (List ℕ)) (s t : TextSet) (os ps : List (List ℕ)) → Kept f s v os → ps ≡ keys t → list_all is_name ps ≡ true → Kept f s v ps
-with_owners f v s t os ps kept is all = (
-  record { fields = kept.0.fields; flags = kept.0.flags; variables = kept.0.variables; owners = KeepsAll-set_of is_name ps all },
-  is ∙ ap keys (sym (set_of-is_keys ps t is)),
-)
-
 -- ---- what is taken away
 
-Keeps-remove : (p q : List ℕ → Bool) (m : Texts (List ℕ)) (k : List ℕ) → Keeps p q m → Keeps p q (remove m k)
+pub Keeps-remove : (p q : List ℕ → Bool) (m : Texts (List ℕ)) (k : List ℕ) → Keeps p q m → Keeps p q (remove m k)
 Keeps-remove p q m k keeps key value e =
     elim (eq_by_cmp text_cmp key k) as (λ b. cond b None (get m key) ≡ Some value → (p key ≡ true) × (q value ≡ true)) [
       | true ↦ λ is. absurd (cc)
       | false ↦ λ is. keeps key value is
     ] (sym (get-remove nat_list_cmp_total m k key) ∙ e)
 
-pub without_field : (f g v : Texts (List ℕ)) (s : TextSet) (os : List (List ℕ)) (k : List ℕ) → Kept f s v os → g ≡ remove f k → Kept g s v os
-without_field f g v s os k kept is = (
-  record { fields = subst (Keeps is_field_key is_settled) (sym is) (Keeps-remove is_field_key is_settled f k kept.0.fields); flags = kept.0.flags; variables = kept.0.variables; owners = kept.0.owners },
-  kept.1,
-)
-
-KeepsAll-insert : (p : List ℕ → Bool) (s : TextSet) (k : List ℕ) → KeepsAll p s → p k ≡ true → KeepsAll p (insert s k tt)
+pub KeepsAll-insert : (p : List ℕ → Bool) (s : TextSet) (k : List ℕ) → KeepsAll p s → p k ≡ true → KeepsAll p (insert s k tt)
 KeepsAll-insert p s k keeps pk text e =
     elim (eq_by_cmp text_cmp text k) as (λ b. eq_by_cmp text_cmp text k ≡ b → is_some (cond b here (get s text)) ≡ true → p text ≡ true) [
       | true ↦ λ t is. ap p (same_key text k t) ∙ pk
       | false ↦ λ t is. keeps text is
     ] refl (ap is_some (sym (get-insert nat_list_cmp_total s k tt text)) ∙ e)
 
-KeepsAll-remove : (p : List ℕ → Bool) (s : TextSet) (k : List ℕ) → KeepsAll p s → KeepsAll p (remove s k)
+pub KeepsAll-remove : (p : List ℕ → Bool) (s : TextSet) (k : List ℕ) → KeepsAll p s → KeepsAll p (remove s k)
 KeepsAll-remove p s k keeps text e =
     elim (eq_by_cmp text_cmp text k) as (λ b. is_some (cond b None (get s text)) ≡ true → p text ≡ true) [
       | true ↦ λ is. absurd (cc)
       | false ↦ λ is. keeps text is
     ] (ap is_some (sym (get-remove nat_list_cmp_total s k text)) ∙ e)
-
-pub with_flag_set : (f v : Texts (List ℕ)) (s t : TextSet) (os : List (List ℕ)) (k : List ℕ) → Kept f s v os → t ≡ insert s k tt → is_flag_name k ≡ true → Kept f t v os
-with_flag_set f v s t os k kept is flag = (
-  record { fields = kept.0.fields; flags = subst (KeepsAll is_flag_name) (sym is) (KeepsAll-insert is_flag_name s k kept.0.flags flag); variables = kept.0.variables; owners = kept.0.owners },
-  kept.1,
-)
-
-pub with_flag_unset : (f v : Texts (List ℕ)) (s t : TextSet) (os : List (List ℕ)) (k : List ℕ) → Kept f s v os → t ≡ remove s k → Kept f t v os
-with_flag_unset f v s t os k kept is = (
-  record { fields = kept.0.fields; flags = subst (KeepsAll is_flag_name) (sym is) (KeepsAll-remove is_flag_name s k kept.0.flags); variables = kept.0.variables; owners = kept.0.owners },
-  kept.1,
-)
 
 -- ---- a set of owners with one more, and with one less
 
@@ -211,53 +160,6 @@ remove_missing s k missing = same_map nat_list_cmp_total exact_texts _ _ (λ q. 
       none (Some u) e = absurd (cc)
       none None e = refl
 
-with_set : (f v : Texts (List ℕ)) (s t : TextSet) (os ps : List (List ℕ)) → Kept f s v os → ps ≡ keys t → KeepsAll is_name t → Kept f s v ps
-with_set f v s t os ps kept is keeps = (
-  record { fields = kept.0.fields; flags = kept.0.flags; variables = kept.0.variables; owners = subst (KeepsAll is_name) (sym (set_of-is_keys ps t is)) keeps },
-  is ∙ ap keys (sym (set_of-is_keys ps t is)),
-)
-
-pub with_owner : (f v : Texts (List ℕ)) (s : TextSet) (os ps : List (List ℕ)) (k : List ℕ) → Kept f s v os → ps ≡ keys (insert (set_of os) k tt) → is_name k ≡ true → Kept f s v ps
-with_owner f v s os ps k kept is good = with_set f v s (insert (set_of os) k tt) os ps kept is (KeepsAll-insert is_name (set_of os) k kept.0.owners good)
-
-pub without_owner : (f v : Texts (List ℕ)) (s : TextSet) (os ps : List (List ℕ)) (k : List ℕ) → Kept f s v os → ps ≡ keys (remove (set_of os) k) → Kept f s v ps
-without_owner f v s os ps k kept is = with_set f v s (remove (set_of os) k) os ps kept is (KeepsAll-remove is_name (set_of os) k kept.0.owners)
-
--- ---- an item with one owner more, and with one less, by its list of owners
-
-abbrev parts_of : Texts (List ℕ) → TextSet → Texts (List ℕ) → List (List ℕ) → ItemParts
-parts_of f s v os = record { fields = f; flags = s; variables = v; owners = set_of os }
-
-pub new_field : (b : Bool) (f g v : Texts (List ℕ)) (s : TextSet) (os : List (List ℕ)) (k x : List ℕ) (item : ItemParts) → parts_of f s v os ≡ item → g ≡ cond b (insert f k x) f
-    → parts_of g s v os ≡ cond b (record item { fields = insert item.fields k x }) item
-new_field true f g v s os k x item seen is = ap (λ m. parts_of m s v os) is ∙ ap (λ (p : ItemParts). record p { fields = insert p.fields k x }) seen
-new_field false f g v s os k x item seen is = ap (λ m. parts_of m s v os) is ∙ seen
-
-pub new_variable : (b : Bool) (f v w : Texts (List ℕ)) (s : TextSet) (os : List (List ℕ)) (k x : List ℕ) (item : ItemParts) → parts_of f s v os ≡ item → w ≡ cond b (insert v k x) v
-    → parts_of f s w os ≡ cond b (record item { variables = insert item.variables k x }) item
-new_variable true f v w s os k x item seen is = ap (λ m. parts_of f s m os) is ∙ ap (λ (p : ItemParts). record p { variables = insert p.variables k x }) seen
-new_variable false f v w s os k x item seen is = ap (λ m. parts_of f s m os) is ∙ seen
-
-pub added : (f v : Texts (List ℕ)) (s : TextSet) (os ps : List (List ℕ)) (k : List ℕ) (item : ItemParts) → parts_of f s v os ≡ item → ps ≡ keys (insert (set_of os) k tt)
-    → parts_of f s v ps ≡ record item { owners = insert item.owners k tt }
-added f v s os ps k item seen is =
-    ap (λ set. record (parts_of f s v os) { owners = set }) (set_of-is_keys ps (insert (set_of os) k tt) is) ∙ ap (λ (p : ItemParts). record p { owners = insert p.owners k tt }) seen
-
-pub was_there : (f v : Texts (List ℕ)) (s : TextSet) (os : List (List ℕ)) (k : List ℕ) (item : ItemParts) → parts_of f s v os ≡ item → contains_key (set_of os) k ≡ true
-    → item ≡ record item { owners = insert item.owners k tt }
-was_there f v s os k item seen there =
-    sym seen ∙ ap (λ set. record (parts_of f s v os) { owners = set }) (sym (insert_there (set_of os) k there)) ∙ ap (λ (p : ItemParts). record p { owners = insert p.owners k tt }) seen
-
-pub taken : (f v : Texts (List ℕ)) (s : TextSet) (os ps : List (List ℕ)) (k : List ℕ) (item : ItemParts) → parts_of f s v os ≡ item → ps ≡ keys (remove (set_of os) k)
-    → parts_of f s v ps ≡ record item { owners = remove item.owners k }
-taken f v s os ps k item seen is =
-    ap (λ set. record (parts_of f s v os) { owners = set }) (set_of-is_keys ps (remove (set_of os) k) is) ∙ ap (λ (p : ItemParts). record p { owners = remove p.owners k }) seen
-
-pub was_missing : (f v : Texts (List ℕ)) (s : TextSet) (os : List (List ℕ)) (k : List ℕ) (item : ItemParts) → parts_of f s v os ≡ item → contains_key (set_of os) k ≡ false
-    → item ≡ record item { owners = remove item.owners k }
-was_missing f v s os k item seen missing =
-    sym seen ∙ ap (λ set. record (parts_of f s v os) { owners = set }) (sym (remove_missing (set_of os) k missing)) ∙ ap (λ (p : ItemParts). record p { owners = remove p.owners k }) seen
-
 -- ---- the members that pass
 
 filter-firsts : (p : List ℕ → Bool) (es : List (List ℕ × Unit {0})) → filter p (each (λ e. e.0) es) ≡ each (λ e. e.0) (where_key text_cmp p es)
@@ -278,8 +180,8 @@ keys-retain_keys s p =
     filter-firsts p (entries s) ∙ ap (λ es. each (λ (e : List ℕ × Unit {0}). e.0) es) (sym (entries-in_order left (is_sorted-where_key text_cmp p (entries s) (entries_sorted s)))) ∙ ap keys made
 
 -- the owners that are left are those of the set without the names
-pub left_is : (os ns ps : List (List ℕ)) → os ≡ keys (set_of os) → ps ≡ left_of os ns → ps ≡ keys (without (set_of os) ns)
-left_is os ns ps sorted is = is ∙ ap (λ l. left_of l ns) sorted ∙ keys-retain_keys (set_of os) (λ owner. not (contains_key (set_of ns) owner))
+pub left_of_keys : (owners : TextSet) (names : List (List ℕ)) → left_of (keys owners) names ≡ keys (without owners names)
+left_of_keys owners names = keys-retain_keys owners (λ owner. not (contains_key (set_of names) owner))
 
 filter_push : (p : List ℕ → Bool) (xs : List (List ℕ)) (x : List ℕ) → filter p (xs ++ x ∷ []) ≡ filter p xs ++ cond (p x) (x ∷ []) []
 filter_push p [] x = refl
@@ -306,6 +208,10 @@ set_turn p ts items i x key set new same h is copy good so_far all put =
       put ∙ (λ j. insert (so_far j) (copy j) tt) ∙ sym (set_of-push (take i ts) x) ∙ ap set_of (sym more),
       ap (list_all p) more ∙ list_all-push p (take i ts) x all (ap p (sym copy) ∙ good),
     )
+
+-- one more of the texts, and their set
+pub set_of-taken : (ts : List (List ℕ)) (i : ℕ) (x : List ℕ) → i < length ts → x ≡ get_or ts i x → set_of (take (i + 1) ts) ≡ insert (set_of (take i ts)) x tt
+set_of-taken ts i x h is = ap set_of (take_more ts i x h ∙ ap (λ y. take i ts ++ y ∷ []) (sym is)) ∙ set_of-push (take i ts) x
 
 -- ---- a list of at most one
 

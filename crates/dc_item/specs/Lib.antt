@@ -2,8 +2,11 @@ pub mod After
 pub mod Grammar
 pub mod Item
 pub mod Owners
+pub mod Packed
+pub mod PartMap
 pub mod Printed
 pub mod Reader
 pub mod Records
+pub mod Sections
 pub mod Table
 pub mod TableLends

@@ -1,4 +1,4 @@
--- Places among owners, which stand in byte order.
+-- Places among names in byte order.
 use Rattle.std.specs.Prelude.{◌≡◌, ℕ, ◌<◌, ◌≤◌, List, length, true, false}
 use Rattle.std.specs.List as listed
 use Rattle.std.specs.FinMap as map

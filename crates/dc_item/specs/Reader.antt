@@ -1,6 +1,6 @@
 -- What the reader of records does with one line after another, as functions. The proofs alone speak of it: which lines stand
 -- is said by `Stands` of Records.
-use Rattle.std.specs.Prelude.{◌≡◌, ℕ, ◌||◌, List, [], ◌∷◌, ◌++◌, Option, Some, None, is_some, if◌then◌else◌, Result, Ok, Err, false, true}
+use Rattle.std.specs.Prelude.{◌≡◌, ℕ, ◌||◌, List, [], ◌∷◌, ◌++◌, Option, Some, None, is_some, MatchOption, if◌then◌else◌, Result, Ok, Err, false, true}
 use Rattle.std.specs.Option.{option_map_or}
 use Rattle.std.specs.FinMap as map
 use Rattle.dc_text.specs.Faults.{run}
@@ -34,6 +34,14 @@ added o Variables = if o.has_variables then None else Some (record o { has_varia
 added o (Variable key value) = if o.in_variables then (if map.contains_key o.item.variables key then None
     else Some (record o { item = record o.item { variables = map.insert o.item.variables key value } })) else None
 added o _ = None
+
+-- a record has no owners before the line of its owners, and no flag before that of its flags
+abbrev pub IsOpen : Open → Type 0
+IsOpen o = (o.has_owners ≡ false → o.item.owners ≡ map.empty) × (o.has_flags ≡ false → o.item.flags ≡ map.empty)
+
+-- so it is with the record that is open, if one is
+abbrev pub IsReading : Reader → Type 0
+IsReading r = MatchOption r.current (Unit {0}) IsOpen
 
 abbrev pub closed : Reader → Reader
 closed r = option_map_or (λ o. record r { done = r.done ++ entry_of o ∷ []; current = None }) r.current r

@@ -47,7 +47,7 @@ impl Item {
     pub(crate) fn effect(&self, op: &Op) -> Mem<Effect>
         ensures { IfOk result (λ effect. effect ≡ effect_of (after_of op.now self.now)) }
     {
-        if self.stays(op) {
+        if self.stays(op)? {
             return Ok(Effect::Same);
         }
         if self.loses_all(op)? {
@@ -57,18 +57,19 @@ impl Item {
     }
 
     // Whether the item that the operation asks for is this one.
-    fn stays(&self, op: &Op) -> bool
-        ensures { result ≡ parts_eq (asked op.now self.now) self.now }
+    fn stays(&self, op: &Op) -> Mem<bool>
+        ensures { IfOk result (λ stays. stays ≡ parts_eq (asked op.now self.now) self.now) }
     {
-        match op {
-            Op::Put(item) => item.is_same(self),
+        let stays = match op {
+            Op::Put(item) => item.is_same(self)?,
             Op::SetField(key, value) => is_value(self.field(key.bytes()), value),
             Op::DropField(key) => self.field(key.bytes()).is_none(),
             Op::SetFlag(flag, is_set) => self.flag(flag.bytes()) == *is_set,
             Op::SetVar(key, value) => is_value(self.var(key.bytes()), value),
             Op::AddOwner(name) => self.has_owner(name.bytes()),
             Op::DropOwners(names) => !self.has_any(names.as_slice()),
-        }
+        };
+        Ok(stays)
     }
 
     // Whether the item has one of the owners.
@@ -94,11 +95,11 @@ impl Item {
     }
 }
 
-fn is_value(held: Option<&Settled>, value: &Settled) -> bool
+fn is_value(held: Option<&[u8]>, value: &Settled) -> bool
     ensures { result ≡ option_map_or (λ bytes. bytes_eq bytes value.now) (option_copied held.entry) false }
 {
     match held {
-        Some(held) => held.bytes() == value.bytes(),
+        Some(held) => held == value.bytes(),
         None => false,
     }
 }

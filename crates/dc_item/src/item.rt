@@ -1,42 +1,40 @@
 // Items: the fields, flags, variables and owners of questions and templates.
-ghost use Rattle.std.specs.Prelude.{◌≡◌, ℕ, List as Listed, IfOk, OnOk, OnErr, true, if◌then◌else◌, not};
+ghost use Rattle.std.specs.Prelude.{◌≡◌, IfOk, OnOk, OnErr, if◌then◌else◌, not, map as each};
 ghost use Rattle.std.specs.FinMap as map;
 ghost use Rattle.std.specs.Option.{option_copied};
 ghost use Rattle.dc_text.specs.Bytes.{is_nil};
 ghost use Rattle.dc_text.specs.Maps.{set_of};
-ghost use Rattle.dc_text.specs.Names.{is_flag_name};
-ghost use Rattle.dc_item.specs.After.{with_flag, without};
+ghost use Rattle.dc_item.specs.After.{with_flag, without, parts_eq};
 ghost use Rattle.dc_item.specs.Item.{no_parts, IsItem};
+ghost use Rattle.dc_item.specs.Sections.{under, keys_under, fields_mark, owners_mark, flags_mark, variables_mark};
 
-use crate::owners::{are_all_named, in_order, place_of};
-use dc_text::{FieldKey, FlagName, List, Mem, Name, Settled, SmallMap, VarKey};
+use crate::marks::{FIELDS, FLAGS, OWNERS, VARIABLES};
+use crate::owners::{are_all_named, owners_among};
+use crate::part_map::PartMap;
+use crate::same::are_same;
+use dc_text::{FieldKey, FlagName, List, Mem, Name, Settled, VarKey};
 use std::alloc::Global;
 use std::marker::Model;
 
-/// The value of a question or a template (debconf-devel(7)): fields, the flags that are true, variables and owners.
+/// The value of a question or a template (debconf-devel(7)): fields, the flags that are true, variables and owners. All stand
+/// in one map, each at a key that begins with the mark of its part, and at a flag or an owner an empty text.
 #[derive(Drop)]
 pub struct Item {
     alloc: Global,
-    fields: SmallMap<Settled>,
-    flags: SmallMap<()>,
-    variables: SmallMap<Settled>,
-    owners: List<Name>,
+    parts: PartMap,
 }
 
 impl Model for Item {
-    ghost use Rattle.std.specs.Prelude.{◌≡◌};
-    ghost use Rattle.std.specs.FinMap as map;
-    ghost use Rattle.dc_text.specs.Maps.{set_of};
-    ghost use Rattle.dc_item.specs.Item.{ItemParts, IsItem, parts_code};
+    ghost use Rattle.dc_item.specs.Item.{ItemParts, parts_code};
+    ghost use Rattle.dc_item.specs.Sections.{parts_in, IsParts};
 
     ghost Value = { ItemParts };
 
     ghost coded = { parts_code };
 
-    ghost view = { λ i. record { fields = i.fields; flags = i.flags; variables = i.variables; owners = set_of i.owners } };
+    ghost view = { λ i. parts_in i.parts };
 
-    ghost invariant = { λ i. IsItem (record { fields = i.fields; flags = i.flags; variables = i.variables; owners = set_of i.owners })
-        × (i.owners ≡ map.keys (set_of i.owners)) };
+    ghost invariant = { λ i. IsParts i.parts };
 }
 
 impl Item {
@@ -46,75 +44,71 @@ impl Item {
     {
         Item {
             alloc,
-            fields: SmallMap::new(alloc),
-            flags: SmallMap::new(alloc),
-            variables: SmallMap::new(alloc),
-            owners: List::new(alloc),
+            parts: PartMap::new(alloc),
         }
     }
 
     /// The value of the field, if the item has it. Keys are in lower case.
-    pub fn field(&self, key: &[u8]) -> Option<&Settled>
+    pub fn field(&self, key: &[u8]) -> Option<&[u8]>
         ensures { option_copied result ≡ map.get self.now.fields key.now }
     {
-        self.fields.get(key)
+        self.parts.get(FIELDS, key)
     }
 
     /// Whether the flag is true.
     pub fn flag(&self, flag: &[u8]) -> bool
         ensures { result ≡ map.contains_key self.now.flags flag.now }
     {
-        self.flags.contains(flag)
+        self.parts.contains(FLAGS, flag)
     }
 
     /// The value of the variable, if the item has it.
-    pub fn var(&self, key: &[u8]) -> Option<&Settled>
+    pub fn var(&self, key: &[u8]) -> Option<&[u8]>
         ensures { option_copied result ≡ map.get self.now.variables key.now }
     {
-        self.variables.get(key)
+        self.parts.get(VARIABLES, key)
     }
 
     /// The owners, in byte order.
-    pub fn owners(&self) -> &List<Name>
-        ensures owners { result.now ≡ map.keys self.now.owners }
+    pub fn owners(&self) -> Mem<List<Name>>
+        ensures owners { IfOk result (λ owners. owners ≡ map.keys self.now.owners) }
         ensures item { IsItem self.now }
     {
-        &self.owners
+        let entries = self.parts.entries()?;
+        let owners = owners_among(self.alloc, &entries)?;
+        Ok(owners)
     }
 
-    pub(crate) fn fields(&self) -> &SmallMap<Settled>
-        ensures { result.now ≡ self.now.fields }
+    // All that stands in the item, at keys with their marks, in byte order.
+    pub(crate) fn entries(&self) -> Mem<Vec<(&[u8], &[u8])>>
+        ensures fields { IfOk result (λ es. under fields_mark (each (λ e. (e.0.now, e.1.now)) es.items) ≡ map.entries self.now.fields) }
+        ensures owners { IfOk result (λ es. keys_under owners_mark (each (λ e. (e.0.now, e.1.now)) es.items) ≡ map.keys self.now.owners) }
+        ensures flags { IfOk result (λ es. keys_under flags_mark (each (λ e. (e.0.now, e.1.now)) es.items) ≡ map.keys self.now.flags) }
+        ensures variables { IfOk result (λ es. under variables_mark (each (λ e. (e.0.now, e.1.now)) es.items) ≡ map.entries self.now.variables) }
+        ensures item { IsItem self.now }
     {
-        &self.fields
+        let entries = self.parts.entries()?;
+        Ok(entries)
     }
 
-    pub(crate) fn flags(&self) -> &SmallMap<()>
-        ensures { result.now ≡ self.now.flags }
+    // Whether all four parts are equal.
+    pub(crate) fn is_same(&self, other: &Item) -> Mem<bool>
+        ensures { IfOk result (λ is. is ≡ parts_eq self.now other.now) }
     {
-        &self.flags
-    }
-
-    /// The variables, which texts of the template may refer to.
-    pub fn variables(&self) -> &SmallMap<Settled>
-        ensures { result.now ≡ self.now.variables }
-    {
-        &self.variables
+        let entries = self.parts.entries()?;
+        let others = other.parts.entries()?;
+        let is = are_same(&entries, &others);
+        Ok(is)
     }
 
     /// An item that is equal to this one.
     pub fn copy(&self) -> Mem<Self>
         ensures { IfOk result (λ copy. copy ≡ self.now) }
     {
-        let fields = self.fields.copy()?;
-        let flags = self.flags.copy()?;
-        let variables = self.variables.copy()?;
-        let owners = self.owners.copy()?;
+        let parts = self.parts.copy()?;
         Ok(Item {
             alloc: self.alloc,
-            fields,
-            flags,
-            variables,
-            owners,
+            parts,
         })
     }
 
@@ -128,45 +122,50 @@ impl Item {
         Ok(item)
     }
 
+    // Gives back the memory that nothing takes.
+    pub(crate) fn shrink(&mut self)
+        ensures { self.new ≡ self.old }
+    {
+        self.parts.shrink();
+    }
+
     // Puts the field, in the place of one with its key.
-    pub(crate) fn put_field(&mut self, key: FieldKey, value: Settled) -> Mem<()>
-        ensures ok { OnOk result (self.new ≡ record self.old { fields = map.insert self.old.fields key value }) }
+    pub(crate) fn put_field(&mut self, key: &FieldKey, value: &Settled) -> Mem<()>
+        ensures ok { OnOk result (self.new ≡ record self.old { fields = map.insert self.old.fields key.now value.now }) }
         ensures err { OnErr result (self.new ≡ self.old) }
     {
-        let _settled = value.bytes();
-        self.fields.insert(key.into_text(), value)?;
+        self.parts.insert(FIELDS, key.bytes(), value.bytes())?;
         Ok(())
     }
 
     // Puts the variable, in the place of one with its key.
-    pub(crate) fn put_variable(&mut self, key: VarKey, value: Settled) -> Mem<()>
-        ensures ok { OnOk result (self.new ≡ record self.old { variables = map.insert self.old.variables key value }) }
+    pub(crate) fn put_variable(&mut self, key: &VarKey, value: &Settled) -> Mem<()>
+        ensures ok { OnOk result (self.new ≡ record self.old { variables = map.insert self.old.variables key.now value.now }) }
         ensures err { OnErr result (self.new ≡ self.old) }
     {
-        let _settled = value.bytes();
-        self.variables.insert(key.into_text(), value)?;
+        self.parts.insert(VARIABLES, key.bytes(), value.bytes())?;
         Ok(())
     }
 
     // Puts the field if the item has none with its key, and answers whether it had none.
-    pub(crate) fn put_new_field(&mut self, key: FieldKey, value: Settled) -> Mem<bool>
-        ensures new { IfOk result (λ is_new. is_new ≡ not (map.contains_key self.old.fields key)) }
-        ensures put { IfOk result (λ is_new. self.new ≡ (if is_new then record self.old { fields = map.insert self.old.fields key value } else self.old)) }
+    pub(crate) fn put_new_field(&mut self, key: &FieldKey, value: &Settled) -> Mem<bool>
+        ensures new { IfOk result (λ is_new. is_new ≡ not (map.contains_key self.old.fields key.now)) }
+        ensures put { IfOk result (λ is_new. self.new ≡ (if is_new then record self.old { fields = map.insert self.old.fields key.now value.now } else self.old)) }
         ensures err { OnErr result (self.new ≡ self.old) }
     {
-        let _settled = value.bytes();
-        let is_new = self.fields.insert_new(key.into_text(), value)?;
+        let is_new = self.parts.insert_new(FIELDS, key.bytes(), value.bytes())?;
         Ok(is_new)
     }
 
     // Puts the variable if the item has none with its key, and answers whether it had none.
-    pub(crate) fn put_new_variable(&mut self, key: VarKey, value: Settled) -> Mem<bool>
-        ensures new { IfOk result (λ is_new. is_new ≡ not (map.contains_key self.old.variables key)) }
-        ensures put { IfOk result (λ is_new. self.new ≡ (if is_new then record self.old { variables = map.insert self.old.variables key value } else self.old)) }
+    pub(crate) fn put_new_variable(&mut self, key: &VarKey, value: &Settled) -> Mem<bool>
+        ensures new { IfOk result (λ is_new. is_new ≡ not (map.contains_key self.old.variables key.now)) }
+        ensures put { IfOk result (λ is_new. self.new ≡ (if is_new then record self.old { variables = map.insert self.old.variables key.now value.now } else self.old)) }
         ensures err { OnErr result (self.new ≡ self.old) }
     {
-        let _settled = value.bytes();
-        let is_new = self.variables.insert_new(key.into_text(), value)?;
+        let is_new = self
+            .parts
+            .insert_new(VARIABLES, key.bytes(), value.bytes())?;
         Ok(is_new)
     }
 
@@ -174,14 +173,14 @@ impl Item {
     pub(crate) fn drop_field(&mut self, key: &[u8])
         ensures { self.new ≡ record self.old { fields = map.remove self.old.fields key.now } }
     {
-        self.fields.remove(key);
+        self.parts.remove(FIELDS, key);
     }
 
     // Makes the flag false.
     pub(crate) fn drop_flag(&mut self, flag: &[u8])
         ensures { self.new ≡ record self.old { flags = map.remove self.old.flags flag.now } }
     {
-        self.flags.remove(flag);
+        self.parts.remove(FLAGS, flag);
     }
 
     // Makes the flag true, or not.
@@ -190,9 +189,9 @@ impl Item {
         ensures err { OnErr result (self.new ≡ self.old) }
     {
         if is_set {
-            self.flags.insert(flag.copy()?.into_text(), ())?;
+            self.parts.insert(FLAGS, flag.bytes(), b"")?;
         } else {
-            self.flags.remove(flag.bytes());
+            self.parts.remove(FLAGS, flag.bytes());
         }
         Ok(())
     }
@@ -201,7 +200,7 @@ impl Item {
     pub fn has_owner(&self, owner: &[u8]) -> bool
         ensures { result ≡ map.contains_key self.now.owners owner.now }
     {
-        place_of(self.owners.as_slice(), owner).is_ok()
+        self.parts.contains(OWNERS, owner)
     }
 
     // Adds the owner, if it isn't there.
@@ -209,9 +208,7 @@ impl Item {
         ensures ok { OnOk result (self.new ≡ record self.old { owners = map.insert self.old.owners owner.now tt }) }
         ensures err { OnErr result (self.new ≡ self.old) }
     {
-        if let Err(place) = place_of(self.owners.as_slice(), owner.bytes()) {
-            self.owners.insert(place, owner.copy()?)?;
-        }
+        self.parts.insert(OWNERS, owner.bytes(), b"")?;
         Ok(())
     }
 
@@ -219,9 +216,7 @@ impl Item {
     pub(crate) fn drop_owner(&mut self, owner: &[u8])
         ensures { self.new ≡ record self.old { owners = map.remove self.old.owners owner.now } }
     {
-        if let Ok(place) = place_of(self.owners.as_slice(), owner) {
-            self.owners.remove(place);
-        }
+        self.parts.remove(OWNERS, owner);
     }
 
     // Takes away the owners that the list names. It begins at the end, since what stands behind an owner moves.
@@ -239,23 +234,55 @@ impl Item {
     pub(crate) fn are_owners_named(&self, names: &List<Name>) -> Mem<bool>
         ensures { IfOk result (λ are. are ≡ is_nil (map.keys (without self.now.owners names.now))) }
     {
-        are_all_named(self.alloc, &self.owners, names)
+        let owners = self.owners()?;
+        are_all_named(self.alloc, &owners, names)
     }
 
-    // Makes these the flags that are true.
-    pub(crate) fn put_flags(&mut self, flags: SmallMap<()>)
-        requires { (flag : Listed ℕ) → map.contains_key flags flag ≡ true → is_flag_name flag ≡ true }
-        ensures { self.new ≡ record self.old { flags = flags } }
-    {
-        self.flags = flags;
-    }
-
-    // Makes these the owners.
-    pub(crate) fn put_owners(&mut self, owners: List<Name>) -> Mem<()>
-        ensures ok { OnOk result (self.new ≡ record self.old { owners = set_of owners }) }
+    // Makes these the flags that are true, where none is.
+    pub(crate) fn put_flags(&mut self, flags: &List<FlagName>) -> Mem<()>
+        requires { self.old.flags ≡ map.empty }
+        ensures ok { OnOk result (self.new ≡ record self.old { flags = set_of flags.now }) }
         ensures err { OnErr result (self.new ≡ self.old) }
     {
-        self.owners = in_order(self.alloc, owners)?;
+        match flags.as_slice() {
+            [flag] => self.set_flag(flag, true)?,
+            several => *self = self.with_flags(several)?,
+        }
         Ok(())
+    }
+
+    fn with_flags(&self, flags: &[FlagName]) -> Mem<Item>
+        requires { self.now.flags ≡ map.empty }
+        ensures { IfOk result (λ item. item ≡ record self.now { flags = set_of flags.now }) }
+    {
+        let mut item = self.copy()?;
+        for flag in flags {
+            item.set_flag(flag, true)?;
+        }
+        Ok(item)
+    }
+
+    // Makes these the owners, where there are none.
+    pub(crate) fn put_owners(&mut self, owners: &List<Name>) -> Mem<()>
+        requires { self.old.owners ≡ map.empty }
+        ensures ok { OnOk result (self.new ≡ record self.old { owners = set_of owners.now }) }
+        ensures err { OnErr result (self.new ≡ self.old) }
+    {
+        match owners.as_slice() {
+            [owner] => self.add_owner(owner)?,
+            several => *self = self.with_owners(several)?,
+        }
+        Ok(())
+    }
+
+    fn with_owners(&self, owners: &[Name]) -> Mem<Item>
+        requires { self.now.owners ≡ map.empty }
+        ensures { IfOk result (λ item. item ≡ record self.now { owners = set_of owners.now }) }
+    {
+        let mut item = self.copy()?;
+        for owner in owners {
+            item.add_owner(owner)?;
+        }
+        Ok(item)
     }
 }

@@ -63,10 +63,10 @@ impl Item {
     {
         match op {
             Op::Put(item) => *self = item.copy()?,
-            Op::SetField(key, value) => self.put_field(key.copy()?, value.copy()?)?,
+            Op::SetField(key, value) => self.put_field(key, value)?,
             Op::DropField(key) => self.drop_field(key.bytes()),
             Op::SetFlag(flag, is_set) => self.set_flag(flag, *is_set)?,
-            Op::SetVar(key, value) => self.put_variable(key.copy()?, value.copy()?)?,
+            Op::SetVar(key, value) => self.put_variable(key, value)?,
             Op::AddOwner(name) => self.add_owner(name)?,
             Op::DropOwners(names) => self.drop_owners(names),
         }

@@ -1,5 +1,5 @@
-// Owners, which are kept in byte order.
-ghost use Rattle.std.specs.Prelude.{◌≡◌, IfOk, MatchResult, true};
+// Owners, and names in byte order.
+ghost use Rattle.std.specs.Prelude.{◌≡◌, IfOk, MatchResult, true, map as each};
 ghost use Rattle.std.specs.List.{list_all};
 ghost use Rattle.std.specs.FinMap as map;
 ghost use Rattle.dc_text.specs.Bytes.{is_nil};
@@ -8,8 +8,10 @@ ghost use Rattle.dc_text.specs.Names.{is_name};
 ghost use Rattle.dc_item.specs.After.{left_of};
 ghost use Rattle.dc_item.specs.Item.{selves};
 ghost use Rattle.dc_item.specs.Owners.{IsPlaceOf, IsGapFor};
+ghost use Rattle.dc_item.specs.Sections.{keys_under, owners_mark};
 
-use dc_text::{List, Mem, Name, TextMap};
+use crate::marks::{OWNERS, has_mark, unmarked};
+use dc_text::{List, Mem, Name, OutOfMemory, TextMap};
 use std::alloc::Global;
 use std::cmp::Ordering;
 
@@ -58,6 +60,31 @@ fn named(alloc: Global, names: &List<Name>) -> Mem<TextMap<()>>
         set.insert(name.copy()?.into_text(), ())?;
     }
     Ok(set)
+}
+
+/// The owners among the entries of an item.
+pub fn owners_among(alloc: Global, entries: &[(&[u8], &[u8])]) -> Mem<List<Name>>
+    requires { list_all is_name (keys_under owners_mark (each (λ e. (e.0.now, e.1.now)) entries.now)) ≡ true }
+    ensures { IfOk result (λ owners. owners ≡ keys_under owners_mark (each (λ e. (e.0.now, e.1.now)) entries.now)) }
+{
+    let mut owners = List::new(alloc);
+    for (key, _) in entries {
+        if has_mark(OWNERS, key) {
+            owners.push(name_of(alloc, unmarked(key))?)?;
+        }
+    }
+    Ok(owners)
+}
+
+// The name that the bytes are. They are one, so that nothing but memory fails.
+fn name_of(alloc: Global, bytes: &[u8]) -> Mem<Name>
+    requires { is_name bytes.now ≡ true }
+    ensures { IfOk result (λ name. name ≡ bytes.now) }
+{
+    match Name::read(alloc, bytes) {
+        Ok(name) => Ok(name),
+        Err(_) => Err(OutOfMemory),
+    }
 }
 
 /// Whether the list names all owners.

@@ -1,18 +1,20 @@
 // The printed text of records.
 ghost use Rattle.std.specs.Prelude.{◌≡◌, ◌++◌, ◌∷◌, [], IfOk, OnOk, map as each, if◌then◌else◌};
 ghost use Rattle.std.specs.List.{AllByRecursion};
-ghost use Rattle.std.specs.FinMap as map;
 ghost use Rattle.dc_text.specs.Ascii.{comma, space};
+ghost use Rattle.dc_text.specs.Bytes.{is_nil};
 ghost use Rattle.dc_text.specs.Lines.{text_of};
 ghost use Rattle.dc_text.specs.Maps.{AreDistinct};
 ghost use Rattle.dc_item.specs.Item.{IsItem};
-ghost use Rattle.dc_item.specs.Printed.{canon, table_text, record_lines, shown_field, shown_variable, variable_lines, list_lines, owners_head, flags_head, joined};
+ghost use Rattle.dc_item.specs.Printed.{canon, table_text, record_lines, shown_field, shown_variable, variable_lines, list_lines, joined};
+ghost use Rattle.dc_item.specs.Sections.{under, keys_under, fields_mark, variables_mark};
 ghost use Rattle.dc_item.specs.Table.{names_of, table_of, IsEntry, IsInOrder, ReadsAs};
 
 use crate::entry::Entry;
 use crate::item::Item;
+use crate::marks::{FIELDS, FLAGS, OWNERS, VARIABLES, has_mark, unmarked};
 use crate::text_table::TextTable;
-use dc_text::{List, Mem, Name, Settled, SmallMap, Text, show_newlines};
+use dc_text::{List, Mem, Text, show_newlines};
 use std::alloc::Global;
 
 /// The printed text of the records, one after another. Where no two have one name, it is read again as the same names and
@@ -54,22 +56,25 @@ pub fn print_record(alloc: Global, text: &mut Text, name: &[u8], item: &Item) ->
     ensures printed { OnOk result (text.new ≡ text.old ++ text_of (record_lines (name.now, item.now))) }
     ensures item { OnOk result (IsItem item.now) }
 {
+    let entries = item.entries()?;
     text.append(b"Name: ")?;
     text.append(name)?;
     text.push(b'\n')?;
-    print_fields(alloc, text, item.fields())?;
-    print_owners(text, item.owners())?;
-    print_flags(text, item.flags())?;
-    print_variables(alloc, text, item.variables())?;
+    print_fields(alloc, text, &entries)?;
+    print_list(text, b"Owners: ", OWNERS, &entries)?;
+    print_list(text, b"Flags: ", FLAGS, &entries)?;
+    print_variables(alloc, text, &entries)?;
     text.push(b'\n')?;
     Ok(())
 }
 
-fn print_fields(alloc: Global, text: &mut Text, fields: &SmallMap<Settled>) -> Mem<()>
-    ensures { OnOk result (text.new ≡ text.old ++ text_of (each shown_field (map.entries fields.now))) }
+fn print_fields(alloc: Global, text: &mut Text, entries: &[(&[u8], &[u8])]) -> Mem<()>
+    ensures { OnOk result (text.new ≡ text.old ++ text_of (each shown_field (under fields_mark (each (λ e. (e.0.now, e.1.now)) entries.now)))) }
 {
-    for (key, value) in fields.entries() {
-        print_field(alloc, text, key.bytes(), value.bytes())?;
+    for (key, value) in entries {
+        if has_mark(FIELDS, key) {
+            print_field(alloc, text, unmarked(key), value)?;
+        }
     }
     Ok(())
 }
@@ -83,22 +88,24 @@ fn print_field(alloc: Global, text: &mut Text, key: &[u8], value: &[u8]) -> Mem<
     text.push(b'\n')
 }
 
-fn print_variables(alloc: Global, text: &mut Text, variables: &SmallMap<Settled>) -> Mem<()>
-    ensures { OnOk result (text.new ≡ text.old ++ text_of (variable_lines (map.entries variables.now))) }
+fn print_variables(alloc: Global, text: &mut Text, entries: &[(&[u8], &[u8])]) -> Mem<()>
+    ensures { OnOk result (text.new ≡ text.old ++ text_of (variable_lines (under variables_mark (each (λ e. (e.0.now, e.1.now)) entries.now)))) }
 {
-    if variables.is_empty() {
+    if is_none_under(VARIABLES, entries) {
         return Ok(());
     }
     text.append(b"Variables:")?;
     text.push(b'\n')?;
-    print_each_variable(alloc, text, variables)
+    print_each_variable(alloc, text, entries)
 }
 
-fn print_each_variable(alloc: Global, text: &mut Text, variables: &SmallMap<Settled>) -> Mem<()>
-    ensures { OnOk result (text.new ≡ text.old ++ text_of (each shown_variable (map.entries variables.now))) }
+fn print_each_variable(alloc: Global, text: &mut Text, entries: &[(&[u8], &[u8])]) -> Mem<()>
+    ensures { OnOk result (text.new ≡ text.old ++ text_of (each shown_variable (under variables_mark (each (λ e. (e.0.now, e.1.now)) entries.now)))) }
 {
-    for (key, value) in variables.entries() {
-        print_variable(alloc, text, key.bytes(), value.bytes())?;
+    for (key, value) in entries {
+        if has_mark(VARIABLES, key) {
+            print_variable(alloc, text, unmarked(key), value)?;
+        }
     }
     Ok(())
 }
@@ -113,46 +120,39 @@ fn print_variable(alloc: Global, text: &mut Text, key: &[u8], value: &[u8]) -> M
     text.push(b'\n')
 }
 
-fn print_owners(text: &mut Text, owners: &List<Name>) -> Mem<()>
-    ensures { OnOk result (text.new ≡ text.old ++ text_of (list_lines owners_head owners.now)) }
+// Whether no key begins with the mark.
+fn is_none_under(mark: u8, entries: &[(&[u8], &[u8])]) -> bool
+    ensures { result ≡ is_nil (under mark (each (λ e. (e.0.now, e.1.now)) entries.now)) }
 {
-    if owners.len() == 0 {
+    for (key, _) in entries {
+        if has_mark(mark, key) {
+            return false;
+        }
+    }
+    true
+}
+
+// The line of the owners or of the flags, where there are some.
+fn print_list(text: &mut Text, head: &[u8], mark: u8, entries: &[(&[u8], &[u8])]) -> Mem<()>
+    ensures { OnOk result (text.new ≡ text.old ++ text_of (list_lines head.now (keys_under mark (each (λ e. (e.0.now, e.1.now)) entries.now)))) }
+{
+    if is_none_under(mark, entries) {
         return Ok(());
     }
-    text.append(b"Owners: ")?;
-    join_owners(text, owners)?;
+    text.append(head)?;
+    join_keys(text, mark, entries)?;
     text.push(b'\n')
 }
 
-fn join_owners(text: &mut Text, owners: &List<Name>) -> Mem<()>
-    ensures { OnOk result (text.new ≡ text.old ++ joined owners.now) }
+fn join_keys(text: &mut Text, mark: u8, entries: &[(&[u8], &[u8])]) -> Mem<()>
+    ensures { OnOk result (text.new ≡ text.old ++ joined (keys_under mark (each (λ e. (e.0.now, e.1.now)) entries.now))) }
 {
     let mut is_first = true;
-    for owner in owners.as_slice() {
-        push_piece(text, is_first, owner.bytes())?;
-        is_first = false;
-    }
-    Ok(())
-}
-
-fn print_flags(text: &mut Text, flags: &SmallMap<()>) -> Mem<()>
-    ensures { OnOk result (text.new ≡ text.old ++ text_of (list_lines flags_head (map.keys flags.now))) }
-{
-    if flags.is_empty() {
-        return Ok(());
-    }
-    text.append(b"Flags: ")?;
-    join_flags(text, flags)?;
-    text.push(b'\n')
-}
-
-fn join_flags(text: &mut Text, flags: &SmallMap<()>) -> Mem<()>
-    ensures { OnOk result (text.new ≡ text.old ++ joined (map.keys flags.now)) }
-{
-    let mut is_first = true;
-    for (flag, _) in flags.entries() {
-        push_piece(text, is_first, flag.bytes())?;
-        is_first = false;
+    for (key, _) in entries {
+        if has_mark(mark, key) {
+            push_piece(text, is_first, unmarked(key))?;
+            is_first = false;
+        }
     }
     Ok(())
 }

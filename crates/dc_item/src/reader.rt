@@ -27,7 +27,7 @@ pub struct Open {
 }
 
 impl Open {
-    ghost use Rattle.dc_item.specs.Reader.{added, begun};
+    ghost use Rattle.dc_item.specs.Reader.{added, begun, IsOpen};
 
     fn new(alloc: Global, name: Name, line: u64) -> Self
         ensures { result ≡ begun name line }
@@ -45,7 +45,8 @@ impl Open {
 
     // Takes a line with this word before its colon, other than a Name line, and answers whether it stands.
     fn add_headed(&mut self, alloc: Global, word: &[u8], rest: &[u8]) -> Mem<bool>
-        requires { bytes_eq (each lower word.now) (codes "name") ≡ false }
+        requires further { bytes_eq (each lower word.now) (codes "name") ≡ false }
+        requires is_open { IsOpen self.old }
         ensures { IfOk result (λ stands. added self.old (headed_line (each lower word.now) rest.now) ≡ (if stands then Some self.new else None)) }
     {
         if is_word(word, b"owners") {
@@ -60,6 +61,7 @@ impl Open {
     }
 
     fn add_owners(&mut self, alloc: Global, rest: &[u8]) -> Mem<bool>
+        requires { IsOpen self.old }
         ensures { IfOk result (λ stands. added self.old (owners_line rest.now) ≡ (if stands then Some self.new else None)) }
     {
         if self.has_owners {
@@ -67,7 +69,7 @@ impl Open {
         }
         match names_in(alloc, rest) {
             Ok(names) => {
-                self.item.put_owners(names)?;
+                self.item.put_owners(&names)?;
                 self.has_owners = true;
                 self.in_variables = false;
                 Ok(true)
@@ -78,6 +80,7 @@ impl Open {
     }
 
     fn add_flags(&mut self, alloc: Global, rest: &[u8]) -> Mem<bool>
+        requires { IsOpen self.old }
         ensures { IfOk result (λ stands. added self.old (flags_line rest.now) ≡ (if stands then Some self.new else None)) }
     {
         if self.has_flags {
@@ -85,7 +88,7 @@ impl Open {
         }
         match flags_in(alloc, rest) {
             Ok(flags) => {
-                self.item.put_flags(flags);
+                self.item.put_flags(&flags)?;
                 self.has_flags = true;
                 self.in_variables = false;
                 Ok(true)
@@ -112,7 +115,7 @@ impl Open {
         match FieldKey::read(alloc, key) {
             Ok(key) => {
                 let value = settle(alloc, without_space(rest))?;
-                if !self.item.put_new_field(key, value)? {
+                if !self.item.put_new_field(&key, &value)? {
                     return Ok(false);
                 }
                 self.in_variables = false;
@@ -142,7 +145,7 @@ impl Open {
         match VarKey::read(alloc, key) {
             Ok(key) => {
                 let value = settle(alloc, without_space(rest))?;
-                self.item.put_new_variable(key, value)
+                self.item.put_new_variable(&key, &value)
             }
             Err(NameRefused::Bad) => Ok(false),
             Err(NameRefused::OutOfMemory) => Err(OutOfMemory),
@@ -160,7 +163,7 @@ pub struct Reader {
 }
 
 impl Reader {
-    ghost use Rattle.dc_item.specs.Reader.{step, with_current, added, closed, at_start};
+    ghost use Rattle.dc_item.specs.Reader.{step, with_current, added, closed, at_start, IsReading};
 
     /// Before the first line.
     pub fn new(alloc: Global) -> Self
@@ -175,6 +178,7 @@ impl Reader {
 
     /// Takes the next line, which has this number, and answers whether it stands.
     pub fn take(&mut self, alloc: Global, number: u64, line: &[u8]) -> Mem<bool>
+        requires { IsReading self.old }
         ensures { IfOk result (λ stands. step self.old number (line_said line.now) ≡ (if stands then Some self.new else None)) }
     {
         if is_blank(line) {
@@ -191,6 +195,7 @@ impl Reader {
     }
 
     fn take_headed(&mut self, alloc: Global, number: u64, word: &[u8], rest: &[u8]) -> Mem<bool>
+        requires { IsReading self.old }
         ensures { IfOk result (λ stands. step self.old number (headed_line (each lower word.now) rest.now) ≡ (if stands then Some self.new else None)) }
     {
         if is_word(word, b"name") {
@@ -223,7 +228,8 @@ impl Reader {
 
     // Gives a line with this word before its colon, other than a Name line, to the record that is open.
     fn add_headed(&mut self, alloc: Global, word: &[u8], rest: &[u8]) -> Mem<bool>
-        requires { bytes_eq (each lower word.now) (codes "name") ≡ false }
+        requires further { bytes_eq (each lower word.now) (codes "name") ≡ false }
+        requires is_reading { IsReading self.old }
         ensures { IfOk result (λ stands. with_current self.old (λ current. added current (headed_line (each lower word.now) rest.now)) ≡ (if stands then Some self.new else None)) }
     {
         match &mut self.current {
@@ -249,13 +255,14 @@ impl Reader {
         if let Some(open) = self.current.take() {
             let Open {
                 name,
-                item,
+                mut item,
                 line,
                 has_owners: _,
                 has_flags: _,
                 has_variables: _,
                 in_variables: _,
             } = open;
+            item.shrink();
             self.done.push(Entry { name, item, line })?;
         }
         Ok(())

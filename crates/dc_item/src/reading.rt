@@ -4,12 +4,11 @@ ghost use Rattle.std.specs.List.{list_all};
 ghost use Rattle.std.specs.Str.{bytes_eq};
 ghost use Rattle.dc_text.specs.Bytes.{lower};
 ghost use Rattle.dc_text.specs.Lines.{unless_empty};
-ghost use Rattle.dc_text.specs.Maps.{set_of};
 ghost use Rattle.dc_text.specs.Names.{is_name, is_flag_name};
 ghost use Rattle.dc_item.specs.Grammar.{pieces};
 
 use dc_text::bytes::{split_at_byte, trim};
-use dc_text::{FlagName, List, Name, NameRefused, SmallMap};
+use dc_text::{FlagName, List, Name, NameRefused};
 use std::alloc::Global;
 
 /// Whether the bytes spell the word, without regard to case.
@@ -53,16 +52,16 @@ fn names_between(alloc: Global, text: &[u8]) -> Result<List<Name>, NameRefused>
     Ok(names)
 }
 
-/// The set of the flags between commas. `Bad` comes exactly where one of them is no name of a flag. Most lists have one.
-pub fn flags_in(alloc: Global, text: &[u8]) -> Result<SmallMap<()>, NameRefused>
-    ensures value { IfOk result (λ flags. flags ≡ set_of (pieces text.now)) }
+/// The flags between commas. `Bad` comes exactly where one of them is no name of a flag. Most lists have one.
+pub fn flags_in(alloc: Global, text: &[u8]) -> Result<List<FlagName>, NameRefused>
+    ensures value { IfOk result (λ flags. flags ≡ pieces text.now) }
     ensures ok { OnOk result (list_all is_flag_name (pieces text.now) ≡ true) }
     ensures bad { result ≡ Err NameRefused.Bad → list_all is_flag_name (pieces text.now) ≡ false }
 {
     match FlagName::read(alloc, trim(text)) {
         Ok(flag) => {
-            let mut flags = SmallMap::new(alloc);
-            flags.insert(flag.into_text(), ())?;
+            let mut flags = List::new(alloc);
+            flags.push(flag)?;
             Ok(flags)
         }
         Err(NameRefused::Bad) => flags_between(alloc, text),
@@ -70,18 +69,17 @@ pub fn flags_in(alloc: Global, text: &[u8]) -> Result<SmallMap<()>, NameRefused>
     }
 }
 
-fn flags_between(alloc: Global, text: &[u8]) -> Result<SmallMap<()>, NameRefused>
-    ensures value { IfOk result (λ flags. flags ≡ set_of (pieces text.now)) }
+fn flags_between(alloc: Global, text: &[u8]) -> Result<List<FlagName>, NameRefused>
+    ensures value { IfOk result (λ flags. flags ≡ pieces text.now) }
     ensures ok { OnOk result (list_all is_flag_name (pieces text.now) ≡ true) }
     ensures bad { result ≡ Err NameRefused.Bad → list_all is_flag_name (pieces text.now) ≡ false }
 {
-    let mut flags = SmallMap::new(alloc);
+    let mut flags = List::new(alloc);
     let mut rest = text;
     while !rest.is_empty() {
         let (piece, after) = split_piece(rest);
         if !piece.is_empty() {
-            let flag = FlagName::read(alloc, piece)?;
-            flags.insert(flag.into_text(), ())?;
+            flags.push(FlagName::read(alloc, piece)?)?;
         }
         rest = after;
     }

@@ -1,23 +1,17 @@
-use Rattle.std.proofs.Common.{◌≡◌, ap, ◌∙◌}
-use Rattle.std.specs.List as listed
+use Rattle.std.proofs.Common.{◌≡◌, ◌∷◌, [], ◌∙◌}
 use Rattle.std.specs.FinMap as map
-use Rattle.dc_text.specs.Maps.{set_of}
-use Rattle.dc_item.proofs.ItemLemmas.{with_owner, added, was_there}
+use Rattle.dc_item.specs.Sections.{owners_mark}
+use Rattle.dc_item.proofs.PartLemmas.{put_owner, with_owner}
 use Rattle.dc_item.proofs.item.Item.add_owner.Goals as goal
 
-pub invariant_of-self-in_ok-insert : goal.invariant_of-self-in_ok-insert
-invariant_of-self-in_ok-insert c =
-    let put : c.insert.new.self ≡ map.keys (map.insert (set_of c.self.inside.owners) c.args.owner.now tt)
-    = c.in_ok-insert.ensures.ok ∙ ap (listed.insert c.self.inside.owners c.in-Err.place) c.in_ok-copy.ensures ∙ rw (← c.as_slice.ensures, ← c.bytes.ensures.value) c.in-Err.ensures.with_it in
-    with_owner c.self.inside.fields c.self.inside.variables c.self.inside.flags c.self.inside.owners c.insert.new.self c.args.owner.now c.self.invariant put c.bytes.ensures.name
+pub invariant_of-self-2 : goal.invariant_of-self-2
+invariant_of-self-2 c =
+    let put : c.insert.new.self ≡ map.insert c.self.inside.parts (owners_mark ∷ c.args.owner.now) []
+    = c.in_ok-insert.ensures.ok ∙ (λ i. map.insert c.self.inside.parts (owners_mark ∷ c.bytes.ensures.value i) []) in
+    with_owner c.self.inside.parts c.insert.new.self c.args.owner.now c.self.invariant put c.bytes.ensures.name
 
-pub returns-in_ok-insert-clause-ok : goal.returns-in_ok-insert-clause-ok
-returns-in_ok-insert-clause-ok c =
-    let put : c.insert.new.self ≡ map.keys (map.insert (set_of c.self.inside.owners) c.args.owner.now tt)
-    = c.in_ok-insert.ensures.ok ∙ ap (listed.insert c.self.inside.owners c.in-Err.place) c.in_ok-copy.ensures ∙ rw (← c.as_slice.ensures, ← c.bytes.ensures.value) c.in-Err.ensures.with_it in
-    added c.self.inside.fields c.self.inside.variables c.self.inside.flags c.self.inside.owners c.insert.new.self c.args.owner.now c.args.self.now c.self.view_is put
-
-pub returns-in_default-clause-ok : goal.returns-in_default-clause-ok
-returns-in_default-clause-ok c =
-    was_there c.self.inside.fields c.self.inside.variables c.self.inside.flags c.self.inside.owners c.args.owner.now c.args.self.now c.self.view_is
-    (rw (← c.as_slice.ensures, ← c.bytes.ensures.value) c.in_default.ensures.there)
+pub returns-clause-ok : goal.returns-clause-ok
+returns-clause-ok c =
+    let put : c.insert.new.self ≡ map.insert c.self.inside.parts (owners_mark ∷ c.args.owner.now) []
+    = c.in_ok-insert.ensures.ok ∙ (λ i. map.insert c.self.inside.parts (owners_mark ∷ c.bytes.ensures.value i) []) in
+    put_owner c.self.inside.parts c.insert.new.self c.args.owner.now c.args.self.now c.self.view_is put

@@ -1,5 +1,8 @@
-use Rattle.dc_item.proofs.ItemLemmas.{begins}
+use Rattle.dc_item.proofs.PartLemmas.{begins, none_in}
 use Rattle.dc_item.proofs.item.Item.new.Goals as goal
 
 pub invariant_of-result : goal.invariant_of-result
-invariant_of-result c = begins c.new.result c.new-3.result c.new-2.result c.new-4.result c.new.ensures c.new-2.ensures c.new-3.ensures c.new-4.ensures
+invariant_of-result c = begins c.new.result c.new.ensures
+
+pub returns : goal.returns
+returns c = none_in c.new.result c.new.ensures

@@ -1,8 +1,17 @@
-use Rattle.std.proofs.Common.{ap, ◌∙◌}
-use Rattle.dc_text.specs.Names.{is_field_key}
-use Rattle.dc_item.proofs.ItemLemmas.{with_field}
+use Rattle.std.proofs.Common.{◌≡◌, ◌∷◌, ◌∙◌}
+use Rattle.std.specs.FinMap as map
+use Rattle.dc_item.specs.Sections.{fields_mark}
+use Rattle.dc_item.proofs.PartLemmas.{put_field, with_field}
 use Rattle.dc_item.proofs.item.Item.put_field.Goals as goal
 
 pub invariant_of-self-2 : goal.invariant_of-self-2
-invariant_of-self-2 c = with_field c.self.inside.fields c.insert.new.self c.self.inside.variables c.self.inside.flags c.self.inside.owners c.into_text.result c.args.value
-    c.self.invariant c.in_ok-insert.ensures.ok (ap is_field_key c.into_text.ensures.value ∙ c.into_text.ensures.key) c.bytes-settled.ensures.settled
+invariant_of-self-2 c =
+    let put : c.insert.new.self ≡ map.insert c.self.inside.parts (fields_mark ∷ c.args.key.now) c.args.value.now
+    = c.in_ok-insert.ensures.ok ∙ (λ i. map.insert c.self.inside.parts (fields_mark ∷ c.bytes.ensures.value i) (c.bytes-2.ensures.value i)) in
+    with_field c.self.inside.parts c.insert.new.self c.args.key.now c.args.value.now c.self.invariant put c.bytes.ensures.key c.bytes-2.ensures.settled
+
+pub returns-clause-ok : goal.returns-clause-ok
+returns-clause-ok c =
+    let put : c.insert.new.self ≡ map.insert c.self.inside.parts (fields_mark ∷ c.args.key.now) c.args.value.now
+    = c.in_ok-insert.ensures.ok ∙ (λ i. map.insert c.self.inside.parts (fields_mark ∷ c.bytes.ensures.value i) (c.bytes-2.ensures.value i)) in
+    put_field c.self.inside.parts c.insert.new.self c.args.key.now c.args.value.now c.args.self.now c.self.view_is put

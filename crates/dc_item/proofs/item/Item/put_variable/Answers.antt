@@ -1,8 +1,17 @@
-use Rattle.std.proofs.Common.{ap, ◌∙◌}
-use Rattle.dc_text.specs.Names.{is_variable_key}
-use Rattle.dc_item.proofs.ItemLemmas.{with_variable}
+use Rattle.std.proofs.Common.{◌≡◌, ◌∷◌, ◌∙◌}
+use Rattle.std.specs.FinMap as map
+use Rattle.dc_item.specs.Sections.{variables_mark}
+use Rattle.dc_item.proofs.PartLemmas.{put_variable, with_variable}
 use Rattle.dc_item.proofs.item.Item.put_variable.Goals as goal
 
 pub invariant_of-self-2 : goal.invariant_of-self-2
-invariant_of-self-2 c = with_variable c.self.inside.fields c.self.inside.variables c.insert.new.self c.self.inside.flags c.self.inside.owners c.into_text.result c.args.value
-    c.self.invariant c.in_ok-insert.ensures.ok (ap is_variable_key c.into_text.ensures.value ∙ c.into_text.ensures.key) c.bytes-settled.ensures.settled
+invariant_of-self-2 c =
+    let put : c.insert.new.self ≡ map.insert c.self.inside.parts (variables_mark ∷ c.args.key.now) c.args.value.now
+    = c.in_ok-insert.ensures.ok ∙ (λ i. map.insert c.self.inside.parts (variables_mark ∷ c.bytes.ensures.value i) (c.bytes-2.ensures.value i)) in
+    with_variable c.self.inside.parts c.insert.new.self c.args.key.now c.args.value.now c.self.invariant put c.bytes.ensures.key c.bytes-2.ensures.settled
+
+pub returns-clause-ok : goal.returns-clause-ok
+returns-clause-ok c =
+    let put : c.insert.new.self ≡ map.insert c.self.inside.parts (variables_mark ∷ c.args.key.now) c.args.value.now
+    = c.in_ok-insert.ensures.ok ∙ (λ i. map.insert c.self.inside.parts (variables_mark ∷ c.bytes.ensures.value i) (c.bytes-2.ensures.value i)) in
+    put_variable c.self.inside.parts c.insert.new.self c.args.key.now c.args.value.now c.args.self.now c.self.view_is put

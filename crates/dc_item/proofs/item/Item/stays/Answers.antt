@@ -13,15 +13,15 @@ pub returns-in-SetField : goal.returns-in-SetField
 returns-in-SetField c =
     let key = c.in-SetField.key in
     let value = c.in-SetField.value in
-    c.is_value.ensures
+    c.is_value-stays.ensures
     ∙ ap (λ o. option_map_or (λ bytes. bytes_eq bytes value) o false) (c.field.ensures ∙ ap (map.get c.args.self.now.fields) c.bytes.ensures.value)
     ∙ stays_field c.args.self.now key value ∙ ap (λ op. parts_eq (asked op c.args.self.now) c.args.self.now) (sym c.in-SetField.is)
 
 pub returns-in-DropField : goal.returns-in-DropField
 returns-in-DropField c =
     let key = c.in-DropField.key in
-    let is = sym (ap is_some (c.field-in-DropField.ensures ∙ ap (map.get c.args.self.now.fields) c.bytes-in-DropField.ensures.value)) ∙ copied_is c.field-in-DropField.result ∙ c.is_none.ensures in
-    stays_without_field c.args.self.now key c.is_none.result is ∙ ap (λ op. parts_eq (asked op c.args.self.now) c.args.self.now) (sym c.in-DropField.is)
+    let is = sym (ap is_some (c.field-in-DropField.ensures ∙ ap (map.get c.args.self.now.fields) c.bytes-in-DropField.ensures.value)) ∙ copied_is c.field-in-DropField.result ∙ c.is_none-stays.ensures in
+    stays_without_field c.args.self.now key c.is_none-stays.result is ∙ ap (λ op. parts_eq (asked op c.args.self.now) c.args.self.now) (sym c.in-DropField.is)
 
 pub returns-in-SetFlag : goal.returns-in-SetFlag
 returns-in-SetFlag c =
@@ -35,13 +35,13 @@ pub returns-in-SetVar : goal.returns-in-SetVar
 returns-in-SetVar c =
     let key = c.in-SetVar.key in
     let value = c.in-SetVar.value in
-    c.is_value-in-SetVar.ensures
+    c.is_value-stays-in-SetVar.ensures
     ∙ ap (λ o. option_map_or (λ bytes. bytes_eq bytes value) o false) (c.var.ensures ∙ ap (map.get c.args.self.now.variables) c.bytes-in-SetVar.ensures.value)
     ∙ stays_variable c.args.self.now key value ∙ ap (λ op. parts_eq (asked op c.args.self.now) c.args.self.now) (sym c.in-SetVar.is)
 
 pub returns-in-AddOwner : goal.returns-in-AddOwner
 returns-in-AddOwner c =
-    c.has_owner.ensures ∙ ap (map.contains_key c.args.self.now.owners) c.bytes-in-AddOwner.ensures.value
+    c.has_owner-stays.ensures ∙ ap (map.contains_key c.args.self.now.owners) c.bytes-in-AddOwner.ensures.value
     ∙ stays_owner c.args.self.now c.in-AddOwner.name ∙ ap (λ op. parts_eq (asked op c.args.self.now) c.args.self.now) (sym c.in-AddOwner.is)
 
 pub returns-in-DropOwners : goal.returns-in-DropOwners

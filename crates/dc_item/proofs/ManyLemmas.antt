@@ -1,0 +1,22 @@
+-- What an edit of a sorted vector of pairs does.
+use Rattle.std.proofs.Common.{◌≡◌, ℕ, List, set, get_or, sym, ap, ◌∙◌, subst}
+use Rattle.std.specs.Prelude.{T}
+use Rattle.std.specs.FinMap.{FinMap, put, is_sorted, entries, entries_sorted, from_sorted, same_entries_map, entries-from_sorted}
+use Rattle.std.proofs.lemmas.List.{get_or_default}
+use Rattle.dc_text.specs.Maps.{text_cmp}
+use Rattle.dc_text.specs.Places.{IsAt}
+use Rattle.dc_text.proofs.SmallMapLemmas.{set_at}
+
+-- to write over the pair that has a key is to put the value at the key
+pub set_pair : (q v : List ℕ) (es : List (List ℕ × List ℕ)) (i : ℕ) (pair : List ℕ × List ℕ) → T (is_sorted text_cmp es) → IsAt q es i → pair ≡ (q, v) → set es i pair ≡ put text_cmp q v es
+set_pair q v es i pair h at is =
+    let old : List ℕ × List ℕ = get_or es i (q, v) in
+    let key : old.0 ≡ q = at.has_key (q, v) in
+    ap (set es i) (is ∙ ap (λ k. (k, v)) (sym key)) ∙ set_at q v es i old h at (get_or_default es i (q, v) old at.in_range)
+
+-- the entries of a map are in order, and make the map again
+pub in_order : (es : List (List ℕ × List ℕ)) (m : FinMap {K = List ℕ} text_cmp (List ℕ)) → es ≡ entries m → T (is_sorted text_cmp es)
+in_order es m is = subst (λ l. T (is_sorted text_cmp l)) (sym is) (entries_sorted m)
+
+pub made_again : (es : List (List ℕ × List ℕ)) (m : FinMap {K = List ℕ} text_cmp (List ℕ)) → es ≡ entries m → from_sorted {R = text_cmp} es ≡ m
+made_again es m is = same_entries_map _ _ (entries-from_sorted text_cmp es (in_order es m is) ∙ is)

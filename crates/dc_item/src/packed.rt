@@ -1,0 +1,345 @@
+// Few entries of a map from texts, packed into one piece of memory.
+ghost use Rattle.std.specs.Prelude.{◌≡◌, ◌++◌, ◌∷◌, ◌≤◌, ◌+◌, ◌^◌, [], OnOk, OnErr, IfOk, if◌then◌else◌, is_some, not, length, take, drop, map as each};
+ghost use Rattle.std.specs.Option.{option_copied};
+ghost use Rattle.std.specs.FinMap as map;
+ghost use Rattle.dc_text.specs.Maps.{text_cmp};
+ghost use Rattle.dc_item.specs.Packed.{packed_length, packed_text, packed, length_at, behind_length, text_at, behind_text, HasText, entries_in, IsPacked, before, from, behind, value_at};
+
+use dc_text::Mem;
+use std::alloc::Global;
+use std::cmp::Ordering;
+use std::marker::Model;
+
+// The length at the front of the bytes, and what stands behind it.
+fn split_length(bytes: &[u8]) -> (usize, &[u8])
+    requires { HasText bytes.now }
+    ensures length { result.0 ≡ length_at bytes.now }
+    ensures rest { result.1.now ≡ behind_length bytes.now }
+{
+    let mut length = 0;
+    let mut rest = bytes;
+    while let Some((byte, more)) = rest.split_first() {
+        if *byte != 255 {
+            return (length + *byte as usize, more);
+        }
+        length += 255;
+        rest = more;
+    }
+    (length, rest)
+}
+
+// The text at the front of the bytes, and what stands behind it.
+fn split_text(bytes: &[u8]) -> (&[u8], &[u8])
+    requires { HasText bytes.now }
+    ensures text { result.0.now ≡ text_at bytes.now }
+    ensures rest { result.1.now ≡ behind_text bytes.now }
+{
+    let (length, rest) = split_length(bytes);
+    rest.split_at(length)
+}
+
+// The order of a key, given as its mark and the rest of it, and a text.
+fn compare(mark: u8, key: &[u8], other: &[u8]) -> Ordering
+    ensures { result ≡ text_cmp (mark ∷ key.now) other.now }
+{
+    match other.split_first() {
+        None => Ordering::Greater,
+        Some((first, rest)) => {
+            if mark == *first {
+                key.cmp(rest)
+            } else {
+                mark.cmp(first)
+            }
+        }
+    }
+}
+
+// The place of a key among packed entries, whether it is there or not.
+#[derive(Clone, Copy)]
+struct Place<'a> {
+    // The entries from the place on.
+    from: &'a [u8],
+    // Those behind the key.
+    behind: &'a [u8],
+    // The value of the key, if it is there.
+    value: Option<&'a [u8]>,
+}
+
+// The place of the key among so many packed entries.
+fn place_of<'a>(bytes: &'a [u8], count: usize, mark: u8, key: &[u8]) -> Place<'a>
+    requires { IsPacked count bytes.now }
+    ensures from { result.from.now ≡ packed (from (mark ∷ key.now) (entries_in count bytes.now)) }
+    ensures behind { result.behind.now ≡ packed (behind (mark ∷ key.now) (entries_in count bytes.now)) }
+    ensures value { option_copied result.value ≡ value_at (mark ∷ key.now) (entries_in count bytes.now) }
+{
+    let mut left = count;
+    let mut rest = bytes;
+    while 0 < left {
+        let (entry_key, behind_key) = split_text(rest);
+        let (value, behind) = split_text(behind_key);
+        match compare(mark, key, entry_key) {
+            Ordering::Less => return Place {
+                from: rest,
+                behind: rest,
+                value: None,
+            },
+            Ordering::Equal => return Place {
+                from: rest,
+                behind,
+                value: Some(value),
+            },
+            Ordering::Greater => {
+                rest = behind;
+                left -= 1;
+            }
+        }
+    }
+    Place {
+        from: rest,
+        behind: rest,
+        value: None,
+    }
+}
+
+// Where the bytes of the entries before a key end, where those of the entries behind it begin, and whether it is there.
+#[derive(Clone, Copy)]
+struct Span {
+    start: usize,
+    end: usize,
+    is_there: bool,
+}
+
+fn span_of(bytes: &[u8], count: usize, mark: u8, key: &[u8]) -> Span
+    requires { IsPacked count bytes.now }
+    ensures start { take result.start bytes.now ≡ packed (before (mark ∷ key.now) (entries_in count bytes.now)) }
+    ensures end { drop result.end bytes.now ≡ packed (behind (mark ∷ key.now) (entries_in count bytes.now)) }
+    ensures ordered { result.start ≤ result.end }
+    ensures in_range { result.end ≤ length bytes.now }
+    ensures is_there { result.is_there ≡ is_some (value_at (mark ∷ key.now) (entries_in count bytes.now)) }
+{
+    let place = place_of(bytes, count, mark, key);
+    Span {
+        start: bytes.len() - place.from.len(),
+        end: bytes.len() - place.behind.len(),
+        is_there: place.value.is_some(),
+    }
+}
+
+// Puts a length behind the bytes.
+fn push_length(bytes: &mut Vec<u8>, length: usize) -> Mem<()>
+    ensures { OnOk result (bytes.new.items ≡ bytes.old.items ++ packed_length length) }
+{
+    for _ in 0..length / 255 {
+        bytes.push(255)?;
+    }
+    bytes.push((length % 255) as u8)?;
+    Ok(())
+}
+
+// How many bytes an entry takes, for a key and a value of so many bytes.
+fn room_for(key: usize, value: usize) -> usize {
+    let texts = key.saturating_add(value);
+    texts.saturating_add(texts / 255).saturating_add(3)
+}
+
+// An entry, packed.
+fn packed_entry(alloc: Global, mark: u8, key: &[u8], value: &[u8]) -> Mem<Vec<u8>>
+    ensures { IfOk result (λ bytes. bytes.items ≡ packed ((mark ∷ key.now, value.now) ∷ [])) }
+{
+    let mut bytes = Vec::with_capacity(alloc, room_for(key.len(), value.len()))?;
+    push_length(&mut bytes, key.len() + 1)?;
+    bytes.push(mark)?;
+    bytes.extend_from_slice(key)?;
+    push_length(&mut bytes, value.len())?;
+    bytes.extend_from_slice(value)?;
+    Ok(bytes)
+}
+
+// The three pieces one behind the other, with no room to spare.
+fn joined(alloc: Global, front: &[u8], middle: &[u8], back: &[u8]) -> Mem<Vec<u8>>
+    ensures { IfOk result (λ bytes. bytes.items ≡ front.now ++ (middle.now ++ back.now)) }
+{
+    let count = front
+        .len()
+        .saturating_add(middle.len())
+        .saturating_add(back.len());
+    let mut bytes = Vec::with_capacity(alloc, count)?;
+    bytes.extend_from_slice(front)?;
+    bytes.extend_from_slice(middle)?;
+    bytes.extend_from_slice(back)?;
+    Ok(bytes)
+}
+
+// Puts the piece between the bytes before the start and those from the end on. What comes last is put behind the others,
+// with room for more; the first takes no more room than it needs.
+fn put_between(bytes: &mut Vec<u8>, start: usize, end: usize, piece: Vec<u8>) -> Mem<()>
+    requires ordered { start ≤ end }
+    requires in_range { end ≤ length bytes.old.items }
+    ensures ok { OnOk result (bytes.new.items ≡ take start bytes.old.items ++ (piece.items ++ drop end bytes.old.items)) }
+    ensures err { OnErr result (bytes.new.items ≡ bytes.old.items) }
+{
+    if bytes.is_empty() {
+        *bytes = piece;
+    } else if start == bytes.len() {
+        bytes.extend_from_slice(&piece)?;
+    } else {
+        *bytes = joined(*bytes.allocator(), &bytes[..start], &piece, &bytes[end..])?;
+    }
+    Ok(())
+}
+
+// Takes the bytes from the start to the end out.
+fn cut_out(bytes: &mut Vec<u8>, start: usize, end: usize)
+    requires ordered { start ≤ end }
+    requires in_range { end ≤ length bytes.old.items }
+    ensures { bytes.new.items ≡ take start bytes.old.items ++ drop end bytes.old.items }
+{
+    let rest = bytes.len() - end;
+    bytes.copy_within(end.., start);
+    bytes.truncate(start + rest);
+}
+
+// How many entries there are when one is put, if its key is there or not.
+fn count_with(count: usize, is_there: bool) -> usize
+    requires { count + 1 ≤ 2 ^ 63 }
+    ensures { result ≡ (if is_there then count else count + 1) }
+{
+    if is_there { count } else { count + 1 }
+}
+
+// So many packed entries as a list.
+fn entries_of<'a>(alloc: Global, bytes: &'a [u8], count: usize) -> Mem<Vec<(&'a [u8], &'a [u8])>>
+    requires { IsPacked count bytes.now }
+    ensures { IfOk result (λ es. each (λ e. (e.0.now, e.1.now)) es.items ≡ entries_in count bytes.now) }
+{
+    let mut entries = Vec::with_capacity(alloc, count)?;
+    let mut left = count;
+    let mut rest = bytes;
+    while 0 < left {
+        let (key, behind_key) = split_text(rest);
+        let (value, behind) = split_text(behind_key);
+        entries.push((key, value))?;
+        rest = behind;
+        left -= 1;
+    }
+    Ok(entries)
+}
+
+/// Entries of a map from texts, in byte order of the keys, packed into one piece of memory. To find a key is to go over those
+/// before it.
+#[derive(Drop)]
+pub(crate) struct Packed {
+    count: usize,
+    bytes: Vec<u8>,
+}
+
+impl Model for Packed {
+    ghost use Rattle.std.specs.Prelude.{T, List, ℕ};
+    ghost use Rattle.std.specs.FinMap as map;
+    ghost use Rattle.std.specs.Coded.{coded_ℕ, coded_list};
+    ghost use Rattle.dc_text.specs.Maps.{text_cmp};
+    ghost use Rattle.dc_item.specs.Packed.{entries_in, IsPacked};
+
+    ghost Value = { map.FinMap text_cmp (List ℕ) };
+
+    ghost coded = { map.code (coded_list coded_ℕ) (coded_list coded_ℕ) };
+
+    ghost view = { λ p. map.from_sorted (entries_in p.count p.bytes.items) };
+
+    ghost invariant = { λ p. IsPacked p.count p.bytes.items × T (map.is_sorted text_cmp (entries_in p.count p.bytes.items)) };
+}
+
+impl Packed {
+    /// The empty map.
+    pub(crate) fn new(alloc: Global) -> Self
+        ensures { result ≡ map.empty }
+    {
+        Packed {
+            count: 0,
+            bytes: Vec::new(alloc),
+        }
+    }
+
+    /// The value at the key, if there is one.
+    pub(crate) fn get(&self, mark: u8, key: &[u8]) -> Option<&[u8]>
+        ensures { option_copied result ≡ map.get self.now (mark ∷ key.now) }
+    {
+        place_of(&self.bytes, self.count, mark, key).value
+    }
+
+    /// Puts the value at the key, in the place of one that stood there.
+    pub(crate) fn insert(&mut self, mark: u8, key: &[u8], value: &[u8]) -> Mem<()>
+        ensures ok { OnOk result (self.new ≡ map.insert self.old (mark ∷ key.now) value.now) }
+        ensures err { OnErr result (self.new ≡ self.old) }
+    {
+        let span = span_of(&self.bytes, self.count, mark, key);
+        let entry = packed_entry(*self.bytes.allocator(), mark, key, value)?;
+        put_between(&mut self.bytes, span.start, span.end, entry)?;
+        self.count = count_with(self.count, span.is_there);
+        Ok(())
+    }
+
+    /// Puts the value at a key that isn't there, and answers whether it wasn't.
+    pub(crate) fn insert_new(&mut self, mark: u8, key: &[u8], value: &[u8]) -> Mem<bool>
+        ensures new { IfOk result (λ is_new. is_new ≡ not (map.contains_key self.old (mark ∷ key.now))) }
+        ensures put { IfOk result (λ is_new. self.new ≡ (if is_new then map.insert self.old (mark ∷ key.now) value.now else self.old)) }
+        ensures err { OnErr result (self.new ≡ self.old) }
+    {
+        let span = span_of(&self.bytes, self.count, mark, key);
+        if span.is_there {
+            return Ok(false);
+        }
+        let entry = packed_entry(*self.bytes.allocator(), mark, key, value)?;
+        put_between(&mut self.bytes, span.start, span.end, entry)?;
+        self.count = count_with(self.count, false);
+        Ok(true)
+    }
+
+    /// Takes the key and its value away, if they are there. It takes no memory.
+    pub(crate) fn remove(&mut self, mark: u8, key: &[u8])
+        ensures { self.new ≡ map.remove self.old (mark ∷ key.now) }
+    {
+        let span = span_of(&self.bytes, self.count, mark, key);
+        if span.is_there {
+            cut_out(&mut self.bytes, span.start, span.end);
+            self.count -= 1;
+        }
+    }
+
+    /// Gives back the memory that no entry takes.
+    pub(crate) fn shrink(&mut self)
+        ensures { self.new ≡ self.old }
+    {
+        self.bytes.shrink_to_fit();
+    }
+
+    /// The entries, in byte order of their keys.
+    pub(crate) fn entries(&self) -> Mem<Vec<(&[u8], &[u8])>>
+        ensures { IfOk result (λ es. each (λ e. (e.0.now, e.1.now)) es.items ≡ map.entries self.now) }
+    {
+        let entries = entries_of(*self.bytes.allocator(), &self.bytes, self.count)?;
+        Ok(entries)
+    }
+
+    /// How many entries there are.
+    pub(crate) fn len(&self) -> usize
+        ensures { result ≡ map.len self.now }
+    {
+        self.count
+    }
+
+    /// The allocator of the bytes.
+    pub(crate) fn allocator(&self) -> Global {
+        *self.bytes.allocator()
+    }
+
+    /// An equal map.
+    pub(crate) fn copy(&self) -> Mem<Self>
+        ensures { IfOk result (λ copy. copy ≡ self.now) }
+    {
+        Ok(Packed {
+            count: self.count,
+            bytes: self.bytes.clone()?,
+        })
+    }
+}
