@@ -1,10 +1,10 @@
 -- What is packed is read again, and the place of a key among entries in order.
-use Rattle.std.proofs.Common.{◌≡◌, ℕ, zero, suc, ◌+◌, ◌-◌, ◌*◌, ◌/◌, ◌%◌, ◌<◌, ◌≤◌, Bool, true, false, cond, not, List, [], ◌∷◌, ◌++◌, length, take, drop, Some, None, Option, refl, sym, ap, subst, ◌∙◌, arith, append_assoc, length-append}
+use Rattle.std.proofs.Common.{◌≡◌, ℕ, zero, suc, ◌+◌, ◌-◌, ◌*◌, ◌/◌, ◌%◌, ◌<◌, ◌≤◌, Bool, true, false, cond, not, List, [], ◌∷◌, ◌++◌, length, take, drop, Some, None, Option, Result, Ok, Err, OnErr, refl, sym, ap, subst, ◌∙◌, arith, append_assoc, length-append}
 use Rattle.std.specs.Prelude.{◌==◌, ◌≢◌, replicate, T, ◌&&◌, is_some, map}
 use Rattle.std.proofs.Math.Seq.{take-append_seam, drop-append_seam}
 use Rattle.std.proofs.Math.Nat.{div-add-mod}
 use Rattle.std.proofs.lemmas.Bool.Decides.{nat_tests}
-use Rattle.std.proofs.lemmas.List.{append-nil, map-append}
+use Rattle.std.proofs.lemmas.List.{append-nil, map-append, length-take, take-append-drop, take-append-le}
 use Rattle.std.specs.declared.cmp.Ordering.{Ordering}
 use Rattle.std.specs.Ordering.{is_lt, is_eq}
 use Rattle.std.specs.Cmp.Lexicographic.{nat_list_cmp_total}
@@ -14,7 +14,7 @@ use Rattle.std.specs.declared.cmp.Ordering.TheVariants.{Less, Equal, Greater}
 use Rattle.dc_text.specs.Maps.{text_cmp}
 use Rattle.dc_text.proofs.MapLemmas.{exact_texts}
 use Rattle.dc_text.proofs.SmallMapLemmas.{without, without_none}
-use Rattle.dc_item.specs.Packed.{packed_length, packed_text, packed, length_at, behind_length, text_at, behind_text, HasText, entries_in, IsPacked, before, from, behind, value_at}
+use Rattle.dc_item.specs.Packed.{packed_length, packed_text, packed, length_at, behind_length, text_at, behind_text, HasText, entries_in, IsPacked, IsBegunBy, before, from, behind, value_at}
 
 -- ---- a length is read again
 
@@ -342,16 +342,35 @@ length_laid n k old mid new so_far whole last =
     ∙ ap (λ j. old ++ (replicate j 255 ++ (n % 255) ∷ [])) whole
 
 -- an entry, written piece by piece
-pub entry_laid : (mark : ℕ) (key value b0 b1 b2 b3 b4 b5 : List ℕ) → b0 ≡ [] → b1 ≡ b0 ++ packed_length (length key + 1) → b2 ≡ b1 ++ mark ∷ [] → b3 ≡ b2 ++ key
-    → b4 ≡ b3 ++ packed_length (length value) → b5 ≡ b4 ++ value → b5 ≡ packed ((mark ∷ key, value) ∷ [])
+pub entry_laid : (mark : ℕ) (key value b0 b1 b2 b3 b4 b5 : List ℕ) → b1 ≡ b0 ++ packed_length (length key + 1) → b2 ≡ b1 ++ mark ∷ [] → b3 ≡ b2 ++ key
+    → b4 ≡ b3 ++ packed_length (length value) → b5 ≡ b4 ++ value → b5 ≡ b0 ++ packed ((mark ∷ key, value) ∷ [])
 unfolding packed_text
-entry_laid mark key value b0 b1 b2 b3 b4 b5 e0 e1 e2 e3 e4 e5 =
+entry_laid mark key value b0 b1 b2 b3 b4 b5 e1 e2 e3 e4 e5 =
     let one_more : length key + 1 ≡ suc (length key) = omega arith in
     let front : List ℕ = packed_length (suc (length key)) in
     let value_length : List ℕ = packed_length (length value) in
-    let laid : ((((front ++ mark ∷ []) ++ key) ++ value_length) ++ value) ≡ (front ++ (mark ∷ key)) ++ ((value_length ++ value) ++ []) = simp (append_assoc, append-nil) in
-    e5 ∙ ap (λ l. l ++ value) (e4 ∙ ap (λ l. l ++ value_length) (e3 ∙ ap (λ l. l ++ key) (e2 ∙ ap (λ l. l ++ mark ∷ []) (e1 ∙ (λ i. e0 i ++ packed_length (one_more i))))))
+    let laid : (((((b0 ++ front) ++ mark ∷ []) ++ key) ++ value_length) ++ value) ≡ b0 ++ ((front ++ (mark ∷ key)) ++ ((value_length ++ value) ++ [])) = simp (append_assoc, append-nil) in
+    e5 ∙ ap (λ l. l ++ value) (e4 ∙ ap (λ l. l ++ value_length) (e3 ∙ ap (λ l. l ++ key) (e2 ∙ ap (λ l. l ++ mark ∷ []) (e1 ∙ ap (λ n. b0 ++ packed_length n) one_more))))
     ∙ laid
+
+-- ---- bytes that begin as before
+
+pub begun_more : (front more bytes : List ℕ) → bytes ≡ front ++ more → IsBegunBy front bytes
+begun_more front more bytes is = ap (take (length front)) is ∙ take-append_seam front more
+
+pub begun_same : (front bytes new : List ℕ) → new ≡ bytes → IsBegunBy front bytes → IsBegunBy front new
+begun_same front bytes new is begun = ap (take (length front)) is ∙ begun
+
+pub begun_on : (front bytes new : List ℕ) → IsBegunBy front bytes → IsBegunBy bytes new → IsBegunBy front new
+begun_on front bytes new one two =
+    let fits : length front ≤ length bytes = omega (arith, ap length one, length-take (length front) bytes) in
+    let split : new ≡ bytes ++ drop (length bytes) new = sym (take-append-drop (length bytes) new) ∙ ap (λ l. l ++ drop (length bytes) new) two in
+    ap (take (length front)) split ∙ take-append-le (length front) bytes (drop (length bytes) new) fits ∙ one
+
+-- what holds anyway holds where memory runs out
+pub on_err : {A E P : Type 0} (r : Result A E) → P → OnErr r P
+on_err (Ok x) p = tt
+on_err (Err e) p = p
 
 -- ---- the map of packed entries
 

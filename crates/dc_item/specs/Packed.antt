@@ -47,6 +47,10 @@ entries_in (suc count) bytes = (text_at bytes, text_at (behind_text bytes)) ∷ 
 abbrev pub IsPacked : ℕ → List ℕ → Type 0
 IsPacked count bytes = packed (entries_in count bytes) ≡ bytes
 
+-- the bytes begin with those of the first list
+abbrev pub IsBegunBy : List ℕ → List ℕ → Type 0
+IsBegunBy front bytes = take (length front) bytes ≡ front
+
 -- the entries before the place of a key, among entries in order
 abbrev pub before : List ℕ → List (List ℕ × List ℕ) → List (List ℕ × List ℕ)
 before key [] = []

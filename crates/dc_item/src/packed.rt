@@ -3,7 +3,7 @@ ghost use Rattle.std.specs.Prelude.{◌≡◌, ◌++◌, ◌∷◌, ◌≤◌, �
 ghost use Rattle.std.specs.Option.{option_copied};
 ghost use Rattle.std.specs.FinMap as map;
 ghost use Rattle.dc_text.specs.Maps.{text_cmp};
-ghost use Rattle.dc_item.specs.Packed.{packed_length, packed_text, packed, length_at, behind_length, text_at, behind_text, HasText, entries_in, IsPacked, before, from, behind, value_at};
+ghost use Rattle.dc_item.specs.Packed.{packed_length, packed_text, packed, length_at, behind_length, text_at, behind_text, HasText, entries_in, IsPacked, IsBegunBy, before, from, behind, value_at};
 
 use dc_text::Mem;
 use std::alloc::Global;
@@ -125,14 +125,15 @@ fn span_of(bytes: &[u8], count: usize, mark: u8, key: &[u8]) -> Span
     }
 }
 
-// Puts a length behind the bytes.
-fn push_length(bytes: &mut Vec<u8>, length: usize) -> Mem<()>
-    ensures { OnOk result (bytes.new.items ≡ bytes.old.items ++ packed_length length) }
+// Puts a length behind the bytes. Where memory runs out, part of it may stand there.
+fn push_length(bytes: &mut Vec<u8>, count: usize) -> Mem<()>
+    ensures ok { OnOk result (bytes.new.items ≡ bytes.old.items ++ packed_length count) }
+    ensures err { OnErr result (IsBegunBy bytes.old.items bytes.new.items) }
 {
-    for _ in 0..length / 255 {
+    for _ in 0..count / 255 {
         bytes.push(255)?;
     }
-    bytes.push((length % 255) as u8)?;
+    bytes.push((count % 255) as u8)?;
     Ok(())
 }
 
@@ -142,48 +143,74 @@ fn room_for(key: usize, value: usize) -> usize {
     texts.saturating_add(texts / 255).saturating_add(3)
 }
 
-// An entry, packed.
-fn packed_entry(alloc: Global, mark: u8, key: &[u8], value: &[u8]) -> Mem<Vec<u8>>
-    ensures { IfOk result (λ bytes. bytes.items ≡ packed ((mark ∷ key.now, value.now) ∷ [])) }
+// Writes an entry behind the bytes. Where memory runs out, part of it may stand there.
+fn write_entry(bytes: &mut Vec<u8>, mark: u8, key: &[u8], value: &[u8]) -> Mem<()>
+    ensures ok { OnOk result (bytes.new.items ≡ bytes.old.items ++ packed ((mark ∷ key.now, value.now) ∷ [])) }
+    ensures err { OnErr result (IsBegunBy bytes.old.items bytes.new.items) }
 {
-    let mut bytes = Vec::with_capacity(alloc, room_for(key.len(), value.len()))?;
-    push_length(&mut bytes, key.len() + 1)?;
+    push_length(bytes, key.len() + 1)?;
     bytes.push(mark)?;
     bytes.extend_from_slice(key)?;
-    push_length(&mut bytes, value.len())?;
+    push_length(bytes, value.len())?;
     bytes.extend_from_slice(value)?;
-    Ok(bytes)
+    Ok(())
 }
 
-// The three pieces one behind the other, with no room to spare.
-fn joined(alloc: Global, front: &[u8], middle: &[u8], back: &[u8]) -> Mem<Vec<u8>>
-    ensures { IfOk result (λ bytes. bytes.items ≡ front.now ++ (middle.now ++ back.now)) }
+// Puts an entry behind the bytes, with room for more. The first one takes no more room than it needs.
+fn push_entry(bytes: &mut Vec<u8>, mark: u8, key: &[u8], value: &[u8]) -> Mem<()>
+    ensures ok { OnOk result (bytes.new.items ≡ bytes.old.items ++ packed ((mark ∷ key.now, value.now) ∷ [])) }
+    ensures err { OnErr result (bytes.new.items ≡ bytes.old.items) }
 {
-    let count = front
-        .len()
-        .saturating_add(middle.len())
-        .saturating_add(back.len());
-    let mut bytes = Vec::with_capacity(alloc, count)?;
+    let before = bytes.len();
+    bytes.reserve(room_for(key.len(), value.len()))?;
+    match write_entry(bytes, mark, key, value) {
+        Ok(()) => Ok(()),
+        Err(error) => {
+            bytes.truncate(before);
+            Err(error)
+        }
+    }
+}
+
+// The bytes in front, an entry, and the bytes behind it.
+fn joined(
+    alloc: Global,
+    front: &[u8],
+    mark: u8,
+    key: &[u8],
+    value: &[u8],
+    back: &[u8],
+) -> Mem<Vec<u8>>
+    ensures { IfOk result (λ bytes. bytes.items ≡ front.now ++ (packed ((mark ∷ key.now, value.now) ∷ []) ++ back.now)) }
+{
+    let others = front.len().saturating_add(back.len());
+    let room = room_for(key.len(), value.len()).saturating_add(others);
+    let mut bytes = Vec::with_capacity(alloc, room)?;
     bytes.extend_from_slice(front)?;
-    bytes.extend_from_slice(middle)?;
+    write_entry(&mut bytes, mark, key, value)?;
     bytes.extend_from_slice(back)?;
     Ok(bytes)
 }
 
-// Puts the piece between the bytes before the start and those from the end on. What comes last is put behind the others,
-// with room for more; the first takes no more room than it needs.
-fn put_between(bytes: &mut Vec<u8>, start: usize, end: usize, piece: Vec<u8>) -> Mem<()>
-    requires ordered { start ≤ end }
-    requires in_range { end ≤ length bytes.old.items }
-    ensures ok { OnOk result (bytes.new.items ≡ take start bytes.old.items ++ (piece.items ++ drop end bytes.old.items)) }
+// Puts an entry between the bytes before the start and those from the end on.
+fn put_between(bytes: &mut Vec<u8>, span: Span, mark: u8, key: &[u8], value: &[u8]) -> Mem<()>
+    requires ordered { span.start ≤ span.end }
+    requires in_range { span.end ≤ length bytes.old.items }
+    ensures ok { OnOk result (bytes.new.items ≡ take span.start bytes.old.items ++ (packed ((mark ∷ key.now, value.now) ∷ []) ++ drop span.end bytes.old.items)) }
     ensures err { OnErr result (bytes.new.items ≡ bytes.old.items) }
 {
-    if bytes.is_empty() {
-        *bytes = piece;
-    } else if start == bytes.len() {
-        bytes.extend_from_slice(&piece)?;
+    if span.start == bytes.len() {
+        push_entry(bytes, mark, key, value)?;
     } else {
-        *bytes = joined(*bytes.allocator(), &bytes[..start], &piece, &bytes[end..])?;
+        let whole = joined(
+            *bytes.allocator(),
+            &bytes[..span.start],
+            mark,
+            key,
+            value,
+            &bytes[span.end..],
+        )?;
+        *bytes = whole;
     }
     Ok(())
 }
@@ -273,8 +300,7 @@ impl Packed {
         ensures err { OnErr result (self.new ≡ self.old) }
     {
         let span = span_of(&self.bytes, self.count, mark, key);
-        let entry = packed_entry(*self.bytes.allocator(), mark, key, value)?;
-        put_between(&mut self.bytes, span.start, span.end, entry)?;
+        put_between(&mut self.bytes, span, mark, key, value)?;
         self.count = count_with(self.count, span.is_there);
         Ok(())
     }
@@ -289,8 +315,7 @@ impl Packed {
         if span.is_there {
             return Ok(false);
         }
-        let entry = packed_entry(*self.bytes.allocator(), mark, key, value)?;
-        put_between(&mut self.bytes, span.start, span.end, entry)?;
+        put_between(&mut self.bytes, span, mark, key, value)?;
         self.count = count_with(self.count, false);
         Ok(true)
     }

@@ -1,4 +1,4 @@
-use Rattle.std.proofs.Common.{◌∷◌, ap, ◌∙◌, arith}
+use Rattle.std.proofs.Common.{refl, ◌∷◌, ap, ◌∙◌, arith}
 use Rattle.std.specs.FinMap as map
 use Rattle.dc_text.proofs.SmallMapLemmas.{is_sorted_put, from_sorted_put}
 use Rattle.dc_item.specs.Packed.{entries_in}
@@ -15,7 +15,7 @@ invariant_of-self-2 c =
     let starts = rw c.deref.ensures.value at c.span_of-span.ensures.start in
     let ends = rw c.deref.ensures.value at c.span_of-span.ensures.end in
     let there = rw c.deref.ensures.value at c.span_of-span.ensures.is_there in
-    let is = put_packed q c.self.inside.count c.self.inside.bytes.items span.start span.end span.is_there starts ends there c.args.value.now c.count_with-self-inside.result c.in_ok-entry.entry.items c.put_between.new.bytes.items c.in_ok-entry.ensures c.in_ok-put_between.ensures.ok c.count_with-self-inside.ensures in
+    let is = put_packed q c.self.inside.count c.self.inside.bytes.items span.start span.end span.is_there starts ends there c.args.value.now c.count_with-self-inside.result _ c.put_between.new.bytes.items refl c.in_ok-put_between.ensures.ok c.count_with-self-inside.ensures in
     (is.1, is_sorted_put q c.args.value.now (entries_in c.self.inside.count c.self.inside.bytes.items) _ c.self.invariant.1 is.0)
 
 pub returns-clause-ok : goal.returns-clause-ok
@@ -25,6 +25,6 @@ returns-clause-ok c =
     let starts = rw c.deref.ensures.value at c.span_of-span.ensures.start in
     let ends = rw c.deref.ensures.value at c.span_of-span.ensures.end in
     let there = rw c.deref.ensures.value at c.span_of-span.ensures.is_there in
-    let is = put_packed q c.self.inside.count c.self.inside.bytes.items span.start span.end span.is_there starts ends there c.args.value.now c.count_with-self-inside.result c.in_ok-entry.entry.items c.put_between.new.bytes.items c.in_ok-entry.ensures c.in_ok-put_between.ensures.ok c.count_with-self-inside.ensures in
+    let is = put_packed q c.self.inside.count c.self.inside.bytes.items span.start span.end span.is_there starts ends there c.args.value.now c.count_with-self-inside.result _ c.put_between.new.bytes.items refl c.in_ok-put_between.ensures.ok c.count_with-self-inside.ensures in
     from_sorted_put q c.args.value.now (entries_in c.self.inside.count c.self.inside.bytes.items) _ c.self.invariant.1 is.0
     ∙ ap (λ m. map.insert m q c.args.value.now) c.self.view_is
