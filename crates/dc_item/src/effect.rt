@@ -94,11 +94,11 @@ impl Item {
     }
 }
 
-fn is_value(held: Option<&Settled>, value: &Settled) -> bool
+fn is_value(held: Option<&[u8]>, value: &Settled) -> bool
     ensures { result ≡ option_map_or (λ bytes. bytes_eq bytes value.now) (option_copied held.entry) false }
 {
     match held {
-        Some(held) => held.bytes() == value.bytes(),
+        Some(held) => held == value.bytes(),
         None => false,
     }
 }

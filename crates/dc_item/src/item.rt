@@ -54,10 +54,13 @@ impl Item {
     }
 
     /// The value of the field, if the item has it. Keys are in lower case.
-    pub fn field(&self, key: &[u8]) -> Option<&Settled>
+    pub fn field(&self, key: &[u8]) -> Option<&[u8]>
         ensures { option_copied result ≡ map.get self.now.fields key.now }
     {
-        self.fields.get(key)
+        match self.fields.get(key) {
+            Some(value) => Some(value.bytes()),
+            None => None,
+        }
     }
 
     /// Whether the flag is true.
@@ -68,14 +71,24 @@ impl Item {
     }
 
     /// The value of the variable, if the item has it.
-    pub fn var(&self, key: &[u8]) -> Option<&Settled>
+    pub fn var(&self, key: &[u8]) -> Option<&[u8]>
         ensures { option_copied result ≡ map.get self.now.variables key.now }
     {
-        self.variables.get(key)
+        match self.variables.get(key) {
+            Some(value) => Some(value.bytes()),
+            None => None,
+        }
     }
 
     /// The owners, in byte order.
-    pub fn owners(&self) -> &List<Name>
+    pub fn owners(&self) -> Mem<List<Name>>
+        ensures owners { IfOk result (λ owners. owners ≡ map.keys self.now.owners) }
+        ensures item { IsItem self.now }
+    {
+        self.owners.copy()
+    }
+
+    pub(crate) fn owner_list(&self) -> &List<Name>
         ensures owners { result.now ≡ map.keys self.now.owners }
         ensures item { IsItem self.now }
     {
@@ -94,8 +107,7 @@ impl Item {
         &self.flags
     }
 
-    /// The variables, which texts of the template may refer to.
-    pub fn variables(&self) -> &SmallMap<Settled>
+    pub(crate) fn variables(&self) -> &SmallMap<Settled>
         ensures { result.now ≡ self.now.variables }
     {
         &self.variables

@@ -58,7 +58,7 @@ pub fn print_record(alloc: Global, text: &mut Text, name: &[u8], item: &Item) ->
     text.append(name)?;
     text.push(b'\n')?;
     print_fields(alloc, text, item.fields())?;
-    print_owners(text, item.owners())?;
+    print_owners(text, item.owner_list())?;
     print_flags(text, item.flags())?;
     print_variables(alloc, text, item.variables())?;
     text.push(b'\n')?;

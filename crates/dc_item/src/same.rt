@@ -39,7 +39,7 @@ impl Item {
         are_same(self.fields(), other.fields())
             && are_same_sets(self.flags(), other.flags())
             && are_same(self.variables(), other.variables())
-            && are_same_names(self.owners(), other.owners())
+            && are_same_names(self.owner_list(), other.owner_list())
     }
 }
 
