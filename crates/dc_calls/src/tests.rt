@@ -40,7 +40,7 @@ fn made_of_none(alloc: Global) -> Option<Text> {
     let After::Same = Op::AddOwner(entry.name).at(None).ok()? else {
         return None;
     };
-    Text::from_bytes(alloc, item.field(b"value")?.bytes()).ok()
+    Text::from_bytes(alloc, item.field(b"value")?).ok()
 }
 
 const CONF: &[u8] =

@@ -129,7 +129,7 @@ fn held_values(alloc: Global, used: &[Box<dyn Layer>], name: Option<&Name>) -> O
         {
             let head = format!(in alloc; "- database {place} holds ").ok()?;
             told.append(head.as_bytes()).ok()?;
-            told.append(value.bytes()).ok()?;
+            told.append(value).ok()?;
             told.push(b'\n').ok()?;
         }
     }

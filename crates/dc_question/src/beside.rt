@@ -189,9 +189,9 @@ impl<'q> Questions<'q> {
         ensures { result ≡ item_kind_of (each (λ b. state (b.vtable, b.value)) self.now.store.now.layers.items) self.now.setting kinds.now (option_copied item.entry) }
     {
         let template = item?.field(b"template")?;
-        match kinds.get(template.bytes()) {
+        match kinds.get(template) {
             Some(kind) => *kind,
-            None => kind(self.named_template(template.bytes())),
+            None => kind(self.named_template(template)),
         }
     }
 }

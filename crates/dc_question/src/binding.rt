@@ -118,7 +118,7 @@ pub fn has_other_template(template: &Name, item: Option<&Item>) -> bool
         None => false,
         Some(item) => match item.field(b"template") {
             None => true,
-            Some(bound) => template.bytes() != bound.bytes(),
+            Some(bound) => template.bytes() != bound,
         },
     }
 }

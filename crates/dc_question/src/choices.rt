@@ -37,7 +37,7 @@ fn plain(alloc: Global, question: &Item, template: &Item) -> Mem<List<Text>>
 {
     let text: &[u8] = match template.field(b"choices") {
         None => b"",
-        Some(text) => text.bytes(),
+        Some(text) => text,
     };
     let filled = fill_in(alloc, question, b"choices", text)?;
     split_choices(alloc, filled.bytes())

@@ -7,8 +7,8 @@ ghost use Rattle.dc_text.specs.Bytes.{lower};
 ghost use Rattle.dc_text.specs.Names.{is_field_key};
 
 use dc_item::Item;
-use dc_template::{expand, is_description, is_extended, keys_tried};
-use dc_text::{FieldKey, List, Mem, Settled, Text};
+use dc_template::{Variables, expand, is_description, is_extended, keys_tried};
+use dc_text::{FieldKey, List, Mem, Text};
 use std::alloc::Global;
 
 /// A field of a template in the user's language (debconf-devel(7), localised templates). The field `type` is in no
@@ -18,7 +18,7 @@ pub fn localised<'t>(
     lang: &[u8],
     template: &'t Item,
     key: &FieldKey,
-) -> Mem<Option<&'t Settled>>
+) -> Mem<Option<&'t [u8]>>
     ensures { IfOk result (λ found. option_copied found ≡ localised_of lang.now template.now key.now) }
 {
     let keys = keys(alloc, lang, key)?;
@@ -36,7 +36,7 @@ fn keys(alloc: Global, lang: &[u8], key: &FieldKey) -> Mem<List<FieldKey>>
     keys_tried(alloc, lang, key)
 }
 
-fn first_of<'t>(template: &'t Item, keys: &[FieldKey]) -> Option<&'t Settled>
+fn first_of<'t>(template: &'t Item, keys: &[FieldKey]) -> Option<&'t [u8]>
     ensures { option_copied result ≡ first_of_keys template.now.fields keys.now }
 {
     let mut rest = keys;
@@ -62,7 +62,21 @@ pub fn field(
 {
     match localised(alloc, lang, template, key)? {
         None => Ok(None),
-        Some(text) => Ok(Some(fill_in(alloc, question, key.bytes(), text.bytes())?)),
+        Some(text) => Ok(Some(fill_in(alloc, question, key.bytes(), text)?)),
+    }
+}
+
+// The variables of a question.
+#[derive(Drop)]
+struct QuestionVariables<'q> {
+    question: &'q Item,
+}
+
+impl<'q> Variables for QuestionVariables<'q> {
+    ghost values = { λ v. v.question.now.variables };
+
+    fn value(&self, key: &[u8]) -> Option<&[u8]> {
+        self.question.var(key)
     }
 }
 
@@ -71,7 +85,7 @@ pub fn fill_in(alloc: Global, question: &Item, key: &[u8], text: &[u8]) -> Mem<T
     ensures { IfOk result (λ filled. filled ≡ filled_in question.now key.now text.now) }
 {
     if has_references(key) {
-        expand(alloc, text, question.variables())
+        expand(alloc, text, &QuestionVariables { question })
     } else {
         Text::from_bytes(alloc, text)
     }

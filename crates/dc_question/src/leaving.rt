@@ -136,7 +136,7 @@ impl<'q> Questions<'q> {
         let Some(template) = item.field(b"template") else {
             return Ok(None);
         };
-        self.template_named(template.bytes())
+        self.template_named(template)
     }
 
     // The writes by which the owner leaves the questions.

@@ -131,7 +131,7 @@ fn keep_owners(item: &mut Item, old: Option<&Item>) -> Mem<()>
 {
     match old {
         None => Ok(()),
-        Some(old) => add_owners(item, old.owners().as_slice()),
+        Some(old) => add_owners(item, old.owners()?.as_slice()),
     }
 }
 

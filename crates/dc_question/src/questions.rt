@@ -97,7 +97,7 @@ impl<'q> Questions<'q> {
         ensures { IfOk result (λ value. value ≡ value_by self.now.setting.lang item.now (template_of (each (λ b. state (b.vtable, b.value)) self.now.store.now.layers.items) self.now.setting item.now)) }
     {
         match item.field(b"value") {
-            Some(value) => Text::from_bytes(self.alloc, value.bytes()),
+            Some(value) => Text::from_bytes(self.alloc, value),
             None => default_value(self.alloc, self.setting.lang.bytes(), self.template(item)),
         }
     }
@@ -116,7 +116,7 @@ impl<'q> Questions<'q> {
         };
         match localised(self.alloc, self.setting.lang.bytes(), template, key)? {
             None => Err(QuestionError::NoField),
-            Some(text) => Ok(Text::from_bytes(self.alloc, text.bytes())?),
+            Some(text) => Ok(Text::from_bytes(self.alloc, text)?),
         }
     }
 
@@ -174,7 +174,7 @@ impl<'q> Questions<'q> {
         ensures { option_copied result ≡ template_of (each (λ b. state (b.vtable, b.value)) self.now.store.now.layers.items) self.now.setting item.now }
     {
         let name = item.field(b"template")?;
-        self.named_template(name.bytes())
+        self.named_template(name)
     }
 
     // The template of this name.

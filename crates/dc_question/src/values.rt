@@ -24,7 +24,7 @@ fn kind_of_item(template: &Item) -> Option<Kind>
 {
     match template.field(b"type") {
         None => None,
-        Some(word) => Kind::read(word.bytes()),
+        Some(word) => Kind::read(word),
     }
 }
 
@@ -34,7 +34,7 @@ pub fn value(alloc: Global, lang: &[u8], question: &Item, template: Option<&Item
     ensures { IfOk result (λ value. value ≡ value_of lang.now question.now (option_copied template.entry)) }
 {
     match question.field(b"value") {
-        Some(value) => Text::from_bytes(alloc, value.bytes()),
+        Some(value) => Text::from_bytes(alloc, value),
         None => default_value(alloc, lang, template),
     }
 }
@@ -55,6 +55,6 @@ fn default_in(alloc: Global, lang: &[u8], template: &Item) -> Mem<Text>
     let key = FieldKey::known(alloc, b"default")?;
     match localised(alloc, lang, template, &key)? {
         None => Ok(Text::new(alloc)),
-        Some(value) => Text::from_bytes(alloc, value.bytes()),
+        Some(value) => Text::from_bytes(alloc, value),
     }
 }

@@ -13,7 +13,7 @@ pub mod printing;
 pub mod reading;
 pub mod template;
 
-pub use expansion::expand;
+pub use expansion::{Variables, expand};
 pub use faults::{TemplateError, TemplateKind};
 pub use forms::{is_description, is_extended};
 pub use kinds::Kind;

@@ -3,8 +3,8 @@ use Rattle.std.specs.Option.{option_copied}
 use Rattle.dc_question.proofs.LoadLemmas.{kept_owners}
 use Rattle.dc_question.proofs.loading.keep_owners.Goals as goal
 
-pub returns-in-Some : goal.returns-in-Some
-returns-in-Some c =
+pub returns-in_ok-owners-in-Some : goal.returns-in_ok-owners-in-Some
+returns-in_ok-owners-in-Some c =
     subst (λ s. OnOk c.add_owners.result (c.add_owners.new.item ≡ record c.args.item.now { owners = s }))
-    (kept_owners (option_copied c.args.old) c.in-Some.old.now c.as_slice.result.now (c.as_slice.ensures ∙ c.owners.ensures.owners) (ap option_copied c.in-Some.is))
+    (kept_owners (option_copied c.args.old) c.in-Some.old.now c.as_slice-in-Some.result.now (c.as_slice-in-Some.ensures ∙ c.in_ok-owners-in-Some.ensures.owners) (ap option_copied c.in-Some.is))
     c.add_owners.ensures

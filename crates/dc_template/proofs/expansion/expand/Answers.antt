@@ -5,11 +5,11 @@ use Rattle.dc_template.proofs.ExpansionLemmas.{unclosed, parted}
 use Rattle.dc_template.proofs.expansion.expand.Goals as goal
 
 pub append_expanded-requires : goal.append_expanded-requires
-append_expanded-requires c = ap closes c.in-Some.ensures.1 ∙ (apart_at 125 c.loop-front.rest.now c.in-Some.ensures.0).1
+append_expanded-requires g c = ap closes c.in-Some.ensures.1 ∙ (apart_at 125 c.loop-front.rest.now c.in-Some.ensures.0).1
 
 pub loop-front-preserved : goal.loop-front-preserved
-loop-front-preserved c =
-    let v = c.args.variables.now in
+loop-front-preserved g c =
+    let v = g.V.Variables.values c.args.variables.now in
     let front : List ℕ = c.in-Some.front.now in
     let after : List ℕ = c.in-Some.after.now in
     let free : closes front ≡ _ = ap closes c.in-Some.ensures.1 ∙ (apart_at 125 c.loop-front.rest.now c.in-Some.ensures.0).1 in
@@ -20,6 +20,6 @@ loop-front-preserved c =
     ∙ c.loop-front.invariant
 
 pub returns : goal.returns
-returns c =
+returns g c =
     c.in_ok-append.ensures.ok
-    ∙ ap (λ (t : List ℕ). c.loop-front.out ++ t) (sym (unclosed c.args.variables.now c.loop-front.rest.now c.in_default.ensures)) ∙ c.loop-front.invariant
+    ∙ ap (λ (t : List ℕ). c.loop-front.out ++ t) (sym (unclosed (g.V.Variables.values c.args.variables.now) c.loop-front.rest.now c.in_default.ensures)) ∙ c.loop-front.invariant
