@@ -10,6 +10,9 @@ use std::alloc::Global;
 use std::cmp::Ordering;
 use std::marker::Model;
 
+// How many bytes most items take.
+const USUAL_ROOM: usize = 120;
+
 // The length at the front of the bytes, and what stands behind it.
 fn split_length(bytes: &[u8]) -> (usize, &[u8])
     requires { HasText bytes.now }
@@ -143,6 +146,16 @@ fn room_for(key: usize, value: usize) -> usize {
     texts.saturating_add(texts / 255).saturating_add(3)
 }
 
+// How much room is made behind so many bytes for an entry that takes so many: at first as much as most items take, so that one
+// that grows entry by entry isn't moved for each.
+fn room_behind(count: usize, entry: usize) -> usize {
+    if count == 0 {
+        entry.max(USUAL_ROOM)
+    } else {
+        entry
+    }
+}
+
 // Writes an entry behind the bytes. Where memory runs out, part of it may stand there.
 fn write_entry(bytes: &mut Vec<u8>, mark: u8, key: &[u8], value: &[u8]) -> Mem<()>
     ensures ok { OnOk result (bytes.new.items ≡ bytes.old.items ++ packed ((mark ∷ key.now, value.now) ∷ [])) }
@@ -156,13 +169,13 @@ fn write_entry(bytes: &mut Vec<u8>, mark: u8, key: &[u8], value: &[u8]) -> Mem<(
     Ok(())
 }
 
-// Puts an entry behind the bytes, with room for more. The first one takes no more room than it needs.
+// Puts an entry behind the bytes, with room for more.
 fn push_entry(bytes: &mut Vec<u8>, mark: u8, key: &[u8], value: &[u8]) -> Mem<()>
     ensures ok { OnOk result (bytes.new.items ≡ bytes.old.items ++ packed ((mark ∷ key.now, value.now) ∷ [])) }
     ensures err { OnErr result (bytes.new.items ≡ bytes.old.items) }
 {
     let before = bytes.len();
-    bytes.reserve(room_for(key.len(), value.len()))?;
+    bytes.reserve(room_behind(before, room_for(key.len(), value.len())))?;
     match write_entry(bytes, mark, key, value) {
         Ok(()) => Ok(()),
         Err(error) => {
