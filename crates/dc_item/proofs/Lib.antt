@@ -8,6 +8,7 @@ pub mod ManyLemmas
 pub mod NamesReadLemmas
 pub mod OpenRecord
 pub mod OwnerPlaces
+pub mod LastLemmas
 pub mod PackedLemmas
 pub mod PartLemmas
 pub mod PieceLemmas

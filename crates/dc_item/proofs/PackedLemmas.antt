@@ -203,7 +203,7 @@ met q count bytes k rest some is_packed key is equal =
 
 -- ---- the place of a key
 
-by_place : (q : List ℕ) (e : List ℕ × List ℕ) (P : Ordering → Type 0) → (text_cmp q e.0 ≡ Less → P Less) → (text_cmp q e.0 ≡ Equal → P Equal) → (text_cmp q e.0 ≡ Greater → P Greater) → P (text_cmp q e.0)
+pub by_place : (q : List ℕ) (e : List ℕ × List ℕ) (P : Ordering → Type 0) → (text_cmp q e.0 ≡ Less → P Less) → (text_cmp q e.0 ≡ Equal → P Equal) → (text_cmp q e.0 ≡ Greater → P Greater) → P (text_cmp q e.0)
 by_place q e P less equal greater = elim (text_cmp q e.0) as (λ o. text_cmp q e.0 ≡ o → P o) [ Less ↦ less | Equal ↦ equal | Greater ↦ greater ] refl
 
 pub before-from : (q : List ℕ) (es : List (List ℕ × List ℕ)) → before q es ++ from q es ≡ es
@@ -233,15 +233,15 @@ length-place q (e ∷ es) =
     by_place q e (λ o. length (by_order o [] [] (e ∷ before q es)) + cond (is_some (by_order o None (Some e.1) (value_at q es))) 1 0 + length (by_order o (e ∷ es) es (behind q es)) ≡ suc (length es))
     (λ _. omega arith) (λ _. omega arith) (λ _. omega (arith, length-place q es))
 
-first : (a b : Bool) → T (a && b) → T a
+pub first : (a b : Bool) → T (a && b) → T a
 first true b p = tt
 first false b p = p
 
-second : (a b : Bool) → T (a && b) → T b
+pub second : (a b : Bool) → T (a && b) → T b
 second true b p = p
 second false b p = absurd p
 
-less : (o : Ordering) → T (is_lt o) → o ≡ Less
+pub less : (o : Ordering) → T (is_lt o) → o ≡ Less
 less Less p = refl
 less Equal p = absurd p
 less Greater p = absurd p
@@ -378,7 +378,7 @@ length-packed_text : (text : List ℕ) → 1 ≤ length (packed_text text)
 unfolding packed_text packed_length
 length-packed_text text = omega (arith, length-append (replicate (length text / 255) 255 ++ (length text % 255) ∷ []) text, length-append (replicate (length text / 255) 255) ((length text % 255) ∷ []))
 
-length-packed : (es : List (List ℕ × List ℕ)) → length es ≤ length (packed es)
+pub length-packed : (es : List (List ℕ × List ℕ)) → length es ≤ length (packed es)
 length-packed [] = omega arith
 length-packed (e ∷ es) =
     omega (arith, length-packed es, length-packed_text e.0, length-append (packed_text e.0) (packed_text e.1 ++ packed es), length-append (packed_text e.1) (packed es))

@@ -47,6 +47,10 @@ entries_in (suc count) bytes = (text_at bytes, text_at (behind_text bytes)) ∷ 
 abbrev pub IsPacked : ℕ → List ℕ → Type 0
 IsPacked count bytes = packed (entries_in count bytes) ≡ bytes
 
+-- the last entry takes so many bytes, or none is known to be the last, which is said by 0
+abbrev pub IsLast : ℕ → List (List ℕ × List ℕ) → Type 0
+IsLast count entries = (front : List (List ℕ × List ℕ)) × (last : List (List ℕ × List ℕ)) × (entries ≡ front ++ last) × (length last ≤ 1) × (count ≡ length (packed last))
+
 -- the bytes begin with those of the first list
 abbrev pub IsBegunBy : List ℕ → List ℕ → Type 0
 IsBegunBy front bytes = take (length front) bytes ≡ front

@@ -1,9 +1,9 @@
 // Few entries of a map from texts, packed into one piece of memory.
-ghost use Rattle.std.specs.Prelude.{◌≡◌, ◌++◌, ◌∷◌, ◌≤◌, ◌+◌, ◌^◌, [], OnOk, OnErr, IfOk, if◌then◌else◌, is_some, not, length, take, drop, map as each};
+ghost use Rattle.std.specs.Prelude.{T, ◌≡◌, ◌++◌, ◌∷◌, ◌≤◌, ◌+◌, ◌^◌, [], OnOk, OnErr, IfOk, if◌then◌else◌, is_some, not, length, take, drop, map as each};
 ghost use Rattle.std.specs.Option.{option_copied};
 ghost use Rattle.std.specs.FinMap as map;
 ghost use Rattle.dc_text.specs.Maps.{text_cmp};
-ghost use Rattle.dc_item.specs.Packed.{packed_length, packed_text, packed, length_at, behind_length, text_at, behind_text, HasText, entries_in, IsPacked, IsBegunBy, before, from, behind, value_at};
+ghost use Rattle.dc_item.specs.Packed.{packed_length, packed_text, packed, length_at, behind_length, text_at, behind_text, HasText, entries_in, IsPacked, IsLast, IsBegunBy, before, from, behind, value_at};
 
 use dc_text::Mem;
 use std::alloc::Global;
@@ -128,6 +128,31 @@ fn span_of(bytes: &[u8], count: usize, mark: u8, key: &[u8]) -> Span
     }
 }
 
+// The span of a key to be put. Mostly it is above all others, which the last entry tells, where it is known how many bytes that takes.
+fn span_to_put(bytes: &[u8], count: usize, last: usize, mark: u8, key: &[u8]) -> Span
+    requires packed { IsPacked count bytes.now }
+    requires sorted { T (map.is_sorted text_cmp (entries_in count bytes.now)) }
+    requires last { IsLast last (entries_in count bytes.now) }
+    ensures start { take result.start bytes.now ≡ packed (before (mark ∷ key.now) (entries_in count bytes.now)) }
+    ensures end { drop result.end bytes.now ≡ packed (behind (mark ∷ key.now) (entries_in count bytes.now)) }
+    ensures ordered { result.start ≤ result.end }
+    ensures in_range { result.end ≤ length bytes.now }
+    ensures is_there { result.is_there ≡ is_some (value_at (mark ∷ key.now) (entries_in count bytes.now)) }
+{
+    if 0 < last {
+        let (_, entry) = bytes.split_at(bytes.len() - last);
+        let (last_key, _) = split_text(entry);
+        if let Ordering::Greater = compare(mark, key, last_key) {
+            return Span {
+                start: bytes.len(),
+                end: bytes.len(),
+                is_there: false,
+            };
+        }
+    }
+    span_of(bytes, count, mark, key)
+}
+
 // Puts a length behind the bytes. Where memory runs out, part of it may stand there.
 fn push_length(bytes: &mut Vec<u8>, count: usize) -> Mem<()>
     ensures ok { OnOk result (bytes.new.items ≡ bytes.old.items ++ packed_length count) }
@@ -247,6 +272,13 @@ fn count_with(count: usize, is_there: bool) -> usize
     if is_there { count } else { count + 1 }
 }
 
+// How many bytes the last entry takes after a change at the end, which leaves so many there, or before it.
+fn last_with(last: usize, is_at_end: bool, at_end: usize) -> usize
+    ensures { result ≡ (if is_at_end then at_end else last) }
+{
+    if is_at_end { at_end } else { last }
+}
+
 // So many packed entries as a list.
 fn entries_of<'a>(alloc: Global, bytes: &'a [u8], count: usize) -> Mem<Vec<(&'a [u8], &'a [u8])>>
     requires { IsPacked count bytes.now }
@@ -266,10 +298,12 @@ fn entries_of<'a>(alloc: Global, bytes: &'a [u8], count: usize) -> Mem<Vec<(&'a 
 }
 
 /// Entries of a map from texts, in byte order of the keys, packed into one piece of memory. To find a key is to go over those
-/// before it.
+/// before it, but for one above all others, which is known from the last entry.
 #[derive(Drop)]
 pub(crate) struct Packed {
     count: usize,
+    // How many bytes the last entry takes, or 0 where that isn't known.
+    last: usize,
     bytes: Vec<u8>,
 }
 
@@ -278,7 +312,7 @@ impl Model for Packed {
     ghost use Rattle.std.specs.FinMap as map;
     ghost use Rattle.std.specs.Coded.{coded_ℕ, coded_list};
     ghost use Rattle.dc_text.specs.Maps.{text_cmp};
-    ghost use Rattle.dc_item.specs.Packed.{entries_in, IsPacked};
+    ghost use Rattle.dc_item.specs.Packed.{entries_in, IsPacked, IsLast};
 
     ghost Value = { map.FinMap text_cmp (List ℕ) };
 
@@ -286,7 +320,7 @@ impl Model for Packed {
 
     ghost view = { λ p. map.from_sorted (entries_in p.count p.bytes.items) };
 
-    ghost invariant = { λ p. IsPacked p.count p.bytes.items × T (map.is_sorted text_cmp (entries_in p.count p.bytes.items)) };
+    ghost invariant = { λ p. IsPacked p.count p.bytes.items × T (map.is_sorted text_cmp (entries_in p.count p.bytes.items)) × IsLast p.last (entries_in p.count p.bytes.items) };
 }
 
 impl Packed {
@@ -296,6 +330,7 @@ impl Packed {
     {
         Packed {
             count: 0,
+            last: 0,
             bytes: Vec::new(alloc),
         }
     }
@@ -312,8 +347,10 @@ impl Packed {
         ensures ok { OnOk result (self.new ≡ map.insert self.old (mark ∷ key.now) value.now) }
         ensures err { OnErr result (self.new ≡ self.old) }
     {
-        let span = span_of(&self.bytes, self.count, mark, key);
+        let span = span_to_put(&self.bytes, self.count, self.last, mark, key);
+        let is_at_end = span.end == self.bytes.len();
         put_between(&mut self.bytes, span, mark, key, value)?;
+        self.last = last_with(self.last, is_at_end, self.bytes.len() - span.start);
         self.count = count_with(self.count, span.is_there);
         Ok(())
     }
@@ -324,11 +361,13 @@ impl Packed {
         ensures put { IfOk result (λ is_new. self.new ≡ (if is_new then map.insert self.old (mark ∷ key.now) value.now else self.old)) }
         ensures err { OnErr result (self.new ≡ self.old) }
     {
-        let span = span_of(&self.bytes, self.count, mark, key);
+        let span = span_to_put(&self.bytes, self.count, self.last, mark, key);
         if span.is_there {
             return Ok(false);
         }
+        let is_at_end = span.end == self.bytes.len();
         put_between(&mut self.bytes, span, mark, key, value)?;
+        self.last = last_with(self.last, is_at_end, self.bytes.len() - span.start);
         self.count = count_with(self.count, false);
         Ok(true)
     }
@@ -339,6 +378,7 @@ impl Packed {
     {
         let span = span_of(&self.bytes, self.count, mark, key);
         if span.is_there {
+            self.last = last_with(self.last, span.end == self.bytes.len(), 0);
             cut_out(&mut self.bytes, span.start, span.end);
             self.count -= 1;
         }
@@ -377,6 +417,7 @@ impl Packed {
     {
         Ok(Packed {
             count: self.count,
+            last: self.last,
             bytes: self.bytes.clone()?,
         })
     }

@@ -1,7 +1,8 @@
-use Rattle.std.proofs.Common.{◌∷◌, refl, ap, ◌∙◌, sym}
+use Rattle.std.proofs.Common.{◌∷◌, refl, ap, ◌∙◌, sym, subst, arith}
 use Rattle.std.specs.FinMap as map
 use Rattle.dc_text.proofs.SmallMapLemmas.{is_sorted_without, from_sorted_without}
-use Rattle.dc_item.specs.Packed.{entries_in}
+use Rattle.dc_item.specs.Packed.{entries_in, IsLast}
+use Rattle.dc_item.proofs.LastLemmas.{cut_last}
 use Rattle.dc_item.proofs.PackedLemmas.{cut_packed, without_missing}
 use Rattle.dc_item.proofs.packed.Packed.remove.Goals as goal
 
@@ -14,7 +15,8 @@ invariant_of-self c =
     let ends = rw c.deref.ensures.value at c.span_of-span.ensures.end in
     let there = rw c.deref.ensures.value at c.span_of-span.ensures.is_there in
     let is = cut_packed q c.self.inside.count c.self.inside.bytes.items span.start span.end span.is_there starts ends there _ c.cut_out.new.bytes.items c.self.invariant.1 c.if-span.true c.cut_out.ensures refl in
-    (is.1, is_sorted_without q (entries_in c.self.inside.count c.self.inside.bytes.items) _ c.self.invariant.1 is.0)
+    let last = cut_last q (entries_in c.self.inside.count c.self.inside.bytes.items) c.self.inside.last c.self.invariant.2 c.self.inside.bytes.items span.start span.end ends c.span_of-span.ensures.ordered (omega arith) c.len.result c.last_with-self-inside.result c.self.invariant.1 (omega arith) c.last_with-self-inside.ensures in
+    (is.1, is_sorted_without q (entries_in c.self.inside.count c.self.inside.bytes.items) _ c.self.invariant.1 is.0, subst (IsLast c.last_with-self-inside.result) (sym is.0) last)
 
 pub returns-then-span : goal.returns-then-span
 returns-then-span c =
