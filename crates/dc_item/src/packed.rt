@@ -194,62 +194,16 @@ fn write_entry(bytes: &mut Vec<u8>, mark: u8, key: &[u8], value: &[u8]) -> Mem<(
     Ok(())
 }
 
-// Puts an entry behind the bytes, with room for more.
-fn push_entry(bytes: &mut Vec<u8>, mark: u8, key: &[u8], value: &[u8]) -> Mem<()>
-    ensures ok { OnOk result (bytes.new.items ≡ bytes.old.items ++ packed ((mark ∷ key.now, value.now) ∷ [])) }
-    ensures err { OnErr result (bytes.new.items ≡ bytes.old.items) }
+// Writes an entry behind the bytes, and behind that again what stands from the end on. Where memory runs out, part of it may stand
+// there.
+fn write_with_rest(bytes: &mut Vec<u8>, end: usize, mark: u8, key: &[u8], value: &[u8]) -> Mem<()>
+    requires { end ≤ length bytes.old.items }
+    ensures ok { OnOk result (bytes.new.items ≡ bytes.old.items ++ (packed ((mark ∷ key.now, value.now) ∷ []) ++ drop end bytes.old.items)) }
+    ensures err { OnErr result (IsBegunBy bytes.old.items bytes.new.items) }
 {
-    let before = bytes.len();
-    bytes.reserve(room_behind(before, room_for(key.len(), value.len())))?;
-    match write_entry(bytes, mark, key, value) {
-        Ok(()) => Ok(()),
-        Err(error) => {
-            bytes.truncate(before);
-            Err(error)
-        }
-    }
-}
-
-// The bytes in front, an entry, and the bytes behind it.
-fn joined(
-    alloc: Global,
-    front: &[u8],
-    mark: u8,
-    key: &[u8],
-    value: &[u8],
-    back: &[u8],
-) -> Mem<Vec<u8>>
-    ensures { IfOk result (λ bytes. bytes.items ≡ front.now ++ (packed ((mark ∷ key.now, value.now) ∷ []) ++ back.now)) }
-{
-    let others = front.len().saturating_add(back.len());
-    let room = room_for(key.len(), value.len()).saturating_add(others);
-    let mut bytes = Vec::with_capacity(alloc, room)?;
-    bytes.extend_from_slice(front)?;
-    write_entry(&mut bytes, mark, key, value)?;
-    bytes.extend_from_slice(back)?;
-    Ok(bytes)
-}
-
-// Puts an entry between the bytes before the start and those from the end on.
-fn put_between(bytes: &mut Vec<u8>, span: Span, mark: u8, key: &[u8], value: &[u8]) -> Mem<()>
-    requires ordered { span.start ≤ span.end }
-    requires in_range { span.end ≤ length bytes.old.items }
-    ensures ok { OnOk result (bytes.new.items ≡ take span.start bytes.old.items ++ (packed ((mark ∷ key.now, value.now) ∷ []) ++ drop span.end bytes.old.items)) }
-    ensures err { OnErr result (bytes.new.items ≡ bytes.old.items) }
-{
-    if span.start == bytes.len() {
-        push_entry(bytes, mark, key, value)?;
-    } else {
-        let whole = joined(
-            *bytes.allocator(),
-            &bytes[..span.start],
-            mark,
-            key,
-            value,
-            &bytes[span.end..],
-        )?;
-        *bytes = whole;
-    }
+    let len = bytes.len();
+    write_entry(bytes, mark, key, value)?;
+    bytes.extend_from_within(end..len)?;
     Ok(())
 }
 
@@ -262,6 +216,31 @@ fn cut_out(bytes: &mut Vec<u8>, start: usize, end: usize)
     let rest = bytes.len() - end;
     bytes.copy_within(end.., start);
     bytes.truncate(start + rest);
+}
+
+// Puts an entry between the bytes before the start and those from the end on: it is written behind all, and what it takes the place
+// of is cut out.
+fn put_between(bytes: &mut Vec<u8>, span: Span, mark: u8, key: &[u8], value: &[u8]) -> Mem<()>
+    requires ordered { span.start ≤ span.end }
+    requires in_range { span.end ≤ length bytes.old.items }
+    ensures ok { OnOk result (bytes.new.items ≡ take span.start bytes.old.items ++ (packed ((mark ∷ key.now, value.now) ∷ []) ++ drop span.end bytes.old.items)) }
+    ensures err { OnErr result (bytes.new.items ≡ bytes.old.items) }
+{
+    let before = bytes.len();
+    let room = room_for(key.len(), value.len()).saturating_add(before - span.end);
+    bytes.reserve(room_behind(before, room))?;
+    match write_with_rest(bytes, span.end, mark, key, value) {
+        Ok(()) => {
+            if span.start < before {
+                cut_out(bytes, span.start, before);
+            }
+            Ok(())
+        }
+        Err(error) => {
+            bytes.truncate(before);
+            Err(error)
+        }
+    }
 }
 
 // How many entries there are when one is put, if its key is there or not.
