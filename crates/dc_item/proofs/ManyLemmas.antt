@@ -1,11 +1,13 @@
 -- What an edit of a sorted vector of pairs does.
-use Rattle.std.proofs.Common.{◌≡◌, ℕ, List, set, get_or, sym, ap, ◌∙◌, subst}
-use Rattle.std.specs.Prelude.{T}
-use Rattle.std.specs.FinMap.{FinMap, put, is_sorted, entries, entries_sorted, from_sorted, same_entries_map, entries-from_sorted}
+use Rattle.std.proofs.Common.{◌≡◌, ℕ, List, ◌∷◌, ◌++◌, [], length, true, false, Err, arith, set, get_or, sym, ap, ◌∙◌, subst}
+use Rattle.std.specs.Prelude.{T, is_some}
+use Rattle.std.specs.Ordering.{is_lt}
+use Rattle.std.specs.FinMap.{FinMap, put, is_sorted, entries, entries_sorted, from_sorted, same_entries_map, entries-from_sorted, contains_key, get-from_sorted}
 use Rattle.std.proofs.lemmas.List.{get_or_default}
 use Rattle.dc_text.specs.Maps.{text_cmp}
-use Rattle.dc_text.specs.Places.{IsAt}
-use Rattle.dc_text.proofs.SmallMapLemmas.{set_at}
+use Rattle.dc_text.specs.Places.{IsAt, IsGapFor}
+use Rattle.dc_text.proofs.SmallMapLemmas.{set_at, searched, is_found, find_gap}
+use Rattle.dc_item.proofs.OwnerPlaces.{behind}
 
 -- to write over the pair that has a key is to put the value at the key
 pub set_pair : (q v : List ℕ) (es : List (List ℕ × List ℕ)) (i : ℕ) (pair : List ℕ × List ℕ) → T (is_sorted text_cmp es) → IsAt q es i → pair ≡ (q, v) → set es i pair ≡ put text_cmp q v es
@@ -13,6 +15,17 @@ set_pair q v es i pair h at is =
     let old : List ℕ × List ℕ = get_or es i (q, v) in
     let key : old.0 ≡ q = at.has_key (q, v) in
     ap (set es i) (is ∙ ap (λ k. (k, v)) (sym key)) ∙ set_at q v es i old h at (get_or_default es i (q, v) old at.in_range)
+
+-- a key above the last one goes behind all
+pub gap_behind : (q : List ℕ) (es front : List (List ℕ × List ℕ)) (last : List ℕ × List ℕ) → T (is_sorted text_cmp es) → es ≡ front ++ last ∷ [] → is_lt (text_cmp last.0 q) ≡ true → IsGapFor q es (length es)
+gap_behind q es front last h is low = searched es h q (Err (length es)) (omega arith) (behind (λ e. text_cmp e.0 q) es front last is low)
+
+-- whether the map has a key that has a place, and one that has a gap
+pub has_at : (q : List ℕ) (es : List (List ℕ × List ℕ)) (i : ℕ) (m : FinMap {K = List ℕ} text_cmp (List ℕ)) → T (is_sorted text_cmp es) → from_sorted es ≡ m → IsAt q es i → contains_key m q ≡ true
+has_at q es i m h is at = ap (λ n. contains_key n q) (sym is) ∙ ap is_some (get-from_sorted text_cmp es q h) ∙ is_found q es i h at
+
+pub has_no_gap : (q : List ℕ) (es : List (List ℕ × List ℕ)) (i : ℕ) (m : FinMap {K = List ℕ} text_cmp (List ℕ)) → T (is_sorted text_cmp es) → from_sorted es ≡ m → IsGapFor q es i → contains_key m q ≡ false
+has_no_gap q es i m h is gap = ap (λ n. contains_key n q) (sym is) ∙ ap is_some (get-from_sorted text_cmp es q h ∙ find_gap q es i gap)
 
 -- the entries of a map are in order, and make the map again
 pub in_order : (es : List (List ℕ × List ℕ)) (m : FinMap {K = List ℕ} text_cmp (List ℕ)) → es ≡ entries m → T (is_sorted text_cmp es)

@@ -112,15 +112,16 @@ lowest Greater Less h e = absurd (omega arith)
 lowest Greater Equal h e = absurd (cc)
 lowest Greater Greater h e = absurd (cc)
 
-behind : (os front : List (List ℕ)) (last q : List ℕ) → os ≡ front ++ last ∷ [] → is_lt (text_cmp last q) ≡ true → IsBinarySearchResult (λ k. text_cmp k q) os (Err (length os))
-behind os front last q is low = λ rise.
-    let long : length os ≡ length front + 1 = ap length is ∙ length-append front (last ∷ []) in (
+-- a search ends behind all, where the last one is low
+pub behind : {A : Type 0} (compared : A → Ordering) (xs front : List A) (last : A) → xs ≡ front ++ last ∷ [] → is_lt (compared last) ≡ true → IsBinarySearchResult compared xs (Err (length xs))
+behind compared xs front last is low = λ rise.
+    let long : length xs ≡ length front + 1 = ap length is ∙ length-append front (last ∷ []) in (
       λ k d from lt.
-          let there : get_or os (length front) d ≡ last = ap (λ l. get_or l (length front) d) is ∙ get_or-append_seam front last [] d in
-          lowest (text_cmp (get_or os k d) q) (text_cmp (get_or os (length front) d) q) (rise k (length front) d (omega (arith, lt, long)) (omega (arith, long))) (ap (λ n. is_lt (text_cmp n q)) there ∙ low),
+          let there : get_or xs (length front) d ≡ last = ap (λ l. get_or l (length front) d) is ∙ get_or-append_seam front last [] d in
+          lowest (compared (get_or xs k d)) (compared (get_or xs (length front) d)) (rise k (length front) d (omega (arith, lt, long)) (omega (arith, long))) (ap (λ x. is_lt (compared x)) there ∙ low),
       λ k d from lt. absurd (omega (arith, from, lt)),
     )
 
 -- the place of a name behind the last one
 pub placed_behind : (os front : List (List ℕ)) (last q : List ℕ) → os ≡ keys (set_of os) → os ≡ front ++ last ∷ [] → is_lt (text_cmp last q) ≡ true → owners.IsGapFor q os (length os)
-placed_behind os front last q sorted is low = placed os q (Err (length os)) sorted (omega arith) (behind os front last q is low)
+placed_behind os front last q sorted is low = placed os q (Err (length os)) sorted (omega arith) (behind (λ k. text_cmp k q) os front last is low)

@@ -66,6 +66,15 @@ fn marked(alloc: Global, mark: u8, key: &[u8]) -> Mem<Text>
     Ok(text)
 }
 
+// The key with its mark in front, and the value.
+fn paired(alloc: Global, mark: u8, key: &[u8], value: &[u8]) -> Mem<Pair>
+    ensures { IfOk result (λ pair. pair ≡ (mark ∷ key.now, value.now)) }
+{
+    let key = marked(alloc, mark, key)?;
+    let value = Text::from_bytes(alloc, value)?;
+    Pair::new(alloc, key, value)
+}
+
 // The order of a text and a key, which is given as its mark and the rest of it.
 fn compare(text: &[u8], mark: u8, key: &[u8]) -> Ordering
     ensures { result ≡ text_cmp text.now (mark ∷ key.now) }
@@ -92,6 +101,19 @@ fn search(pairs: &[Pair], mark: u8, key: &[u8]) -> Result<usize, usize>
             ensures { result ≡ text_cmp pair.now.0 (mark ∷ key.entry.now) }
         { compare(pair.key(), mark, key) },
     )
+}
+
+// The same, of keys that mostly come behind all others.
+fn search_from_end(pairs: &[Pair], mark: u8, key: &[u8]) -> Result<usize, usize>
+    requires { T (map.is_sorted text_cmp pairs.now) }
+    ensures { MatchResult result (IsAt (mark ∷ key.now) pairs.now) (IsGapFor (mark ∷ key.now) pairs.now) }
+{
+    if let Some((last, _)) = pairs.split_last() {
+        if compare(last.key(), mark, key).is_lt() {
+            return Err(pairs.len());
+        }
+    }
+    search(pairs, mark, key)
 }
 
 /// A map from texts, for many entries: they are in a sorted vector.
@@ -145,17 +167,33 @@ impl Many {
         ensures ok { OnOk result (self.new ≡ map.insert self.old (mark ∷ key.now) value.now) }
         ensures err { OnErr result (self.new ≡ self.old) }
     {
-        let alloc = *self.pairs.allocator();
-        let pair = Pair::new(
-            alloc,
-            marked(alloc, mark, key)?,
-            Text::from_bytes(alloc, value)?,
-        )?;
-        match search(&self.pairs, mark, key) {
-            Ok(place) => self.pairs[place] = pair,
-            Err(place) => self.pairs.insert(place, pair)?,
+        let pair = paired(*self.pairs.allocator(), mark, key, value)?;
+        match search_from_end(&self.pairs, mark, key) {
+            Ok(place) => {
+                self.pairs[place] = pair;
+                Ok(())
+            }
+            Err(place) => {
+                self.pairs.insert(place, pair)?;
+                Ok(())
+            }
         }
-        Ok(())
+    }
+
+    /// Puts the value at a key that isn't there, and answers whether it wasn't.
+    pub(crate) fn insert_new(&mut self, mark: u8, key: &[u8], value: &[u8]) -> Mem<bool>
+        ensures new { IfOk result (λ is_new. is_new ≡ not (map.contains_key self.old (mark ∷ key.now))) }
+        ensures put { IfOk result (λ is_new. self.new ≡ (if is_new then map.insert self.old (mark ∷ key.now) value.now else self.old)) }
+        ensures err { OnErr result (self.new ≡ self.old) }
+    {
+        match search_from_end(&self.pairs, mark, key) {
+            Ok(_) => Ok(false),
+            Err(place) => {
+                let pair = paired(*self.pairs.allocator(), mark, key, value)?;
+                self.pairs.insert(place, pair)?;
+                Ok(true)
+            }
+        }
     }
 
     /// Takes the key and its value away, if they are there. It takes no memory.

@@ -111,10 +111,13 @@ impl PartMap {
         ensures put { IfOk result (λ is_new. self.new ≡ (if is_new then map.insert self.old (mark ∷ key.now) value.now else self.old)) }
         ensures err { OnErr result (self.new ≡ self.old) }
     {
-        if let Kept::Few(few) = &mut self.kept {
-            if few.len() < FEW {
-                let is_new = few.insert_new(mark, key, value)?;
-                return Ok(is_new);
+        match &mut self.kept {
+            Kept::Many(many) => return many.insert_new(mark, key, value),
+            Kept::Few(few) => {
+                if few.len() < FEW {
+                    let is_new = few.insert_new(mark, key, value)?;
+                    return Ok(is_new);
+                }
             }
         }
         if self.contains(mark, key) {
