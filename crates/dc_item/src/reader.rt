@@ -1,7 +1,9 @@
 // The reader of records, which takes one line after another.
-ghost use Rattle.std.specs.Prelude.{◌≡◌, IfOk, OnOk, None, Some, false, if◌then◌else◌, codes, map as each};
+ghost use Rattle.std.specs.Prelude.{◌≡◌, IfOk, OnOk, None, Some, false, not, if◌then◌else◌, codes, map as each};
 ghost use Rattle.std.specs.Str.{bytes_eq};
+ghost use Rattle.std.specs.FinMap as map;
 ghost use Rattle.dc_text.specs.Bytes.{lower};
+ghost use Rattle.dc_text.specs.Settled.{settled};
 ghost use Rattle.dc_item.specs.Grammar.{line_said, headed_line, indented_line, name_line, owners_line, flags_line, variables_line, field_line, variable_line};
 
 use crate::entry::Entry;
@@ -114,8 +116,7 @@ impl Open {
     {
         match FieldKey::read(alloc, key) {
             Ok(key) => {
-                let value = settle(alloc, without_space(rest))?;
-                if !self.item.put_new_field(&key, &value)? {
+                if !put_field(&mut self.item, alloc, &key, without_space(rest))? {
                     return Ok(false);
                 }
                 self.in_variables = false;
@@ -143,13 +144,33 @@ impl Open {
             return Ok(false);
         }
         match VarKey::read(alloc, key) {
-            Ok(key) => {
-                let value = settle(alloc, without_space(rest))?;
-                self.item.put_new_variable(&key, &value)
-            }
+            Ok(key) => put_variable(&mut self.item, alloc, &key, without_space(rest)),
             Err(NameRefused::Bad) => Ok(false),
             Err(NameRefused::OutOfMemory) => Err(OutOfMemory),
         }
+    }
+}
+
+// Puts the field, its value settled, if the item has none with its key, and answers whether it had none. Most values have no
+// backslash, and are settled as they stand.
+fn put_field(item: &mut Item, alloc: Global, key: &FieldKey, value: &[u8]) -> Mem<bool>
+    ensures new { IfOk result (λ is_new. is_new ≡ not (map.contains_key item.old.fields key.now)) }
+    ensures put { IfOk result (λ is_new. item.new ≡ (if is_new then record item.old { fields = map.insert item.old.fields key.now (settled value.now) } else item.old)) }
+{
+    match split_at_byte(value, b'\\') {
+        None => item.put_new_field(key, value),
+        Some(_) => item.put_new_field(key, settle(alloc, value)?.bytes()),
+    }
+}
+
+// Puts the variable, its value settled, if the item has none with its key, and answers whether it had none.
+fn put_variable(item: &mut Item, alloc: Global, key: &VarKey, value: &[u8]) -> Mem<bool>
+    ensures new { IfOk result (λ is_new. is_new ≡ not (map.contains_key item.old.variables key.now)) }
+    ensures put { IfOk result (λ is_new. item.new ≡ (if is_new then record item.old { variables = map.insert item.old.variables key.now (settled value.now) } else item.old)) }
+{
+    match split_at_byte(value, b'\\') {
+        None => item.put_new_variable(key, value),
+        Some(_) => item.put_new_variable(key, settle(alloc, value)?.bytes()),
     }
 }
 
