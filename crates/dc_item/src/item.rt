@@ -4,6 +4,7 @@ ghost use Rattle.std.specs.FinMap as map;
 ghost use Rattle.std.specs.Option.{option_copied};
 ghost use Rattle.dc_text.specs.Bytes.{is_nil};
 ghost use Rattle.dc_text.specs.Maps.{set_of};
+ghost use Rattle.dc_text.specs.Names.{is_name, is_flag_name};
 ghost use Rattle.dc_text.specs.Settled.{is_settled};
 ghost use Rattle.dc_item.specs.After.{with_flag, without, parts_eq};
 ghost use Rattle.dc_item.specs.Item.{no_parts, IsItem};
@@ -190,10 +191,20 @@ impl Item {
         ensures err { OnErr result (self.new ≡ self.old) }
     {
         if is_set {
-            self.parts.insert(FLAGS, flag.bytes(), b"")?;
+            self.put_flag(flag.bytes())?;
         } else {
             self.parts.remove(FLAGS, flag.bytes());
         }
+        Ok(())
+    }
+
+    // Makes the flag of the name true.
+    pub(crate) fn put_flag(&mut self, flag: &[u8]) -> Mem<()>
+        requires { is_flag_name flag.now ≡ true }
+        ensures ok { OnOk result (self.new ≡ record self.old { flags = map.insert self.old.flags flag.now tt }) }
+        ensures err { OnErr result (self.new ≡ self.old) }
+    {
+        self.parts.insert(FLAGS, flag, b"")?;
         Ok(())
     }
 
@@ -209,7 +220,16 @@ impl Item {
         ensures ok { OnOk result (self.new ≡ record self.old { owners = map.insert self.old.owners owner.now tt }) }
         ensures err { OnErr result (self.new ≡ self.old) }
     {
-        self.parts.insert(OWNERS, owner.bytes(), b"")?;
+        self.put_owner(owner.bytes())
+    }
+
+    // Adds the owner of the name, if it isn't there.
+    pub(crate) fn put_owner(&mut self, owner: &[u8]) -> Mem<()>
+        requires { is_name owner.now ≡ true }
+        ensures ok { OnOk result (self.new ≡ record self.old { owners = map.insert self.old.owners owner.now tt }) }
+        ensures err { OnErr result (self.new ≡ self.old) }
+    {
+        self.parts.insert(OWNERS, owner, b"")?;
         Ok(())
     }
 
