@@ -1,12 +1,13 @@
 -- Names that are kept as keys, as a set of texts.
-use Rattle.std.proofs.Common.{◌≡◌, ℕ, Bool, true, false, cond, List, [], ◌∷◌, ◌++◌, length, arith, Some, None, Option, map as each, refl, ap, sym, ◌∙◌, Vec, Global}
+use Rattle.std.proofs.Common.{◌≡◌, ℕ, Bool, true, false, cond, ◌≤◌, List, [], ◌∷◌, ◌++◌, length, arith, Some, None, Option, map as each, refl, ap, sym, ◌∙◌, Vec, Global}
 use Rattle.std.specs.Prelude.{◌||◌, is_some}
 use Rattle.std.specs.List.{list_any}
+use Rattle.std.specs.List as listed
 use Rattle.std.specs.Str.{bytes_eq}
 use Rattle.std.specs.Ordering.{eq_by_cmp}
 use Rattle.std.specs.Cmp.Lexicographic.{nat_list_cmp_total}
 use Rattle.std.specs.FinMap.{get, insert, contains_key, keys, same_map, get-insert}
-use Rattle.std.proofs.lemmas.List.{map-append}
+use Rattle.std.proofs.lemmas.List.{map-append, take_all, drop_all}
 use Rattle.indexmap.specs.IndexSet.{insert_key}
 use Rattle.dc_text.specs.Maps.{TextSet, set_of, text_cmp}
 use Rattle.dc_text.proofs.MapLemmas.{exact_texts, get-set_of, set_of-push}
@@ -124,3 +125,7 @@ in_order_none os is = keys-none os (let none : length os ≡ 0 = ap length is in
 
 pub was_put : (s : TextSet) (k : List ℕ) → contains_key s k ≡ true → s ≡ insert s k tt
 was_put s k there = sym (insert_there s k there)
+
+-- what is put behind all comes last
+pub insert_last : (os : List (List ℕ)) (place : ℕ) (k : List ℕ) → length os ≤ place → listed.insert os place k ≡ os ++ k ∷ []
+insert_last os place k last = λ i. take_all place os last i ++ k ∷ drop_all place os last i

@@ -1,9 +1,11 @@
 // Items: the fields, flags, variables and owners of questions and templates.
-ghost use Rattle.std.specs.Prelude.{◌≡◌, IfOk, OnOk, OnErr, if◌then◌else◌, not, map as each};
+ghost use Rattle.std.specs.Prelude.{◌≡◌, IfOk, OnOk, OnErr, true, if◌then◌else◌, not, map as each};
 ghost use Rattle.std.specs.FinMap as map;
 ghost use Rattle.std.specs.Option.{option_copied};
 ghost use Rattle.dc_text.specs.Bytes.{is_nil};
 ghost use Rattle.dc_text.specs.Maps.{set_of};
+ghost use Rattle.dc_text.specs.Names.{is_name, is_flag_name};
+ghost use Rattle.dc_text.specs.Settled.{is_settled};
 ghost use Rattle.dc_item.specs.After.{with_flag, without, parts_eq};
 ghost use Rattle.dc_item.specs.Item.{no_parts, IsItem};
 ghost use Rattle.dc_item.specs.Sections.{under, keys_under, fields_mark, owners_mark, flags_mark, variables_mark};
@@ -148,24 +150,24 @@ impl Item {
     }
 
     // Puts the field if the item has none with its key, and answers whether it had none.
-    pub(crate) fn put_new_field(&mut self, key: &FieldKey, value: &Settled) -> Mem<bool>
+    pub(crate) fn put_new_field(&mut self, key: &FieldKey, value: &[u8]) -> Mem<bool>
+        requires { is_settled value.now ≡ true }
         ensures new { IfOk result (λ is_new. is_new ≡ not (map.contains_key self.old.fields key.now)) }
         ensures put { IfOk result (λ is_new. self.new ≡ (if is_new then record self.old { fields = map.insert self.old.fields key.now value.now } else self.old)) }
         ensures err { OnErr result (self.new ≡ self.old) }
     {
-        let is_new = self.parts.insert_new(FIELDS, key.bytes(), value.bytes())?;
+        let is_new = self.parts.insert_new(FIELDS, key.bytes(), value)?;
         Ok(is_new)
     }
 
     // Puts the variable if the item has none with its key, and answers whether it had none.
-    pub(crate) fn put_new_variable(&mut self, key: &VarKey, value: &Settled) -> Mem<bool>
+    pub(crate) fn put_new_variable(&mut self, key: &VarKey, value: &[u8]) -> Mem<bool>
+        requires { is_settled value.now ≡ true }
         ensures new { IfOk result (λ is_new. is_new ≡ not (map.contains_key self.old.variables key.now)) }
         ensures put { IfOk result (λ is_new. self.new ≡ (if is_new then record self.old { variables = map.insert self.old.variables key.now value.now } else self.old)) }
         ensures err { OnErr result (self.new ≡ self.old) }
     {
-        let is_new = self
-            .parts
-            .insert_new(VARIABLES, key.bytes(), value.bytes())?;
+        let is_new = self.parts.insert_new(VARIABLES, key.bytes(), value)?;
         Ok(is_new)
     }
 
@@ -189,10 +191,20 @@ impl Item {
         ensures err { OnErr result (self.new ≡ self.old) }
     {
         if is_set {
-            self.parts.insert(FLAGS, flag.bytes(), b"")?;
+            self.put_flag(flag.bytes())?;
         } else {
             self.parts.remove(FLAGS, flag.bytes());
         }
+        Ok(())
+    }
+
+    // Makes the flag of the name true.
+    pub(crate) fn put_flag(&mut self, flag: &[u8]) -> Mem<()>
+        requires { is_flag_name flag.now ≡ true }
+        ensures ok { OnOk result (self.new ≡ record self.old { flags = map.insert self.old.flags flag.now tt }) }
+        ensures err { OnErr result (self.new ≡ self.old) }
+    {
+        self.parts.insert(FLAGS, flag, b"")?;
         Ok(())
     }
 
@@ -208,7 +220,16 @@ impl Item {
         ensures ok { OnOk result (self.new ≡ record self.old { owners = map.insert self.old.owners owner.now tt }) }
         ensures err { OnErr result (self.new ≡ self.old) }
     {
-        self.parts.insert(OWNERS, owner.bytes(), b"")?;
+        self.put_owner(owner.bytes())
+    }
+
+    // Adds the owner of the name, if it isn't there.
+    pub(crate) fn put_owner(&mut self, owner: &[u8]) -> Mem<()>
+        requires { is_name owner.now ≡ true }
+        ensures ok { OnOk result (self.new ≡ record self.old { owners = map.insert self.old.owners owner.now tt }) }
+        ensures err { OnErr result (self.new ≡ self.old) }
+    {
+        self.parts.insert(OWNERS, owner, b"")?;
         Ok(())
     }
 

@@ -61,7 +61,7 @@ impl NamesRead {
                 if is_among(&self.others, name.bytes()) {
                     return Ok(false);
                 }
-                self.ordered.insert(place, name.copy()?)?;
+                self.ordered.push(name.copy()?)?;
                 Ok(true)
             }
         }

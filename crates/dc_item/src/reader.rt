@@ -1,8 +1,13 @@
 // The reader of records, which takes one line after another.
-ghost use Rattle.std.specs.Prelude.{◌≡◌, IfOk, OnOk, None, Some, false, if◌then◌else◌, codes, map as each};
+ghost use Rattle.std.specs.Prelude.{◌≡◌, IfOk, OnOk, None, Some, false, not, if◌then◌else◌, codes, map as each};
+ghost use Rattle.std.specs.List.{list_all};
 ghost use Rattle.std.specs.Str.{bytes_eq};
+ghost use Rattle.std.specs.FinMap as map;
 ghost use Rattle.dc_text.specs.Bytes.{lower};
-ghost use Rattle.dc_item.specs.Grammar.{line_said, headed_line, indented_line, name_line, owners_line, flags_line, variables_line, field_line, variable_line};
+ghost use Rattle.dc_text.specs.Maps.{set_of};
+ghost use Rattle.dc_text.specs.Names.{is_name as is_name_of, is_flag_name as is_flag_name_of};
+ghost use Rattle.dc_text.specs.Settled.{settled};
+ghost use Rattle.dc_item.specs.Grammar.{line_said, pieces, headed_line, indented_line, name_line, owners_line, flags_line, variables_line, field_line, variable_line};
 
 use crate::entry::Entry;
 use crate::item::Item;
@@ -10,6 +15,8 @@ use crate::names_read::NamesRead;
 use crate::reading::{flags_in, is_word, names_in};
 use crate::record_line::RecordLine;
 use dc_text::bytes::{is_blank, is_indented, split_at_byte, trim, without_space};
+use dc_text::keys::is_flag_name;
+use dc_text::names::is_name;
 use dc_text::{FieldKey, List, Mem, Name, NameRefused, OutOfMemory, VarKey, settle};
 use std::alloc::Global;
 
@@ -67,16 +74,12 @@ impl Open {
         if self.has_owners {
             return Ok(false);
         }
-        match names_in(alloc, rest) {
-            Ok(names) => {
-                self.item.put_owners(&names)?;
-                self.has_owners = true;
-                self.in_variables = false;
-                Ok(true)
-            }
-            Err(NameRefused::Bad) => Ok(false),
-            Err(NameRefused::OutOfMemory) => Err(OutOfMemory),
+        if !put_owners(&mut self.item, alloc, rest)? {
+            return Ok(false);
         }
+        self.has_owners = true;
+        self.in_variables = false;
+        Ok(true)
     }
 
     fn add_flags(&mut self, alloc: Global, rest: &[u8]) -> Mem<bool>
@@ -86,16 +89,12 @@ impl Open {
         if self.has_flags {
             return Ok(false);
         }
-        match flags_in(alloc, rest) {
-            Ok(flags) => {
-                self.item.put_flags(&flags)?;
-                self.has_flags = true;
-                self.in_variables = false;
-                Ok(true)
-            }
-            Err(NameRefused::Bad) => Ok(false),
-            Err(NameRefused::OutOfMemory) => Err(OutOfMemory),
+        if !put_flags(&mut self.item, alloc, rest)? {
+            return Ok(false);
         }
+        self.has_flags = true;
+        self.in_variables = false;
+        Ok(true)
     }
 
     fn begin_variables(&mut self, rest: &[u8]) -> bool
@@ -114,8 +113,7 @@ impl Open {
     {
         match FieldKey::read(alloc, key) {
             Ok(key) => {
-                let value = settle(alloc, without_space(rest))?;
-                if !self.item.put_new_field(&key, &value)? {
+                if !put_field(&mut self.item, alloc, &key, without_space(rest))? {
                     return Ok(false);
                 }
                 self.in_variables = false;
@@ -143,13 +141,77 @@ impl Open {
             return Ok(false);
         }
         match VarKey::read(alloc, key) {
-            Ok(key) => {
-                let value = settle(alloc, without_space(rest))?;
-                self.item.put_new_variable(&key, &value)
-            }
+            Ok(key) => put_variable(&mut self.item, alloc, &key, without_space(rest)),
             Err(NameRefused::Bad) => Ok(false),
             Err(NameRefused::OutOfMemory) => Err(OutOfMemory),
         }
+    }
+}
+
+// Makes the names between commas the owners of an item that has none, and answers whether all are names. Most lists have one,
+// which is put in as it stands.
+fn put_owners(item: &mut Item, alloc: Global, text: &[u8]) -> Mem<bool>
+    requires { item.old.owners ≡ map.empty }
+    ensures good { IfOk result (λ good. good ≡ list_all is_name_of (pieces text.now)) }
+    ensures put { IfOk result (λ good. item.new ≡ (if good then record item.old { owners = set_of (pieces text.now) } else item.old)) }
+{
+    let one = trim(text);
+    if is_name(one) {
+        item.put_owner(one)?;
+        return Ok(true);
+    }
+    match names_in(alloc, text) {
+        Ok(names) => {
+            item.put_owners(&names)?;
+            Ok(true)
+        }
+        Err(NameRefused::Bad) => Ok(false),
+        Err(NameRefused::OutOfMemory) => Err(OutOfMemory),
+    }
+}
+
+// Makes the flags between commas the flags of an item that has none, and answers whether all are names of flags. Most lists
+// have one, which is put in as it stands.
+fn put_flags(item: &mut Item, alloc: Global, text: &[u8]) -> Mem<bool>
+    requires { item.old.flags ≡ map.empty }
+    ensures good { IfOk result (λ good. good ≡ list_all is_flag_name_of (pieces text.now)) }
+    ensures put { IfOk result (λ good. item.new ≡ (if good then record item.old { flags = set_of (pieces text.now) } else item.old)) }
+{
+    let one = trim(text);
+    if is_flag_name(one) {
+        item.put_flag(one)?;
+        return Ok(true);
+    }
+    match flags_in(alloc, text) {
+        Ok(flags) => {
+            item.put_flags(&flags)?;
+            Ok(true)
+        }
+        Err(NameRefused::Bad) => Ok(false),
+        Err(NameRefused::OutOfMemory) => Err(OutOfMemory),
+    }
+}
+
+// Puts the field, its value settled, if the item has none with its key, and answers whether it had none. Most values have no
+// backslash, and are settled as they stand.
+fn put_field(item: &mut Item, alloc: Global, key: &FieldKey, value: &[u8]) -> Mem<bool>
+    ensures new { IfOk result (λ is_new. is_new ≡ not (map.contains_key item.old.fields key.now)) }
+    ensures put { IfOk result (λ is_new. item.new ≡ (if is_new then record item.old { fields = map.insert item.old.fields key.now (settled value.now) } else item.old)) }
+{
+    match split_at_byte(value, b'\\') {
+        None => item.put_new_field(key, value),
+        Some(_) => item.put_new_field(key, settle(alloc, value)?.bytes()),
+    }
+}
+
+// Puts the variable, its value settled, if the item has none with its key, and answers whether it had none.
+fn put_variable(item: &mut Item, alloc: Global, key: &VarKey, value: &[u8]) -> Mem<bool>
+    ensures new { IfOk result (λ is_new. is_new ≡ not (map.contains_key item.old.variables key.now)) }
+    ensures put { IfOk result (λ is_new. item.new ≡ (if is_new then record item.old { variables = map.insert item.old.variables key.now (settled value.now) } else item.old)) }
+{
+    match split_at_byte(value, b'\\') {
+        None => item.put_new_variable(key, value),
+        Some(_) => item.put_new_variable(key, settle(alloc, value)?.bytes()),
     }
 }
 

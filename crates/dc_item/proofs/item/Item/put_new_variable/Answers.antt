@@ -11,8 +11,8 @@ pub invariant_of-self-2 : goal.invariant_of-self-2
 invariant_of-self-2 c =
     let is_new = c.in_ok-is_new.is_new in
     let put : c.insert_new.new.self ≡ cond is_new (map.insert c.self.inside.parts (variables_mark ∷ c.args.key.now) c.args.value.now) c.self.inside.parts
-    = c.in_ok-is_new.ensures.put ∙ (λ i. cond is_new (map.insert c.self.inside.parts (variables_mark ∷ c.bytes.ensures.value i) (c.bytes-2.ensures.value i)) c.self.inside.parts) in
-    with_new_variable is_new c.self.inside.parts c.insert_new.new.self c.args.key.now c.args.value.now c.self.invariant put c.bytes.ensures.key c.bytes-2.ensures.settled
+    = c.in_ok-is_new.ensures.put ∙ (λ i. cond is_new (map.insert c.self.inside.parts (variables_mark ∷ c.bytes.ensures.value i) c.args.value.now) c.self.inside.parts) in
+    with_new_variable is_new c.self.inside.parts c.insert_new.new.self c.args.key.now c.args.value.now c.self.invariant put c.bytes.ensures.key c.requires
 
 pub returns-clause-new : goal.returns-clause-new
 returns-clause-new c =
@@ -24,5 +24,5 @@ pub returns-clause-put : goal.returns-clause-put
 returns-clause-put c =
     let is_new = c.in_ok-is_new.is_new in
     let put : c.insert_new.new.self ≡ cond is_new (map.insert c.self.inside.parts (variables_mark ∷ c.args.key.now) c.args.value.now) c.self.inside.parts
-    = c.in_ok-is_new.ensures.put ∙ (λ i. cond is_new (map.insert c.self.inside.parts (variables_mark ∷ c.bytes.ensures.value i) (c.bytes-2.ensures.value i)) c.self.inside.parts) in
+    = c.in_ok-is_new.ensures.put ∙ (λ i. cond is_new (map.insert c.self.inside.parts (variables_mark ∷ c.bytes.ensures.value i) c.args.value.now) c.self.inside.parts) in
     put_new_variable is_new c.self.inside.parts c.insert_new.new.self c.args.key.now c.args.value.now c.args.self.now c.self.view_is put

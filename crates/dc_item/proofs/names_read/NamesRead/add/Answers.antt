@@ -1,10 +1,9 @@
-use Rattle.std.proofs.Common.{◌≡◌, ◌++◌, true, false, refl, sym, ap, ◌∙◌}
+use Rattle.std.proofs.Common.{◌≡◌, ◌≤◌, [], ◌∷◌, ◌++◌, length, arith, true, false, refl, sym, ap, ◌∙◌}
 use Rattle.std.specs.Prelude.{not}
-use Rattle.std.specs.List as listed
 use Rattle.std.specs.FinMap as map
 use Rattle.dc_text.specs.Maps.{set_of}
 use Rattle.dc_item.proofs.ItemLemmas.{set_of-is_keys}
-use Rattle.dc_item.proofs.NamesReadLemmas.{marks_in, has_mark, set_of-insert_key, put_first, put_second, was_read, if_among, in_order_still, was_put}
+use Rattle.dc_item.proofs.NamesReadLemmas.{marks_in, has_mark, set_of-insert_key, put_first, put_second, was_read, if_among, in_order_still, was_put, insert_last}
 use Rattle.dc_item.proofs.names_read.NamesRead.add.Goals as goal
 
 -- the name is one of those in order
@@ -52,20 +51,24 @@ returns-then-is_among-clause-added c =
 -- the name comes behind them, and is new
 pub invariant_of-self-in-Err : goal.invariant_of-self-in-Err
 invariant_of-self-in-Err c =
-    let put : c.insert-in-Err.new.self ≡ map.keys (map.insert (set_of c.self.inside.ordered) c.args.name.now tt)
-    = c.in_ok-insert-in-Err.ensures.ok ∙ ap (listed.insert c.self.inside.ordered c.in-Err.place) c.in_ok-copy-in-Err-2.ensures ∙ rw (← c.as_slice.ensures, ← c.bytes.ensures.value) c.in-Err.ensures.with_it in
-    in_order_still c.self.inside.ordered c.insert-in-Err.new.self c.args.name.now put
+    let last : length c.self.inside.ordered ≤ c.in-Err.place = omega arith in
+    let put : c.push.new.self ≡ map.keys (map.insert (set_of c.self.inside.ordered) c.args.name.now tt)
+    = c.in_ok-push-in-Err.ensures.ok ∙ ap (λ n. c.self.inside.ordered ++ n ∷ []) c.in_ok-copy-in-Err-2.ensures ∙ sym (insert_last c.self.inside.ordered c.in-Err.place c.args.name.now last)
+    ∙ rw (← c.as_slice.ensures, ← c.bytes.ensures.value) c.in-Err.ensures.with_it in
+    in_order_still c.self.inside.ordered c.push.new.self c.args.name.now put
 
-pub returns-in_ok-insert-in-Err-clause-new : goal.returns-in_ok-insert-in-Err-clause-new
-returns-in_ok-insert-in-Err-clause-new c =
+pub returns-in_ok-push-in-Err-clause-new : goal.returns-in_ok-push-in-Err-clause-new
+returns-in_ok-push-in-Err-clause-new c =
     let missing : map.contains_key (set_of c.self.inside.ordered) c.args.name.now ≡ false = rw (← c.as_slice.ensures, ← c.bytes.ensures.value) c.in-Err.ensures.missing in
     let others : map.contains_key (set_of (marks_in c.self.inside.others.keys)) c.args.name.now ≡ false
     = ap (map.contains_key (set_of (marks_in c.self.inside.others.keys))) (sym c.bytes-in-Err.ensures.value) ∙ sym c.is_among.ensures ∙ c.if-is_among.false in
     ap not (sym (if_among c.self.inside.ordered (marks_in c.self.inside.others.keys) c.args.name.now c.args.self.now c.self.view_is missing ∙ others))
 
-pub returns-in_ok-insert-in-Err-clause-added : goal.returns-in_ok-insert-in-Err-clause-added
-returns-in_ok-insert-in-Err-clause-added c =
-    let put : c.insert-in-Err.new.self ≡ map.keys (map.insert (set_of c.self.inside.ordered) c.args.name.now tt)
-    = c.in_ok-insert-in-Err.ensures.ok ∙ ap (listed.insert c.self.inside.ordered c.in-Err.place) c.in_ok-copy-in-Err-2.ensures ∙ rw (← c.as_slice.ensures, ← c.bytes.ensures.value) c.in-Err.ensures.with_it in
-    put_first c.self.inside.ordered c.insert-in-Err.new.self (marks_in c.self.inside.others.keys) c.args.name.now (set_of-is_keys c.insert-in-Err.new.self (map.insert (set_of c.self.inside.ordered) c.args.name.now tt) put)
+pub returns-in_ok-push-in-Err-clause-added : goal.returns-in_ok-push-in-Err-clause-added
+returns-in_ok-push-in-Err-clause-added c =
+    let last : length c.self.inside.ordered ≤ c.in-Err.place = omega arith in
+    let put : c.push.new.self ≡ map.keys (map.insert (set_of c.self.inside.ordered) c.args.name.now tt)
+    = c.in_ok-push-in-Err.ensures.ok ∙ ap (λ n. c.self.inside.ordered ++ n ∷ []) c.in_ok-copy-in-Err-2.ensures ∙ sym (insert_last c.self.inside.ordered c.in-Err.place c.args.name.now last)
+    ∙ rw (← c.as_slice.ensures, ← c.bytes.ensures.value) c.in-Err.ensures.with_it in
+    put_first c.self.inside.ordered c.push.new.self (marks_in c.self.inside.others.keys) c.args.name.now (set_of-is_keys c.push.new.self (map.insert (set_of c.self.inside.ordered) c.args.name.now tt) put)
     ∙ ap (λ s. map.insert s c.args.name.now tt) c.self.view_is
