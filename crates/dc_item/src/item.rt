@@ -265,10 +265,7 @@ impl Item {
         ensures ok { OnOk result (self.new ≡ record self.old { flags = set_of flags.now }) }
         ensures err { OnErr result (self.new ≡ self.old) }
     {
-        match flags.as_slice() {
-            [flag] => self.set_flag(flag, true)?,
-            several => *self = self.with_flags(several)?,
-        }
+        *self = self.with_flags(flags.as_slice())?;
         Ok(())
     }
 
@@ -289,10 +286,7 @@ impl Item {
         ensures ok { OnOk result (self.new ≡ record self.old { owners = set_of owners.now }) }
         ensures err { OnErr result (self.new ≡ self.old) }
     {
-        match owners.as_slice() {
-            [owner] => self.add_owner(owner)?,
-            several => *self = self.with_owners(several)?,
-        }
+        *self = self.with_owners(owners.as_slice())?;
         Ok(())
     }
 

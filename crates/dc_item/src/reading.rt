@@ -18,24 +18,8 @@ pub fn is_word(bytes: &[u8], word: &[u8]) -> bool
     bytes.eq_ignore_ascii_case(word)
 }
 
-/// The names between commas. `Bad` comes exactly where one of them is no name. Most lists have one.
+/// The names between commas. `Bad` comes exactly where one of them is no name.
 pub fn names_in(alloc: Global, text: &[u8]) -> Result<List<Name>, NameRefused>
-    ensures value { IfOk result (λ names. names ≡ pieces text.now) }
-    ensures ok { OnOk result (list_all is_name (pieces text.now) ≡ true) }
-    ensures bad { result ≡ Err NameRefused.Bad → list_all is_name (pieces text.now) ≡ false }
-{
-    match Name::read(alloc, trim(text)) {
-        Ok(name) => {
-            let mut names = List::new(alloc);
-            names.push(name)?;
-            Ok(names)
-        }
-        Err(NameRefused::Bad) => names_between(alloc, text),
-        Err(NameRefused::OutOfMemory) => Err(NameRefused::OutOfMemory),
-    }
-}
-
-fn names_between(alloc: Global, text: &[u8]) -> Result<List<Name>, NameRefused>
     ensures value { IfOk result (λ names. names ≡ pieces text.now) }
     ensures ok { OnOk result (list_all is_name (pieces text.now) ≡ true) }
     ensures bad { result ≡ Err NameRefused.Bad → list_all is_name (pieces text.now) ≡ false }
@@ -52,24 +36,8 @@ fn names_between(alloc: Global, text: &[u8]) -> Result<List<Name>, NameRefused>
     Ok(names)
 }
 
-/// The flags between commas. `Bad` comes exactly where one of them is no name of a flag. Most lists have one.
+/// The flags between commas. `Bad` comes exactly where one of them is no name of a flag.
 pub fn flags_in(alloc: Global, text: &[u8]) -> Result<List<FlagName>, NameRefused>
-    ensures value { IfOk result (λ flags. flags ≡ pieces text.now) }
-    ensures ok { OnOk result (list_all is_flag_name (pieces text.now) ≡ true) }
-    ensures bad { result ≡ Err NameRefused.Bad → list_all is_flag_name (pieces text.now) ≡ false }
-{
-    match FlagName::read(alloc, trim(text)) {
-        Ok(flag) => {
-            let mut flags = List::new(alloc);
-            flags.push(flag)?;
-            Ok(flags)
-        }
-        Err(NameRefused::Bad) => flags_between(alloc, text),
-        Err(NameRefused::OutOfMemory) => Err(NameRefused::OutOfMemory),
-    }
-}
-
-fn flags_between(alloc: Global, text: &[u8]) -> Result<List<FlagName>, NameRefused>
     ensures value { IfOk result (λ flags. flags ≡ pieces text.now) }
     ensures ok { OnOk result (list_all is_flag_name (pieces text.now) ≡ true) }
     ensures bad { result ≡ Err NameRefused.Bad → list_all is_flag_name (pieces text.now) ≡ false }

@@ -1,13 +1,13 @@
 use Rattle.std.proofs.Common.{◌≡◌, ◌++◌, length, true}
 use Rattle.std.specs.List.{list_all}
-use Rattle.dc_text.specs.Names.{is_flag_name}
+use Rattle.dc_text.specs.Names.{is_name}
 use Rattle.dc_item.specs.Grammar.{pieces}
-use Rattle.dc_item.proofs.reading.flags_between.Given as goal
+use Rattle.dc_item.proofs.reading.names_in.Given as goal
 
 abbrev pub invariant-loop-rest : goal.invariant-loop-rest
 invariant-loop-rest l = record {
-  so_far : l.flags ++ pieces l.rest ≡ pieces l.text;
-  good : list_all is_flag_name l.flags ≡ true;
+  so_far : l.names ++ pieces l.rest ≡ pieces l.text;
+  good : list_all is_name l.names ≡ true;
 }
 
 abbrev pub decreases-loop-rest : goal.decreases-loop-rest
