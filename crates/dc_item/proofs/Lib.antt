@@ -5,7 +5,6 @@ pub mod FurtherLines
 pub mod Groups
 pub mod ItemLemmas
 pub mod ManyLemmas
-pub mod NamesReadLemmas
 pub mod OpenRecord
 pub mod OwnerPlaces
 pub mod LastLemmas
@@ -18,6 +17,7 @@ pub mod PrintedText
 pub mod ReadTables
 pub mod ReaderLemmas
 pub mod RecordPrinted
+pub mod RecordsReadLemmas
 pub mod SectionLemmas
 pub mod StepLemmas
 pub mod TextTableLemmas

@@ -5,7 +5,7 @@ use Rattle.std.specs.Option.{option_map_or}
 use Rattle.std.specs.Ordering.{eq_by_cmp, is_eq}
 use Rattle.std.specs.Cmp.Lexicographic.{nat_list_cmp_total}
 use Rattle.std.proofs.lemmas.Cmp.{tied_itself}
-use Rattle.std.specs.FinMap.{contains_key, insert}
+use Rattle.std.specs.FinMap.{contains_key}
 use Rattle.std.specs.List.{list_any, filter_map, AllByRecursion, cons_option}
 use Rattle.std.proofs.lemmas.List.{append-nil}
 use Rattle.std.proofs.lemmas.List.Elements.{filter_map-append}
@@ -14,9 +14,8 @@ use Rattle.dc_text.specs.Faults.{AllStand, IsFirstFault}
 use Rattle.dc_text.specs.Lines.{lines_of}
 use Rattle.dc_text.specs.Maps.{AreDistinct, set_of, text_cmp}
 use Rattle.dc_text.proofs.FaultLemmas.{run_finds}
-use Rattle.dc_text.proofs.MapLemmas.{set_of-push}
 use Rattle.dc_item.specs.Records.{is_blank, until_blank, since_blank, name_in, item_of, lines_said, records_of, numbered, Stands, LineStands, ReadsLines, HasReading, IsNew, IsAnswer, IsBad, EndsInVariables, OfOwners, OfFlags, OfVariables}
-use Rattle.dc_item.specs.Reader.{added, entry_of, closed, with_current, begun, step, at_start, taken_or, line_step, read_all, Fails}
+use Rattle.dc_item.specs.Reader.{added, entry_of, closed, with_current, begun, has_name, step, at_start, taken_or, line_step, read_all, Fails}
 use Rattle.dc_item.specs.Table.{names_of}
 use Rattle.dc_item.proofs.FirstBad.{HasFault, bad_from_fault, reading_from_all}
 use Rattle.dc_item.proofs.Groups.{Line, lines_said-append, IsFurther, since_blank-blank, since_blank-push, records_of-closed, until_blank-body, tail_only, names-records_of}
@@ -53,7 +52,6 @@ record Holds (ls : List Line) (r : Reader) : Type 0 where
   pub since : since_blank (lines_said ls) ≡ lines_said group
   pub ended : (front ≡ []) ⊎ ((fs : List Line) × (n : ℕ) × (front ≡ fs ++ (n, Blank) ∷ []))
   pub done : r.done ≡ records_of front
-  pub names : r.names ≡ set_of (filter_map name_in (lines_said ls))
   pub current : IsCurrent group r.current
 
 -- the records of closed lines and of those after them
@@ -99,12 +97,6 @@ closed-current r = elim r.current as (λ c. r.current ≡ c → Reader.current (
   | Some o ↦ λ e. refl
 ] refl
 
-closed-names : (r : Reader) → (closed r).names ≡ r.names
-closed-names r = elim r.current as (λ c. Reader.names (option_map_or (λ o. record r { done = r.done ++ entry_of o ∷ []; current = None }) c r) ≡ r.names) [
-  | None ↦ refl
-  | Some o ↦ refl
-]
-
 -- the reader's records, with what is open, are those of the lines
 closed-records : (ls tail : List Line) (r : Reader) → Holds ls r → until_blank (lines_said tail) ≡ [] → records_of tail ≡ [] → (closed r).done ≡ records_of (ls ++ tail)
 closed-records ls tail r h ends none =
@@ -112,12 +104,6 @@ closed-records ls tail r h ends none =
     ∙ ap (λ es. records_of h.front ++ es) (sym (records-current h.group tail r.current h.current ends none))
     ∙ sym (records-parted h.front (h.group ++ tail) h.ended)
     ∙ ap records_of (sym (append_assoc h.front h.group tail) ∙ ap (λ xs. xs ++ tail) (sym h.whole))
-
--- a line without a name adds none
-names_stay : (ls : List Line) (n : ℕ) (p : RecordLine) → name_in p ≡ None → filter_map name_in (lines_said (ls ++ (n, p) ∷ [])) ≡ filter_map name_in (lines_said ls)
-names_stay ls n p e =
-    ap (filter_map name_in) (lines_said-append ls ((n, p) ∷ [])) ∙ filter_map-append name_in (lines_said ls) (p ∷ [])
-    ∙ ap (λ o. filter_map name_in (lines_said ls) ++ cons_option o []) e ∙ append-nil (filter_map name_in (lines_said ls))
 
 blank_taken : (ls : List Line) (n : ℕ) (r : Reader) → Holds ls r → Holds (ls ++ (n, Blank) ∷ []) (closed r)
 blank_taken ls n r h = record {
@@ -127,7 +113,6 @@ blank_taken ls n r h = record {
   since = ap since_blank (lines_said-append ls ((n, Blank) ∷ [])) ∙ since_blank-blank (lines_said ls);
   ended = inr (ls, n, refl);
   done = closed-records ls ((n, Blank) ∷ []) r h refl refl;
-  names = closed-names r ∙ h.names ∙ ap set_of (sym (names_stay ls n Blank refl));
   current = subst (IsCurrent []) (sym (closed-current r)) refl;
 }
 
@@ -148,9 +133,9 @@ neither true b x y e = absurd (cc)
 neither false true x y e = absurd (cc)
 neither false false x y e = (refl, refl, cc)
 
-either : {X : Type 0} (a b : Bool) (x : X) → cond (a || b) None (Some x) ≡ None → (a ≡ true) ⊎ (b ≡ true)
+either : {X : Type 0} (a b : Bool) (x : X) → cond (a || b) None (Some x) ≡ None → (a ≡ true) ⊎ ((a ≡ false) × (b ≡ true))
 either true b x e = inl refl
-either false true x e = inr refl
+either false true x e = inr (refl, refl)
 either false false x e = absurd (cc)
 
 -- ---- names
@@ -172,20 +157,23 @@ one_is name (n ∷ names) e all = elim (eq_by_cmp text_cmp name n) as (λ b. eq_
   | false ↦ λ s f. one_is name names f all.1
 ] refl e
 
--- whether the reader has the name
-has_name : (ls : List Line) (r : Reader) (name : List ℕ) → Holds ls r → contains_key r.names name ≡ list_any (eq_by_cmp text_cmp name) (filter_map name_in (lines_said ls))
-has_name ls r name h = ap (λ s. contains_key s name) h.names ∙ contains_key-set_of (filter_map name_in (lines_said ls)) name
-
 no_group : (ls : List Line) (r : Reader) → (h : Holds ls r) → r.current ≡ None → h.group ≡ []
 no_group ls r h e = subst (IsCurrent h.group) e h.current
 
-name_taken : (ls : List Line) (n : ℕ) (r : Reader) (name : List ℕ) → Holds ls r → is_some r.current ≡ false → contains_key r.names name ≡ false
-    → Stands (lines_said ls) (Name name) × Holds (ls ++ (n, Name name) ∷ []) (record r { names = insert r.names name tt; current = Some (begun name n) })
+-- where no record is open, the names of the records are those of the lines
+name_there : (ls : List Line) (r : Reader) (name : List ℕ) → Holds ls r → is_some r.current ≡ false → has_name r.done name ≡ list_any (eq_by_cmp text_cmp name) (filter_map name_in (lines_said ls))
+name_there ls r name h c =
+    let group : h.group ≡ [] = no_group ls r h (none_of r.current c) in
+    let front : h.front ≡ ls = sym (h.whole ∙ ap (λ g. h.front ++ g) group ∙ append-nil h.front) in
+    ap (λ es. has_name es name) (h.done ∙ ap records_of front) ∙ ap (λ names. contains_key (set_of names) name) (sym (names-records_of ls)) ∙ contains_key-set_of (filter_map name_in (lines_said ls)) name
+
+name_taken : (ls : List Line) (n : ℕ) (r : Reader) (name : List ℕ) → Holds ls r → is_some r.current ≡ false → has_name r.done name ≡ false
+    → Stands (lines_said ls) (Name name) × Holds (ls ++ (n, Name name) ∷ []) (record r { current = Some (begun name n) })
 name_taken ls n r name h c new =
     let group : h.group ≡ [] = no_group ls r h (none_of r.current c) in
     let one : h.group ++ (n, Name name) ∷ [] ≡ (n, Name name) ∷ [] = ap (λ xs. xs ++ (n, Name name) ∷ []) group in
     let parts : lines_said (h.group ++ (n, Name name) ∷ []) ≡ Name name ∷ [] = ap lines_said one in (
-      (h.since ∙ ap lines_said group, none_is name (filter_map name_in (lines_said ls)) (sym (has_name ls r name h) ∙ new)),
+      (h.since ∙ ap lines_said group, none_is name (filter_map name_in (lines_said ls)) (sym (name_there ls r name h c) ∙ new)),
       record {
         front = h.front;
         group = h.group ++ (n, Name name) ∷ [];
@@ -193,8 +181,6 @@ name_taken ls n r name h c new =
         since = since_push ls r n (Name name) h refl;
         ended = h.ended;
         done = h.done;
-        names = ap (λ s. insert s name tt) h.names ∙ sym (set_of-push (filter_map name_in (lines_said ls)) name)
-            ∙ ap set_of (sym (ap (filter_map name_in) (lines_said-append ls ((n, Name name) ∷ [])) ∙ filter_map-append name_in (lines_said ls) (Name name ∷ [])));
         current = record {
           line = n;
           rest = [];
@@ -225,13 +211,13 @@ open_has_lines ls r o h is none =
     let b : h.group ≡ (is.line, Name o.name) ∷ is.rest = is.head in
     cc
 
-name_refused : (ls : List Line) (r : Reader) (name : List ℕ) → Holds ls r → (is_some r.current ≡ true) ⊎ (contains_key r.names name ≡ true) → Stands (lines_said ls) (Name name) → ⊥
+name_refused : (ls : List Line) (r : Reader) (name : List ℕ) → Holds ls r → (is_some r.current ≡ true) ⊎ ((is_some r.current ≡ false) × (has_name r.done name ≡ true)) → Stands (lines_said ls) (Name name) → ⊥
 name_refused ls r name h why stands = elim why as (λ _. ⊥) [
   | inl c ↦ elim r.current as (λ o. is_some o ≡ true → IsCurrent h.group o → ⊥) [
     | None ↦ λ c _. cc
     | Some o ↦ λ _ is. open_has_lines ls r o h is stands.0
   ] c h.current
-  | inr n ↦ one_is name (filter_map name_in (lines_said ls)) (sym (has_name ls r name h) ∙ n) stands.1
+  | inr (c, n) ↦ one_is name (filter_map name_in (lines_said ls)) (sym (name_there ls r name h c) ∙ n) stands.1
 ]
 
 -- a further line
@@ -265,7 +251,7 @@ name_when : (u b : Bool) (n : List ℕ) (p q : Open) → p.name ≡ n → cond u
 name_when true b n p q is e = name_if b n p q is e
 name_when false b n p q is e = absurd (cc)
 
-name_kept : (p : RecordLine) (o q : Open) → added o p ≡ Some q → o.name ≡ q.name
+pub name_kept : (p : RecordLine) (o q : Open) → added o p ≡ Some q → o.name ≡ q.name
 name_kept Blank o q e = absurd (cc)
 name_kept (Name name) o q e = absurd (cc)
 name_kept (Owners names) o q e = name_if o.has_owners o.name _ q refl e
@@ -296,7 +282,6 @@ further_taken ls n r t p h unblank nameless e =
         since = since_push ls r n p h unblank;
         ended = h.ended;
         done = h.done;
-        names = h.names ∙ ap set_of (sym (names_stay ls n p nameless));
         current = record {
           line = is.line;
           rest = is.rest ++ (n, p) ∷ [];
@@ -322,8 +307,8 @@ TakenLine ls l t = Stands (lines_said ls) l.1 × Holds (ls ++ l ∷ []) t
 part_taken : (ls : List Line) (n : ℕ) (r : Reader) (p : RecordLine) (t : Reader) → Holds ls r → step r n p ≡ Some t → TakenLine ls (n, p) t
 part_taken ls n r Blank t h e = let same : closed r ≡ t = cc in (tt, subst (Holds (ls ++ (n, Blank) ∷ [])) same (blank_taken ls n r h))
 part_taken ls n r (Name name) t h e =
-    let f : (is_some r.current ≡ false) × (contains_key r.names name ≡ false) × (_ ≡ t) = neither (is_some r.current) (contains_key r.names name) _ t e in
-    let g : Stands (lines_said ls) (Name name) × Holds (ls ++ (n, Name name) ∷ []) (record r { names = insert r.names name tt; current = Some (begun name n) }) = name_taken ls n r name h f.0 f.1 in
+    let f : (is_some r.current ≡ false) × (has_name r.done name ≡ false) × (_ ≡ t) = neither (is_some r.current) (has_name r.done name) _ t e in
+    let g : Stands (lines_said ls) (Name name) × Holds (ls ++ (n, Name name) ∷ []) (record r { current = Some (begun name n) }) = name_taken ls n r name h f.0 f.1 in
     (g.0, subst (Holds (ls ++ (n, Name name) ∷ [])) f.2 g.1)
 part_taken ls n r (Owners names) t h e = let g : Goes ls (n, Owners names) t = further_taken ls n r t (Owners names) h refl refl e in ((g.some, g.fits), g.holds)
 part_taken ls n r (Flags names) t h e = let g : Goes ls (n, Flags names) t = further_taken ls n r t (Flags names) h refl refl e in ((g.some, g.fits), g.holds)
@@ -334,7 +319,7 @@ part_taken ls n r Nothing t h e = absurd (cc)
 
 part_refused : (ls : List Line) (n : ℕ) (r : Reader) (p : RecordLine) → Holds ls r → step r n p ≡ None → Stands (lines_said ls) p → ⊥
 part_refused ls n r Blank h e s = cc
-part_refused ls n r (Name name) h e s = name_refused ls r name h (either (is_some r.current) (contains_key r.names name) _ e) s
+part_refused ls n r (Name name) h e s = name_refused ls r name h (either (is_some r.current) (has_name r.done name) _ e) s
 part_refused ls n r (Owners names) h e s = further_refused ls r (Owners names) h e (λ x. x.1) (λ x. x.0) s
 part_refused ls n r (Flags names) h e s = further_refused ls r (Flags names) h e (λ x. x.1) (λ x. x.0) s
 part_refused ls n r Variables h e s = further_refused ls r Variables h e (λ x. x.1) (λ x. x.0) s
@@ -357,7 +342,7 @@ line_refused : (before : List Line) (r : Reader) (l : Line) (after : List Line) 
 line_refused before r l after f h e = let g : (step r l.0 l.1 ≡ None) × (f.0 ≡ l) = from_err l (step r l.0 l.1) f e in (g.1, part_refused before l.0 r l.1 h g.0)
 
 holds_start : Holds [] at_start
-holds_start = record { front = []; group = []; whole = refl; since = refl; ended = inl refl; done = refl; names = refl; current = refl }
+holds_start = record { front = []; group = []; whole = refl; since = refl; ended = inl refl; done = refl; current = refl }
 
 -- ---- what the reader makes of the lines
 

@@ -1,9 +1,10 @@
 -- A record that is open has no owners before the line of its owners, and no flag before that of its flags.
-use Rattle.std.proofs.Common.{◌≡◌, ℕ, Bool, true, false, cond, [], ◌∷◌, ◌++◌, Some, None, Option, refl, sym, subst}
+use Rattle.std.proofs.Common.{◌≡◌, ℕ, Bool, true, false, cond, [], ◌∷◌, ◌++◌, Some, None, Option, refl, sym, ap, ◌∙◌, subst}
 use Rattle.std.specs.Prelude.{MatchOption, ◌||◌, is_some}
 use Rattle.std.specs.Option.{option_map_or}
 use Rattle.std.specs.FinMap.{contains_key}
-use Rattle.dc_item.specs.Reader.{added, entry_of, step, IsOpen, IsReading}
+use Rattle.dc_item.specs.Reader.{added, entry_of, has_name, step, IsOpen, IsReading}
+use Rattle.dc_item.proofs.ReaderLemmas.{name_kept}
 use Rattle.dc_item.specs.declared.record_line.RecordLine.{RecordLine}
 use Rattle.dc_item.specs.declared.record_line.RecordLine.TheVariants.{Blank, Name, Owners, Flags, Variables, Variable, Field, Nothing}
 use Rattle.dc_item.specs.declared.reader.Open.{Open}
@@ -36,24 +37,33 @@ open_after o p (Flags names) e is = unless IsOpen o.has_flags _ p e (is.0, λ t.
 open_after o p Variables e is = unless IsOpen o.has_variables _ p e is
 open_after o p (Variable key value) e is = within IsOpen o.in_variables (contains_key o.item.variables key) _ p e is
 
-opened : (r s : Reader) (o : Open) (made : Option Open) → option_map_or (λ p. Some (record r { current = Some p })) made None ≡ Some s → ((p : Open) → made ≡ Some p → IsOpen p) → IsReading s
+abbrev IsOpenIn : Reader → Open → Type 0
+IsOpenIn r o = IsOpen o × (has_name r.done o.name ≡ false)
+
+opened : (r s : Reader) (o : Open) (made : Option Open) → option_map_or (λ p. Some (record r { current = Some p })) made None ≡ Some s → ((p : Open) → made ≡ Some p → IsOpenIn r p) → IsReading s
 opened r s o None e all = no_value s e
 opened r s o (Some p) e all = subst IsReading (the_value _ s e) (all p refl)
 
 with_open : (r s : Reader) (line : RecordLine) (current : Option Open) → option_map_or (λ o. option_map_or (λ p. Some (record r { current = Some p })) (added o line) None) current None ≡ Some s
-    → MatchOption current (Unit {0}) IsOpen → IsReading s
+    → MatchOption current (Unit {0}) (IsOpenIn r) → IsReading s
 with_open r s line None e is = no_value s e
-with_open r s line (Some o) e is = opened r s o (added o line) e (λ p made. open_after o p line made is)
+with_open r s line (Some o) e is = opened r s o (added o line) e (λ p made. (open_after o p line made is.0, ap (has_name r.done) (sym (name_kept line o p made)) ∙ is.1))
 
 -- no record is open behind one that ended
 none_open : (r : Reader) (f : Open → Reader) (all : (o : Open) → (f o).current ≡ None) (current : Option Open) → r.current ≡ current → IsReading (option_map_or f current r)
-none_open r f all None at = subst (λ c. MatchOption c (Unit {0}) IsOpen) (sym at) tt
-none_open r f all (Some o) at = subst (λ c. MatchOption c (Unit {0}) IsOpen) (sym (all o)) tt
+none_open r f all None at = subst (λ c. MatchOption c (Unit {0}) (IsOpenIn r)) (sym at) tt
+none_open r f all (Some o) at = subst (λ c. MatchOption c (Unit {0}) (IsOpenIn (f o))) (sym (all o)) tt
+
+-- a record that begins has a new name
+begins : (a b : Bool) (r s : Reader) → cond (a || b) None (Some r) ≡ Some s → (b ≡ false → IsReading r) → IsReading s
+begins true b r s e is = no_value s e
+begins false true r s e is = no_value s e
+begins false false r s e is = subst IsReading (the_value r s e) (is refl)
 
 -- what is read keeps to it
 pub reading_after : (r s : Reader) (number : ℕ) (line : RecordLine) → step r number line ≡ Some s → IsReading r → IsReading s
 reading_after r s number Blank e is = subst IsReading (the_value _ s e) (none_open r (λ o. record r { done = r.done ++ entry_of o ∷ []; current = None }) (λ o. refl) r.current refl)
-reading_after r s number (Name name) e is = unless IsReading (is_some r.current || contains_key r.names name) _ s e (λ _. refl, λ _. refl)
+reading_after r s number (Name name) e is = begins (is_some r.current) (has_name r.done name) _ s e (λ new. ((λ _. refl, λ _. refl), new))
 reading_after r s number Nothing e is = no_value s e
 reading_after r s number (Field key value) e is = with_open r s (Field key value) r.current e is
 reading_after r s number (Owners names) e is = with_open r s (Owners names) r.current e is

@@ -7,6 +7,7 @@ pub mod PartMap
 pub mod Printed
 pub mod Reader
 pub mod Records
+pub mod RecordsRead
 pub mod Sections
 pub mod Table
 pub mod TableLends

@@ -1,12 +1,13 @@
 -- What the reader of records does with one line after another, as functions. The proofs alone speak of it: which lines stand
 -- is said by `Stands` of Records.
-use Rattle.std.specs.Prelude.{◌≡◌, ℕ, ◌||◌, List, [], ◌∷◌, ◌++◌, Option, Some, None, is_some, MatchOption, if◌then◌else◌, Result, Ok, Err, false, true}
+use Rattle.std.specs.Prelude.{◌≡◌, ℕ, Bool, ◌||◌, List, [], ◌∷◌, ◌++◌, Option, Some, None, is_some, MatchOption, if◌then◌else◌, Result, Ok, Err, false, true}
 use Rattle.std.specs.Option.{option_map_or}
 use Rattle.std.specs.FinMap as map
 use Rattle.dc_text.specs.Faults.{run}
 use Rattle.dc_text.specs.Maps.{set_of}
 use Rattle.dc_item.specs.Item.{no_parts}
 use Rattle.dc_item.specs.Records.{numbered}
+use Rattle.dc_item.specs.Table.{names_of}
 use Rattle.dc_item.specs.declared.record_line.RecordLine.{RecordLine}
 use Rattle.dc_item.specs.declared.record_line.RecordLine.TheVariants.{Blank, Name, Owners, Flags, Variables, Variable, Field, Nothing}
 use Rattle.dc_item.specs.declared.entry.Entry.{Entry}
@@ -39,9 +40,13 @@ added o _ = None
 abbrev pub IsOpen : Open → Type 0
 IsOpen o = (o.has_owners ≡ false → o.item.owners ≡ map.empty) × (o.has_flags ≡ false → o.item.flags ≡ map.empty)
 
--- so it is with the record that is open, if one is
+-- a record has the name
+abbrev pub has_name : List Entry → List ℕ → Bool
+has_name entries name = map.contains_key (set_of (names_of entries)) name
+
+-- so it is with the record that is open, if one is, and none before it has its name
 abbrev pub IsReading : Reader → Type 0
-IsReading r = MatchOption r.current (Unit {0}) IsOpen
+IsReading r = MatchOption r.current (Unit {0}) (λ o. IsOpen o × (has_name r.done o.name ≡ false))
 
 abbrev pub closed : Reader → Reader
 closed r = option_map_or (λ o. record r { done = r.done ++ entry_of o ∷ []; current = None }) r.current r
@@ -53,14 +58,13 @@ with_current r f = option_map_or (λ o. option_map_or (λ p. Some (record r { cu
 -- the reader after the line of this number
 abbrev pub step : Reader → ℕ → RecordLine → Option Reader
 step r number Blank = Some (closed r)
-step r number (Name name) = if is_some r.current || map.contains_key r.names name then None
-    else Some (record r { names = map.insert r.names name tt; current = Some (begun name number) })
+step r number (Name name) = if is_some r.current || has_name r.done name then None else Some (record r { current = Some (begun name number) })
 step r number Nothing = None
 step r number line = with_current r (λ o. added o line)
 
 -- the reader before the first line
 abbrev pub at_start : Reader
-at_start = record { done = []; names = map.empty; current = None }
+at_start = record { done = []; current = None }
 
 -- the line that isn't taken is the fault
 abbrev pub taken_or : ℕ × RecordLine → Option Reader → Result Reader ((ℕ × RecordLine) × Unit {0})

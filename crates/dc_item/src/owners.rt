@@ -76,8 +76,8 @@ pub fn owners_among(alloc: Global, entries: &[(&[u8], &[u8])]) -> Mem<List<Name>
     Ok(owners)
 }
 
-// The name that the bytes are. They are one, so that nothing but memory fails.
-fn name_of(alloc: Global, bytes: &[u8]) -> Mem<Name>
+/// The name that the bytes are. They are one, so that nothing but memory fails.
+pub(crate) fn name_of(alloc: Global, bytes: &[u8]) -> Mem<Name>
     requires { is_name bytes.now ≡ true }
     ensures { IfOk result (λ name. name ≡ bytes.now) }
 {

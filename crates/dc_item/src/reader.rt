@@ -9,15 +9,14 @@ ghost use Rattle.dc_text.specs.Names.{is_name as is_name_of, is_flag_name as is_
 ghost use Rattle.dc_text.specs.Settled.{settled};
 ghost use Rattle.dc_item.specs.Grammar.{line_said, pieces, headed_line, indented_line, name_line, owners_line, flags_line, variables_line, field_line, variable_line};
 
-use crate::entry::Entry;
 use crate::item::Item;
-use crate::names_read::NamesRead;
 use crate::reading::{flags_in, is_word, names_in};
 use crate::record_line::RecordLine;
+use crate::records_read::Records;
 use dc_text::bytes::{is_blank, is_indented, split_at_byte, trim, without_space};
 use dc_text::keys::is_flag_name;
 use dc_text::names::is_name;
-use dc_text::{FieldKey, List, Mem, Name, NameRefused, OutOfMemory, VarKey, settle};
+use dc_text::{FieldKey, Mem, Name, NameRefused, OutOfMemory, VarKey, settle};
 use std::alloc::Global;
 
 /// A record of which some lines were read.
@@ -218,9 +217,7 @@ fn put_variable(item: &mut Item, alloc: Global, key: &VarKey, value: &[u8]) -> M
 /// The records of the lines that were read.
 #[derive(Drop)]
 pub struct Reader {
-    pub done: List<Entry>,
-    /// The names of the records, that of the open one among them.
-    pub names: NamesRead,
+    pub done: Records,
     pub current: Option<Open>,
 }
 
@@ -232,8 +229,7 @@ impl Reader {
         ensures { result ≡ at_start }
     {
         Reader {
-            done: List::new(alloc),
-            names: NamesRead::new(alloc),
+            done: Records::new(alloc),
             current: None,
         }
     }
@@ -271,21 +267,21 @@ impl Reader {
         ensures { IfOk result (λ stands. step self.old number (name_line rest.now) ≡ (if stands then Some self.new else None)) }
     {
         match Name::read(alloc, trim(rest)) {
-            Ok(name) => self.begin(alloc, number, name),
+            Ok(name) => Ok(self.begin(alloc, number, name)),
             Err(NameRefused::Bad) => Ok(false),
             Err(NameRefused::OutOfMemory) => Err(OutOfMemory),
         }
     }
 
     // Begins a record of the name, and answers whether one begins here.
-    fn begin(&mut self, alloc: Global, number: u64, name: Name) -> Mem<bool>
-        ensures { IfOk result (λ stands. step self.old number (RecordLine.Name name) ≡ (if stands then Some self.new else None)) }
+    fn begin(&mut self, alloc: Global, number: u64, name: Name) -> bool
+        ensures { step self.old number (RecordLine.Name name) ≡ (if result then Some self.new else None) }
     {
-        if self.current.is_some() || !self.names.add(&name)? {
-            return Ok(false);
+        if self.current.is_some() || self.done.has(name.bytes()) {
+            return false;
         }
         self.current = Some(Open::new(alloc, name, number));
-        Ok(true)
+        true
     }
 
     // Gives a line with this word before its colon, other than a Name line, to the record that is open.
@@ -312,6 +308,7 @@ impl Reader {
 
     /// Ends the record that is open.
     pub fn close(&mut self) -> Mem<()>
+        requires { IsReading self.old }
         ensures { OnOk result (self.new ≡ closed self.old) }
     {
         if let Some(open) = self.current.take() {
@@ -325,7 +322,7 @@ impl Reader {
                 in_variables: _,
             } = open;
             item.shrink();
-            self.done.push(Entry { name, item, line })?;
+            self.done.push(name, item, line)?;
         }
         Ok(())
     }

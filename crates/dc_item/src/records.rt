@@ -1,13 +1,13 @@
 // The records of a database text.
-ghost use Rattle.std.specs.Prelude.{◌≡◌, MatchResult};
+ghost use Rattle.std.specs.Prelude.{◌≡◌, IfOk, MatchResult};
 ghost use Rattle.dc_text.specs.Lines.{lines_of};
 ghost use Rattle.dc_item.specs.Records.{IsAnswer};
-ghost use Rattle.dc_item.specs.Reader.{read_all, Fails};
+ghost use Rattle.dc_item.specs.Reader.{read_all, Fails, IsReading};
 
-use crate::entry::Entry;
 use crate::reader::Reader;
+use crate::records_read::Records;
+use dc_text::OutOfMemory;
 use dc_text::bytes::split_line;
-use dc_text::{List, OutOfMemory};
 use std::alloc::Global;
 use thiserror::Error;
 
@@ -33,21 +33,18 @@ impl From<OutOfMemory> for RecordError {
 }
 
 /// The records of a database text. `Bad` names the first line that has no reading where it stands.
-pub fn read_records(alloc: Global, bytes: &[u8]) -> Result<List<Entry>, RecordError>
+pub fn read_records(alloc: Global, bytes: &[u8]) -> Result<Records, RecordError>
     ensures { IsAnswer bytes.now result }
 {
     let mut reader = read_lines(alloc, bytes)?;
     reader.close()?;
-    let Reader {
-        done,
-        names: _,
-        current: _,
-    } = reader;
+    let Reader { done, current: _ } = reader;
     Ok(done)
 }
 
 fn read_lines(alloc: Global, bytes: &[u8]) -> Result<Reader, RecordError>
-    ensures { MatchResult result (λ reader. read_all (lines_of bytes.now) ≡ Ok reader) (λ error. Fails error (read_all (lines_of bytes.now))) }
+    ensures read { MatchResult result (λ reader. read_all (lines_of bytes.now) ≡ Ok reader) (λ error. Fails error (read_all (lines_of bytes.now))) }
+    ensures is_reading { IfOk result IsReading }
 {
     let mut reader = Reader::new(alloc);
     let mut rest = bytes;

@@ -92,4 +92,14 @@ impl<V: Drop> TextTable<V> {
         }
         Ok(order)
     }
+
+    /// The map of these entries, which aren't copied.
+    pub(crate) fn of(entries: IndexMap<Vec<u8>, V>) -> Self
+        ensures { result ≡ map.from_entries (each (λ e. (e.0.items, e.1)) entries.entries) }
+    {
+        TextTable {
+            alloc: *entries.allocator(),
+            entries,
+        }
+    }
 }

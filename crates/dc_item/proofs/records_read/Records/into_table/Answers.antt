@@ -1,0 +1,11 @@
+use Rattle.std.proofs.Common.{sym, ap, ◌∙◌}
+use Rattle.std.specs.FinMap as map
+use Rattle.dc_item.specs.Table.{table_of}
+use Rattle.dc_item.proofs.RecordsReadLemmas.{table-with_lines, keys_named}
+use Rattle.dc_item.proofs.records_read.Records.into_table.Goals as goal
+
+pub returns-clause-table : goal.returns-clause-table
+returns-clause-table c = c.of.ensures ∙ table-with_lines _ c.self.inside.lines.items c.self.invariant.as_many ∙ ap table_of c.self.view_is
+
+pub returns-clause-names : goal.returns-clause-names
+returns-clause-names c = λ name there. keys_named _ name c.self.invariant.named (ap (λ m. map.contains_key m name) (sym c.of.ensures) ∙ there)
