@@ -6,7 +6,6 @@ pub mod Groups
 pub mod ItemLemmas
 pub mod ManyLemmas
 pub mod OpenRecord
-pub mod OwnerPlaces
 pub mod LastLemmas
 pub mod PackedLemmas
 pub mod PartLemmas
@@ -18,6 +17,7 @@ pub mod ReadTables
 pub mod ReaderLemmas
 pub mod RecordPrinted
 pub mod RecordsReadLemmas
+pub mod SearchLemmas
 pub mod SectionLemmas
 pub mod StepLemmas
 pub mod TextTableLemmas

@@ -7,7 +7,7 @@ use Rattle.std.proofs.lemmas.List.{get_or_default}
 use Rattle.dc_text.specs.Maps.{text_cmp}
 use Rattle.dc_text.specs.Places.{IsAt, IsGapFor}
 use Rattle.dc_text.proofs.SmallMapLemmas.{set_at, searched, is_found, find_gap}
-use Rattle.dc_item.proofs.OwnerPlaces.{behind}
+use Rattle.dc_item.proofs.SearchLemmas.{behind}
 
 -- to write over the pair that has a key is to put the value at the key
 pub set_pair : (q v : List ℕ) (es : List (List ℕ × List ℕ)) (i : ℕ) (pair : List ℕ × List ℕ) → T (is_sorted text_cmp es) → IsAt q es i → pair ≡ (q, v) → set es i pair ≡ put text_cmp q v es

@@ -1,24 +1,21 @@
 -- The records of a text as they are kept: what they have, and one more at the end.
-use Rattle.std.proofs.Common.{◌≡◌, ℕ, zero, suc, ◌+◌, ◌-◌, slice_get, ◌<◌, ◌≤◌, Bool, true, false, cond, List, [], ◌∷◌, ◌++◌, length, arith, Some, Option, Err, map as each, refl, sym, ap, subst, ◌∙◌, length-append}
+use Rattle.std.proofs.Common.{◌≡◌, ℕ, suc, ◌+◌, Bool, true, false, cond, List, [], ◌∷◌, ◌++◌, length, arith, Some, Option, map as each, refl, sym, ap, subst, ◌∙◌, length-append}
 use Rattle.std.specs.Prelude.{◌||◌, ◌&&◌, is_some}
 use Rattle.std.specs.List.{list_all, list_any}
-use Rattle.std.specs.List as listed
 use Rattle.std.specs.Map.{lookup}
-use Rattle.std.specs.Ordering.{eq_by_cmp, is_lt}
+use Rattle.std.specs.Ordering.{eq_by_cmp}
 use Rattle.std.specs.Str.{bytes_eq}
 use Rattle.std.specs.Cmp.Lexicographic.{nat_list_cmp_total}
-use Rattle.std.specs.FinMap.{contains_key, find, from_entries, get-from_entries, insert, keys}
-use Rattle.std.proofs.lemmas.List.{map-append, length-map, take_all, drop_all}
+use Rattle.std.specs.FinMap.{contains_key, find, from_entries, get-from_entries}
+use Rattle.std.proofs.lemmas.List.{map-append, length-map}
 use Rattle.indexmap.specs.IndexMap.{insert_entry}
 use Rattle.dc_text.specs.Maps.{set_of, text_cmp}
 use Rattle.dc_text.specs.Names.{is_name}
 use Rattle.dc_text.proofs.MapLemmas.{seen}
 use Rattle.dc_item.specs.Item.{ItemParts}
-use Rattle.dc_item.specs.Owners.{IsGapFor}
 use Rattle.dc_item.specs.RecordsRead.{with_lines, names_in, AreKept}
 use Rattle.dc_item.specs.Table.{contents, names_of, table_of}
-use Rattle.dc_item.proofs.ItemLemmas.{contains_key-set_of, KeepsAll-set_of, keys-none, list_all-push, set_of-is_keys}
-use Rattle.dc_item.proofs.OwnerPlaces.{placed, placed_behind}
+use Rattle.dc_item.proofs.ItemLemmas.{contains_key-set_of, KeepsAll-set_of, list_all-push}
 use Rattle.dc_item.proofs.TextTableLemmas.{lookup-seen, same_test}
 use Rattle.dc_item.specs.declared.entry.Entry.{Entry}
 
@@ -100,65 +97,17 @@ module _ {Y : Type 0} (f : Y → List ℕ) where
   insert-new eq same es y item new =
       ap (seen f) (last eq same es y item (sym (contains_key-set_of (names_in (seen f es)) (f y)) ∙ new)) ∙ map-append (λ e. (f e.0, e.1)) es ((y, item) ∷ [])
 
--- ---- a name above all
-
--- the place of a name where there is none
-placed_first : (name : List ℕ) → IsGapFor name [] 0
-placed_first name = placed [] name (Err 0) (keys-none [] (omega arith)) (omega arith) (λ rise. (λ k d from lt. absurd (omega (arith, lt)), λ k d from lt. absurd (omega (arith, lt))))
-
-pub above_none : (items : Kept) (name : List ℕ) → length items ≡ 0 → IsGapFor name (names_in items) (length (names_in items))
-above_none [] name e = placed_first name
-above_none (kept ∷ items) name e = absurd (omega (arith, e))
-
-pub above_last : (items : Kept) (name last : List ℕ) → names_in items ≡ keys (set_of (names_in items)) → (front : List (List ℕ)) → names_in items ≡ front ++ last ∷ [] → is_lt (text_cmp last name) ≡ true
-    → IsGapFor name (names_in items) (length (names_in items))
-above_last items name last rise front is low = placed_behind (names_in items) front last name rise is low
-
--- the same of other names that are these
-pub gap_among : (names others : List (List ℕ)) (name : List ℕ) → names ≡ others → IsGapFor name names (length names) → IsGapFor name others (length others)
-gap_among names others name same gap = subst (λ l. IsGapFor name l (length l)) same gap
-
-pub none_left : (n : ℕ) → (0 < n → false ≡ true) → n ≡ 0
-none_left zero h = refl
-none_left (suc n) h = absurd (let e : false ≡ true = h (omega arith) in cc)
-
-last_of : {X : Type 0} (xs : List X) (x : X) → Some x ≡ slice_get xs (length xs - 1) → (front : List X) × (xs ≡ front ++ x ∷ [])
-last_of [] x e = absurd (cc)
-last_of (y ∷ []) x e = ([], (let same : x ≡ y = cc in ap (λ z. z ∷ []) (sym same)))
-last_of {X = X} (y ∷ z ∷ xs) x e =
-    let place : length (y ∷ z ∷ xs) - 1 ≡ suc (length (z ∷ xs) - 1) = omega arith in
-    let rest : (front : List X) × (z ∷ xs ≡ front ++ x ∷ []) = last_of (z ∷ xs) x (e ∙ ap (slice_get (y ∷ z ∷ xs)) place) in
-    (y ∷ rest.0, λ i. y ∷ rest.1 i)
-
-pub last_name : {Y : Type 0} (f : Y → List ℕ) (es : List (Y × ItemParts)) (y : Y) (item : ItemParts) → Some (y, item) ≡ slice_get es (length es - 1) → (front : List (List ℕ)) × (names_in (seen f es) ≡ front ++ f y ∷ [])
-last_name {Y = Y} f es y item e =
-    let last : (front : List (Y × ItemParts)) × (es ≡ front ++ (y, item) ∷ []) = last_of es (y, item) e in
-    let names : List (Y × ItemParts) → List (List ℕ) = λ l. names_in (seen f l) in
-    (names last.0, ap names last.1 ∙ (ap names_in (map-append (λ e. (f e.0, e.1)) last.0 ((y, item) ∷ [])) ∙ map-append (λ (k : List ℕ × ItemParts). k.0) (seen f last.0) ((f y, item) ∷ [])))
-
 -- ---- one more record
 
--- what is put behind all comes last
-insert_last : (names : List (List ℕ)) (name : List ℕ) → listed.insert names (length names) name ≡ names ++ name ∷ []
-insert_last names name = let all : length names ≤ length names = omega arith in λ i. take_all (length names) names all i ++ name ∷ drop_all (length names) names all i
+pub none_kept : (items : Kept) (lines : List ℕ) → items ≡ [] → lines ≡ [] → AreKept items lines
+none_kept items lines none no_lines = subst (λ (l : Kept). AreKept l lines) (sym none) (subst (λ (l : List ℕ). AreKept [] l) (sym no_lines) (record { as_many = refl; named = refl }))
 
-still_rises : (names : List (List ℕ)) (name : List ℕ) → IsGapFor name names (length names) → names ++ name ∷ [] ≡ keys (set_of (names ++ name ∷ []))
-still_rises names name gap =
-    let is : names ++ name ∷ [] ≡ keys (insert (set_of names) name tt) = sym (insert_last names name) ∙ gap.with_it in
-    is ∙ ap keys (sym (set_of-is_keys (names ++ name ∷ []) (insert (set_of names) name tt) is))
-
-pub none_kept : (items : Kept) (lines : List ℕ) → items ≡ [] → lines ≡ [] → AreKept items lines true
-none_kept items lines none no_lines =
-    subst (λ (l : Kept). AreKept l lines true) (sym none) (subst (λ (l : List ℕ). AreKept [] l true) (sym no_lines) (record { as_many = refl; named = refl; rise = λ _. keys-none [] (omega arith) }))
-
-pub kept_push : (items : Kept) (lines : List ℕ) (were are : Bool) (name : List ℕ) (item : ItemParts) (line : ℕ) → AreKept items lines were → is_name name ≡ true
-    → (are ≡ true → IsGapFor name (names_in items) (length (names_in items))) → AreKept (items ++ (name, item) ∷ []) (lines ++ line ∷ []) are
-kept_push items lines were are name item line kept good above =
-    let names : names_in (items ++ (name, item) ∷ []) ≡ names_in items ++ name ∷ [] = map-append (λ (e : List ℕ × ItemParts). e.0) items ((name, item) ∷ []) in
+pub kept_push : (items new : Kept) (lines more : List ℕ) (name : List ℕ) (item : ItemParts) (line : ℕ) → AreKept items lines → is_name name ≡ true
+    → new ≡ items ++ (name, item) ∷ [] → more ≡ lines ++ line ∷ [] → AreKept new more
+kept_push items new lines more name item line kept good is next =
     record {
-      as_many = length-append lines (line ∷ []) ∙ ap (λ n. n + 1) kept.as_many ∙ sym (length-append items ((name, item) ∷ []));
-      named = ap (list_all is_name) names ∙ list_all-push is_name (names_in items) name kept.named good;
-      rise = λ yes. subst (λ l. l ≡ keys (set_of l)) (sym names) (still_rises (names_in items) name (above yes));
+      as_many = ap length next ∙ length-append lines (line ∷ []) ∙ ap (λ n. n + 1) kept.as_many ∙ sym (ap length is ∙ length-append items ((name, item) ∷ []));
+      named = ap (list_all is_name) (ap names_in is ∙ map-append (λ (e : List ℕ × ItemParts). e.0) items ((name, item) ∷ [])) ∙ list_all-push is_name (names_in items) name kept.named good;
     }
 
 pub entries_push : (items new : Kept) (lines more : List ℕ) (entries : List Entry) (name : List ℕ) (item : ItemParts) (line : ℕ) → length lines ≡ length items → with_lines items lines ≡ entries

@@ -1,7 +1,6 @@
 pub mod After
 pub mod Grammar
 pub mod Item
-pub mod Owners
 pub mod Packed
 pub mod PartMap
 pub mod Printed

@@ -1,19 +1,17 @@
 // Owners, and names in byte order.
-ghost use Rattle.std.specs.Prelude.{◌≡◌, IfOk, MatchResult, true, map as each};
+ghost use Rattle.std.specs.Prelude.{◌≡◌, IfOk, true, map as each};
 ghost use Rattle.std.specs.List.{list_all};
 ghost use Rattle.std.specs.FinMap as map;
 ghost use Rattle.dc_text.specs.Bytes.{is_nil};
-ghost use Rattle.dc_text.specs.Maps.{set_of, text_cmp};
+ghost use Rattle.dc_text.specs.Maps.{set_of};
 ghost use Rattle.dc_text.specs.Names.{is_name};
 ghost use Rattle.dc_item.specs.After.{left_of};
 ghost use Rattle.dc_item.specs.Item.{selves};
-ghost use Rattle.dc_item.specs.Owners.{IsPlaceOf, IsGapFor};
 ghost use Rattle.dc_item.specs.Sections.{keys_under, owners_mark};
 
 use crate::marks::{OWNERS, has_mark, unmarked};
 use dc_text::{List, Mem, Name, OutOfMemory, TextMap};
 use std::alloc::Global;
-use std::cmp::Ordering;
 
 /// The names in byte order, each of them once. A list of at most one is handed back.
 pub fn in_order(alloc: Global, names: List<Name>) -> Mem<List<Name>>
@@ -98,29 +96,4 @@ pub fn are_all_named(alloc: Global, owners: &List<Name>, names: &List<Name>) -> 
         }
     }
     Ok(true)
-}
-
-/// The place of the name among owners in byte order, or the place where it would go.
-pub fn place_of(owners: &[Name], name: &[u8]) -> Result<usize, usize>
-    requires { owners.now ≡ map.keys (set_of owners.now) }
-    ensures { MatchResult result (IsPlaceOf name.now owners.now) (IsGapFor name.now owners.now) }
-{
-    owners.binary_search_by(
-        |owner: &Name| -> Ordering
-            ensures { result ≡ text_cmp owner.now name.entry.now }
-        { owner.bytes().cmp(name) },
-    )
-}
-
-/// The same, of names that mostly come behind all others.
-pub fn place_from_end(names: &[Name], name: &[u8]) -> Result<usize, usize>
-    requires { names.now ≡ map.keys (set_of names.now) }
-    ensures { MatchResult result (IsPlaceOf name.now names.now) (IsGapFor name.now names.now) }
-{
-    if let Some((last, _)) = names.split_last() {
-        if last.bytes().cmp(name).is_lt() {
-            return Err(names.len());
-        }
-    }
-    place_of(names, name)
 }

@@ -4,7 +4,6 @@ ghost use Rattle.std.specs.List.{list_all};
 ghost use Rattle.std.specs.FinMap as map;
 ghost use Rattle.dc_text.specs.Maps.{set_of};
 ghost use Rattle.dc_text.specs.Names.{is_name};
-ghost use Rattle.dc_item.specs.Owners.{IsGapFor};
 ghost use Rattle.dc_item.specs.Table.{names_of, table_of};
 
 use crate::entry::Entry;
@@ -22,8 +21,6 @@ pub struct Records {
     items: IndexMap<Vec<u8>, Item>,
     // The number of each record's Name line, from 1.
     lines: Vec<u64>,
-    // Whether the names came in byte order. Then one above the last is above all, and nothing is hashed to see that it's new.
-    are_in_order: bool,
 }
 
 impl Model for Records {
@@ -39,7 +36,7 @@ impl Model for Records {
 
     ghost view = { λ r. with_lines (each (λ e. (e.0.items, e.1)) r.items.entries) r.lines.items };
 
-    ghost invariant = { λ r. AreKept (each (λ e. (e.0.items, e.1)) r.items.entries) r.lines.items r.are_in_order };
+    ghost invariant = { λ r. AreKept (each (λ e. (e.0.items, e.1)) r.items.entries) r.lines.items };
 }
 
 impl Records {
@@ -50,7 +47,6 @@ impl Records {
         Records {
             items: IndexMap::new(alloc),
             lines: Vec::new(alloc),
-            are_in_order: true,
         }
     }
 
@@ -64,23 +60,7 @@ impl Records {
     pub(crate) fn has(&self, name: &[u8]) -> bool
         ensures { result ≡ map.contains_key (set_of (names_of self.now)) name.now }
     {
-        if self.are_all_below(name) {
-            return false;
-        }
         self.items.contains_key(name)
-    }
-
-    // Whether the names are known to be in byte order, and the name comes behind them.
-    fn are_all_below(&self, name: &[u8]) -> bool
-        ensures { result ≡ true → IsGapFor name.now (names_of self.now) (length (names_of self.now)) }
-    {
-        if !self.are_in_order {
-            return false;
-        }
-        match self.items.last() {
-            None => true,
-            Some((last, _)) => last.as_slice().cmp(name).is_lt(),
-        }
     }
 
     /// Puts a record of a new name at the end.
@@ -88,12 +68,10 @@ impl Records {
         requires { map.contains_key (set_of (names_of self.old)) name ≡ false }
         ensures { OnOk result (self.new ≡ self.old ++ record { name = name; item = item; line = line } ∷ []) }
     {
-        let are_in_order = self.are_all_below(name.bytes());
         let key = name.into_text().into_vec()?;
         self.lines.reserve(1)?;
         self.items.insert(key, item)?;
         self.lines.push_reserved(line);
-        self.are_in_order = are_in_order;
         Ok(())
     }
 
@@ -102,11 +80,7 @@ impl Records {
         ensures table { result ≡ table_of self }
         ensures names { (name : Listed ℕ) → map.contains_key result name ≡ true → is_name name ≡ true }
     {
-        let Records {
-            items,
-            lines: _,
-            are_in_order: _,
-        } = self;
+        let Records { items, lines: _ } = self;
         TextTable::of(items)
     }
 
@@ -114,11 +88,7 @@ impl Records {
     pub fn into_list(self, alloc: Global) -> Mem<List<Entry>>
         ensures { IfOk result (λ list. list ≡ self) }
     {
-        let Records {
-            items,
-            lines,
-            are_in_order: _,
-        } = self;
+        let Records { items, lines } = self;
         let mut list = List::new(alloc);
         for (key, item) in items {
             let name = name_of(alloc, &key)?;

@@ -1,9 +1,8 @@
-use Rattle.std.proofs.Common.{◌≡◌, ◌∷◌, ◌++◌, [], length, false, sym, ap, subst, ◌∙◌, refl}
+use Rattle.std.proofs.Common.{◌≡◌, ◌∷◌, ◌++◌, [], false, sym, ap, ◌∙◌, refl}
 use Rattle.std.specs.FinMap as map
 use Rattle.dc_text.specs.Maps.{set_of}
 use Rattle.dc_text.proofs.MapLemmas.{seen}
-use Rattle.dc_item.specs.Owners.{IsGapFor}
-use Rattle.dc_item.specs.RecordsRead.{names_in, AreKept}
+use Rattle.dc_item.specs.RecordsRead.{names_in}
 use Rattle.dc_item.specs.Table.{names_of}
 use Rattle.dc_item.proofs.RecordsReadLemmas.{names-with_lines, insert-new, kept_push, entries_push}
 use Rattle.dc_item.proofs.records_read.Records.push.Goals as goal
@@ -17,10 +16,7 @@ invariant_of-self-2 c =
     let put : seen (λ k. k.items) c.insert.new.self.entries ≡ items ++ (c.args.name, c.args.item) ∷ []
     = ap (seen (λ k. k.items)) c.in_ok-insert.ensures.entries ∙ insert-new (λ k. k.items) _ (λ a b. refl) c.self.inside.items.entries c.in_ok-key.key c.args.item new ∙ ap (λ k. items ++ (k, c.args.item) ∷ []) key in
     let lines : c.push_reserved.new.self.items ≡ c.self.inside.lines.items ++ c.args.line ∷ [] = c.push_reserved.ensures.items ∙ ap (λ ls. ls ++ c.args.line ∷ []) c.in_ok-reserve.ensures.items in
-    let kept = kept_push items c.self.inside.lines.items c.self.inside.are_in_order c.are_all_below-are_in_order.result c.args.name c.args.item c.args.line c.self.invariant c.into_text.ensures.name
-    (λ yes. subst (λ ns. IsGapFor c.args.name ns (length ns)) names (subst (λ n. IsGapFor n (names_of c.args.self.now) (length (names_of c.args.self.now))) c.bytes.ensures.value (c.are_all_below-are_in_order.ensures yes))) in
-    subst (λ is. AreKept is c.push_reserved.new.self.items c.are_all_below-are_in_order.result) (sym put)
-    (subst (λ ls. AreKept (items ++ (c.args.name, c.args.item) ∷ []) ls c.are_all_below-are_in_order.result) (sym lines) kept)
+    kept_push items _ c.self.inside.lines.items c.push_reserved.new.self.items c.args.name c.args.item c.args.line c.self.invariant c.into_text.ensures.name put lines
 
 pub returns : goal.returns
 returns c =
