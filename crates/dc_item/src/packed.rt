@@ -1,5 +1,5 @@
 // Few entries of a map from texts, packed into one piece of memory.
-ghost use Rattle.std.specs.Prelude.{T, ◌≡◌, ◌++◌, ◌∷◌, ◌≤◌, ◌+◌, ◌^◌, [], OnOk, OnErr, IfOk, if◌then◌else◌, is_some, not, length, take, drop, map as each};
+ghost use Rattle.std.specs.Prelude.{T, ◌≡◌, ◌++◌, ◌∷◌, ◌≤◌, ◌+◌, ◌-◌, ◌^◌, [], OnOk, OnErr, IfOk, if◌then◌else◌, is_some, not, length, take, drop, map as each};
 ghost use Rattle.std.specs.Option.{option_copied};
 ghost use Rattle.std.specs.FinMap as map;
 ghost use Rattle.dc_text.specs.Maps.{text_cmp};
@@ -194,6 +194,19 @@ fn write_entry(bytes: &mut Vec<u8>, mark: u8, key: &[u8], value: &[u8]) -> Mem<(
     Ok(())
 }
 
+// Puts the bytes from the start to the end behind all once more.
+fn push_again(bytes: &mut Vec<u8>, start: usize, end: usize) -> Mem<()>
+    requires ordered { start ≤ end }
+    requires in_range { end ≤ length bytes.old.items }
+    ensures ok { OnOk result (bytes.new.items ≡ bytes.old.items ++ take (end - start) (drop start bytes.old.items)) }
+    ensures err { OnErr result (bytes.new.items ≡ bytes.old.items) }
+{
+    let len = bytes.len();
+    bytes.resize(len + (end - start), 0)?;
+    bytes.copy_within(start..end, len);
+    Ok(())
+}
+
 // Writes an entry behind the bytes, and behind that again what stands from the end on. Where memory runs out, part of it may stand
 // there.
 fn write_with_rest(bytes: &mut Vec<u8>, end: usize, mark: u8, key: &[u8], value: &[u8]) -> Mem<()>
@@ -203,7 +216,9 @@ fn write_with_rest(bytes: &mut Vec<u8>, end: usize, mark: u8, key: &[u8], value:
 {
     let len = bytes.len();
     write_entry(bytes, mark, key, value)?;
-    bytes.extend_from_within(end..len)?;
+    if end < len {
+        push_again(bytes, end, len)?;
+    }
     Ok(())
 }
 
