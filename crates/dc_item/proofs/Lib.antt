@@ -19,6 +19,7 @@ pub mod ReadTables
 pub mod ReaderLemmas
 pub mod RecordPrinted
 pub mod SectionLemmas
+pub mod SortedEntries
 pub mod StepLemmas
 pub mod TextTableLemmas
 pub mod VariableLines
