@@ -4,12 +4,9 @@ pub mod FirstBad
 pub mod FurtherLines
 pub mod Groups
 pub mod ItemLemmas
-pub mod ManyLemmas
 pub mod NamesReadLemmas
 pub mod OpenRecord
 pub mod OwnerPlaces
-pub mod LastLemmas
-pub mod PackedLemmas
 pub mod PartLemmas
 pub mod PieceLemmas
 pub mod PrintedBytes

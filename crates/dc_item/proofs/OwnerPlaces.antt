@@ -13,6 +13,7 @@ use Rattle.std.proofs.Math.Seq.{get_or-append_seam}
 use Rattle.dc_text.specs.Maps.{TextSet, set_of, text_cmp}
 use Rattle.dc_text.specs.Places.{IsAt, IsGapFor}
 use Rattle.dc_text.proofs.SmallMapLemmas.{searched, find_at, find_gap, insert_gap, remove_at, without, is_sorted_without, from_sorted_without}
+use Rattle.dc_parts.proofs.ManyLemmas.{behind}
 use Rattle.dc_item.specs.Owners as owners
 
 abbrev Members : Type 0
@@ -102,25 +103,6 @@ placed os q r is within result =
     either os q r is within (searched es (entries_sorted (set_of os)) q r bound (found q es r bound (subst (λ l. IsBinarySearchResult (λ k. text_cmp k q) l r) is result)))
 
 -- ---- a name behind the last one
-
-lowest : (o p : Ordering) → ordering_index o ≤ ordering_index p → is_lt p ≡ true → o ≡ Less
-lowest Less p h e = refl
-lowest Equal Less h e = absurd (omega arith)
-lowest Equal Equal h e = absurd (cc)
-lowest Equal Greater h e = absurd (cc)
-lowest Greater Less h e = absurd (omega arith)
-lowest Greater Equal h e = absurd (cc)
-lowest Greater Greater h e = absurd (cc)
-
--- a search ends behind all, where the last one is low
-pub behind : {A : Type 0} (compared : A → Ordering) (xs front : List A) (last : A) → xs ≡ front ++ last ∷ [] → is_lt (compared last) ≡ true → IsBinarySearchResult compared xs (Err (length xs))
-behind compared xs front last is low = λ rise.
-    let long : length xs ≡ length front + 1 = ap length is ∙ length-append front (last ∷ []) in (
-      λ k d from lt.
-          let there : get_or xs (length front) d ≡ last = ap (λ l. get_or l (length front) d) is ∙ get_or-append_seam front last [] d in
-          lowest (compared (get_or xs k d)) (compared (get_or xs (length front) d)) (rise k (length front) d (omega (arith, lt, long)) (omega (arith, long))) (ap (λ x. is_lt (compared x)) there ∙ low),
-      λ k d from lt. absurd (omega (arith, from, lt)),
-    )
 
 -- the place of a name behind the last one
 pub placed_behind : (os front : List (List ℕ)) (last q : List ℕ) → os ≡ keys (set_of os) → os ≡ front ++ last ∷ [] → is_lt (text_cmp last q) ≡ true → owners.IsGapFor q os (length os)
