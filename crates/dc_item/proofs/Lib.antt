@@ -4,10 +4,7 @@ pub mod FirstBad
 pub mod FurtherLines
 pub mod Groups
 pub mod ItemLemmas
-pub mod ManyLemmas
 pub mod OpenRecord
-pub mod LastLemmas
-pub mod PackedLemmas
 pub mod PartLemmas
 pub mod PieceLemmas
 pub mod PrintedBytes
@@ -17,8 +14,8 @@ pub mod ReadTables
 pub mod ReaderLemmas
 pub mod RecordPrinted
 pub mod RecordsReadLemmas
-pub mod SearchLemmas
 pub mod SectionLemmas
+pub mod SortedEntries
 pub mod StepLemmas
 pub mod TextTableLemmas
 pub mod VariableLines

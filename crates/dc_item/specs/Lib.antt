@@ -1,8 +1,6 @@
 pub mod After
 pub mod Grammar
 pub mod Item
-pub mod Packed
-pub mod PartMap
 pub mod Printed
 pub mod Reader
 pub mod Records

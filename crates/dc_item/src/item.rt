@@ -12,8 +12,8 @@ ghost use Rattle.dc_item.specs.Sections.{under, keys_under, fields_mark, owners_
 
 use crate::marks::{FIELDS, FLAGS, OWNERS, VARIABLES};
 use crate::owners::{are_all_named, owners_among};
-use crate::part_map::PartMap;
 use crate::same::are_same;
+use dc_parts::PartMap;
 use dc_text::{FieldKey, FlagName, List, Mem, Name, Settled, VarKey};
 use std::alloc::Global;
 use std::marker::Model;

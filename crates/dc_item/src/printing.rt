@@ -5,6 +5,7 @@ ghost use Rattle.dc_text.specs.Ascii.{comma, space};
 ghost use Rattle.dc_text.specs.Bytes.{is_nil};
 ghost use Rattle.dc_text.specs.Lines.{text_of};
 ghost use Rattle.dc_text.specs.Maps.{AreDistinct};
+ghost use Rattle.dc_text.specs.Settled.{newlines_shown};
 ghost use Rattle.dc_item.specs.Item.{IsItem};
 ghost use Rattle.dc_item.specs.Printed.{canon, table_text, record_lines, shown_field, shown_variable, variable_lines, list_lines, joined};
 ghost use Rattle.dc_item.specs.Sections.{under, keys_under, fields_mark, variables_mark};
@@ -14,6 +15,7 @@ use crate::entry::Entry;
 use crate::item::Item;
 use crate::marks::{FIELDS, FLAGS, OWNERS, VARIABLES, has_mark, unmarked};
 use crate::text_table::TextTable;
+use dc_text::bytes::split_at_byte;
 use dc_text::{List, Mem, Text, show_newlines};
 use std::alloc::Global;
 
@@ -84,8 +86,18 @@ fn print_field(alloc: Global, text: &mut Text, key: &[u8], value: &[u8]) -> Mem<
 {
     text.append_capital(key)?;
     text.append(b": ")?;
-    text.append(show_newlines(alloc, value)?.bytes())?;
+    push_value(alloc, text, value)?;
     text.push(b'\n')
+}
+
+// A value in one line: each newline as the pair of a backslash and an n. Most have none, and stay as they are.
+fn push_value(alloc: Global, text: &mut Text, value: &[u8]) -> Mem<()>
+    ensures { OnOk result (text.new ≡ text.old ++ newlines_shown value.now) }
+{
+    match split_at_byte(value, b'\n') {
+        None => text.append(value),
+        Some(_) => text.append(show_newlines(alloc, value)?.bytes()),
+    }
 }
 
 fn print_variables(alloc: Global, text: &mut Text, entries: &[(&[u8], &[u8])]) -> Mem<()>
@@ -116,7 +128,7 @@ fn print_variable(alloc: Global, text: &mut Text, key: &[u8], value: &[u8]) -> M
     text.push(b' ')?;
     text.append(key)?;
     text.append(b" = ")?;
-    text.append(show_newlines(alloc, value)?.bytes())?;
+    push_value(alloc, text, value)?;
     text.push(b'\n')
 }
 

@@ -3,11 +3,12 @@ ghost use Rattle.std.specs.Prelude.{◌≡◌, OnOk, OnErr, IfOk, map as each};
 ghost use Rattle.std.specs.Borrow.{sem};
 ghost use Rattle.std.specs.Option.{option_copied, option_copied_mut};
 ghost use Rattle.std.specs.FinMap as map;
+ghost use Rattle.dc_text.specs.Maps.{text_cmp};
 
 use dc_text::{Mem, Text};
 use indexmap::IndexMap;
 use std::alloc::Global;
-use std::collections::BTreeMap;
+use std::cmp::Ordering;
 use std::marker::Model;
 
 /// A map from texts for many entries. To find a key takes no other key into account; to put the entries into byte order
@@ -83,13 +84,19 @@ impl<V: Drop> TextTable<V> {
     }
 
     /// The entries, in byte order of their keys.
-    pub fn in_order(&self) -> Mem<BTreeMap<&[u8], &V>>
-        ensures { IfOk result (λ order. each (λ e. (e.0.now, e.1.now)) order.entries ≡ map.entries self.now) }
+    pub fn in_order(&self) -> Mem<Vec<(&[u8], &V)>>
+        ensures { IfOk result (λ order. each (λ e. (e.0.now, e.1.now)) order.items ≡ map.entries self.now) }
     {
-        let mut order = BTreeMap::new(self.alloc);
+        let mut order = Vec::with_capacity(self.alloc, self.entries.len())?;
         for (key, value) in self.entries.iter() {
-            order.insert(key.as_slice(), value)?;
+            order.push((key.as_slice(), value))?;
         }
+        // What was read from a file stands in one run, rising or falling, which the sort takes by one pass.
+        order.sort_by(
+            |one: &(&[u8], &V), other: &(&[u8], &V)| -> Ordering
+                ensures { result ≡ text_cmp one.now.0.now other.now.0.now }
+            { one.0.cmp(other.0) },
+        )?;
         Ok(order)
     }
 

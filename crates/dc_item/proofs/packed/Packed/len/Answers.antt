@@ -1,5 +1,0 @@
-use Rattle.dc_item.proofs.PackedLemmas.{len-packed}
-use Rattle.dc_item.proofs.packed.Packed.len.Goals as goal
-
-pub returns : goal.returns
-returns c = len-packed c.self.inside.count c.self.inside.bytes.items c.args.self.now c.self.invariant.1 c.self.view_is

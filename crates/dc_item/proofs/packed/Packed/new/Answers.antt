@@ -1,7 +1,0 @@
-use Rattle.std.proofs.Common.{refl}
-use Rattle.dc_text.proofs.SmallMapLemmas.{from_sorted_none}
-use Rattle.dc_item.specs.Packed.{entries_in}
-use Rattle.dc_item.proofs.packed.Packed.new.Goals as goal
-
-pub returns : goal.returns
-returns c = from_sorted_none (entries_in 0 c.new.result.items) refl
