@@ -3,7 +3,7 @@ ghost use Rattle.std.specs.Prelude.{◌≡◌};
 ghost use Rattle.dc_layer.specs.State.{blank};
 
 use dc_conf::spec::{LayerSort, LayerSpec};
-use dc_item::{Item, Op};
+use dc_item::{Item, Op, Records};
 use dc_layer::{Held, Image, Layer, LayerError, PatternError, Taken};
 use dc_template::Kind;
 use dc_text::{List, Mem, Name, Text};
@@ -41,6 +41,10 @@ impl Layer for PackageDirLayer {
 
     fn take_in(&mut self, name: Name, item: Item) -> Mem<()> {
         self.held.take_in(name, item)
+    }
+
+    fn take_all(&mut self, records: Records) {
+        self.held.take_all(records)
     }
 
     fn keep_old(&mut self, text: Text) {

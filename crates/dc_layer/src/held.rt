@@ -17,7 +17,7 @@ use crate::layer::{Layer, LayerError, Taken};
 use crate::pattern::PatternError;
 use crate::set_up::SetUp;
 use dc_conf::spec::{LayerSort, LayerSpec};
-use dc_item::{Effect, Item, Op};
+use dc_item::{Effect, Item, Op, Records};
 use dc_template::Kind;
 use dc_text::{List, Mem, Name, Text};
 use indexmap::IndexSet;
@@ -198,6 +198,10 @@ impl Layer for Held {
 
     fn take_in(&mut self, name: Name, item: Item) -> Mem<()> {
         self.table.insert(name, item)
+    }
+
+    fn take_all(&mut self, records: Records) {
+        self.table = ItemTable::from_records(self.alloc, records);
     }
 
     fn keep_old(&mut self, text: Text) {

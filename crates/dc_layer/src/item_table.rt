@@ -5,10 +5,11 @@ ghost use Rattle.std.specs.Option.{option_copied};
 ghost use Rattle.dc_text.specs.Names.{is_name};
 ghost use Rattle.dc_item.specs.After.{after_at, asked};
 ghost use Rattle.dc_item.specs.Item.{ItemParts};
+ghost use Rattle.dc_item.specs.Table.{table_of};
 ghost use Rattle.dc_item.specs.declared.op.After.TheVariants.{Changed};
 ghost use Rattle.dc_layer.specs.State.{owned as owned_of};
 
-use dc_item::{Item, Op, TextTable};
+use dc_item::{Item, Op, Records, TextTable};
 use dc_text::{List, Mem, Name, NameRefused, OutOfMemory};
 use std::alloc::Global;
 use std::marker::Model;
@@ -43,6 +44,16 @@ impl ItemTable {
         ItemTable {
             alloc,
             items: TextTable::new(alloc),
+        }
+    }
+
+    /// The items of the records, at their names. It takes no memory.
+    pub fn from_records(alloc: Global, records: Records) -> Self
+        ensures { result ≡ table_of records }
+    {
+        ItemTable {
+            alloc,
+            items: records.into_table(),
         }
     }
 

@@ -2,13 +2,14 @@
 ghost use Rattle.std.specs.Prelude.{◌≡◌, ◌≢◌, [], None, Some, Err, IfOk, IfErr, OnOk, OnErr, true, false};
 ghost use Rattle.std.specs.FinMap as map;
 ghost use Rattle.std.specs.Option.{option_copied};
+ghost use Rattle.dc_item.specs.Table.{table_of};
 ghost use Rattle.dc_layer.specs.State.{LayerState, blank, set_up as set_up_with, taken_in, without_items, is_writable, admits, made_at, with_made, taken_of, refusal, owned, images as images_of, saved as saved_state};
 ghost use Rattle.dc_layer.specs.Rules.{rules_of, are_patterns, are_plain};
 
 use crate::image::Image;
 use crate::pattern::PatternError;
 use dc_conf::spec::{LayerSort, LayerSpec};
-use dc_item::{Item, Op};
+use dc_item::{Item, Op, Records};
 use dc_template::Kind;
 use dc_text::{List, Mem, Name, OutOfMemory, Text};
 
@@ -65,6 +66,12 @@ pub trait Layer: Drop {
         requires untouched { (state self.old).touched ≡ [] }
         ensures ok { OnOk result (state self.new ≡ taken_in (state self.old) name item) }
         ensures err { OnErr result (state self.new ≡ state self.old) };
+
+    /// Makes the records that were loaded the layer's items.
+    fn take_all(&mut self, records: Records)
+        requires empty { (state self.old).table ≡ map.empty }
+        requires untouched { (state self.old).touched ≡ [] }
+        ensures { state self.new ≡ record (state self.old) { table = table_of records } };
 
     /// Keeps the text of the file as it was loaded.
     fn keep_old(&mut self, text: Text)

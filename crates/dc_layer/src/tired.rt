@@ -8,7 +8,7 @@ use crate::image::Image;
 use crate::layer::{Layer, LayerError, Taken};
 use crate::pattern::PatternError;
 use dc_conf::spec::{LayerSort, LayerSpec};
-use dc_item::{Item, Op};
+use dc_item::{Item, Op, Records};
 use dc_template::Kind;
 use dc_text::{List, Mem, Name, Text};
 use std::alloc::Global;
@@ -62,6 +62,10 @@ impl Layer for TiredLayer {
 
     fn take_in(&mut self, name: Name, item: Item) -> Mem<()> {
         self.layer.take_in(name, item)
+    }
+
+    fn take_all(&mut self, records: Records) {
+        self.layer.take_all(records)
     }
 
     fn keep_old(&mut self, text: Text) {
