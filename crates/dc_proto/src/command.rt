@@ -1,5 +1,5 @@
 // Command lines.
-ghost use Rattle.std.specs.Prelude.{◌≡◌, IfOk, map, drop};
+ghost use Rattle.std.specs.Prelude.{◌≡◌, IfOk, map, drop, codes, false};
 ghost use Rattle.std.specs.Str.{bytes_eq};
 ghost use Rattle.dc_text.specs.Bytes.{lower};
 ghost use Rattle.dc_proto.specs.Commands.{heard, commands, read_by, words_of, is_comment as is_comment_of};
@@ -104,7 +104,7 @@ pub fn read_command(alloc: Global, line: &[u8], escape: bool) -> Mem<Heard>
     let words = words(alloc, line, escape)?;
     match words.as_slice() {
         [] => Ok(Heard::Nothing),
-        [word, arguments @ ..] => read_words(alloc, word, arguments),
+        [word, arguments @ ..] => read_words(alloc, word.bytes(), arguments),
     }
 }
 
@@ -127,15 +127,23 @@ fn words(alloc: Global, line: &[u8], escape: bool) -> Mem<List<Text>>
     }
 }
 
-// The table of commands, without regard to case.
-fn read_words(alloc: Global, word: &Text, arguments: &[Text]) -> Mem<Heard>
+// The table of commands, without regard to case. The two that come most often are looked for first.
+fn read_words(alloc: Global, word: &[u8], arguments: &[Text]) -> Mem<Heard>
     ensures { IfOk result (λ said. said ≡ read_by commands (map lower word.now) arguments.now) }
 {
-    read_session_words(alloc, word.bytes(), arguments)
+    if is_word(word, b"get") {
+        read_get(alloc, arguments)
+    } else if is_word(word, b"set") {
+        read_set(alloc, arguments)
+    } else {
+        read_session_words(alloc, word, arguments)
+    }
 }
 
-// The commands on the session, and behind them those on questions.
+// The commands on the session, and behind them those on questions, for a word that is neither GET nor SET.
 fn read_session_words(alloc: Global, word: &[u8], arguments: &[Text]) -> Mem<Heard>
+    requires no_get { bytes_eq (map lower word.now) (codes "get") ≡ false }
+    requires no_set { bytes_eq (map lower word.now) (codes "set") ≡ false }
     ensures { IfOk result (λ said. said ≡ read_by commands (map lower word.now) arguments.now) }
 {
     if is_word(word, b"version") {
@@ -163,15 +171,13 @@ fn read_session_words(alloc: Global, word: &[u8], arguments: &[Text]) -> Mem<Hea
     }
 }
 
-// The rows of the table from GET on.
+// The rows of the table from GET on, for a word that is neither GET nor SET.
 fn read_question_words(alloc: Global, word: &[u8], arguments: &[Text]) -> Mem<Heard>
+    requires no_get { bytes_eq (map lower word.now) (codes "get") ≡ false }
+    requires no_set { bytes_eq (map lower word.now) (codes "set") ≡ false }
     ensures { IfOk result (λ said. said ≡ read_by (drop 10 commands) (map lower word.now) arguments.now) }
 {
-    if is_word(word, b"get") {
-        read_get(alloc, arguments)
-    } else if is_word(word, b"set") {
-        read_set(alloc, arguments)
-    } else if is_word(word, b"reset") {
+    if is_word(word, b"reset") {
         read_reset(alloc, arguments)
     } else if is_word(word, b"subst") {
         read_subst(alloc, arguments)

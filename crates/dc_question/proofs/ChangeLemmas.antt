@@ -1,5 +1,5 @@
 -- What one write to a question leaves.
-use Rattle.std.proofs.Common.{◌≡◌, ℕ, false, not, List, [], ◌∷◌, Option, Some, None, Ok, Err, Result, refl, sym, ap, subst, ⊎_elim, ◌∙◌}
+use Rattle.std.proofs.Common.{◌≡◌, ℕ, false, not, List, [], ◌∷◌, Option, Some, None, is_some, true, Ok, Err, Result, refl, sym, ap, subst, ⊎_elim, ◌∙◌}
 use Rattle.std.specs.Prelude.{◌||◌, ◌⊎◌, if◌then◌else◌}
 use Rattle.dc_store.specs.declared.store.StoreError.{StoreError}
 use Rattle.dc_store.specs.declared.store.StoreError.TheVariants as store
@@ -30,6 +30,14 @@ module _ (old : StoreState) (at : Setting) (name : List ℕ) (item : ItemParts) 
   refused_does is =
       of_item ∙ ap (λ k. done_or name (if not (would_take old.layers at.config name k op) || false then None else Some (all_done old (question_write old.layers at name item op ∷ [])))) (sym typed)
       ∙ ap (λ b. done_or name (if not b || false then None else Some (all_done old (question_write old.layers at name item op ∷ [])))) is
+
+-- the write of an item of any kind
+pub any_does : (old new : StoreState) (at : Setting) (name : List ℕ) (op : Op) → is_some (question old.layers at name) ≡ true → ((k : Option Kind) → write old at.config name k op ≡ Some new)
+    → changed old at name op ≡ Ok new
+any_does old new at name op there is = by_item (question old.layers at name) refl there where
+  by_item : (o : Option ItemParts) → question old.layers at name ≡ o → is_some o ≡ true → changed old at name op ≡ Ok new
+  by_item None found some = cc
+  by_item (Some item) found some = taken_does old at name item (kind_by (template old.layers at item)) op (sym found) refl new (is (kind_by (template old.layers at item)))
 
 -- a refusal that comes of the store's
 pub refusal_does : (A : Type 0) (row : Result StoreState QuestionError) (old new : StoreState) (e : StoreError) (r : QuestionError) (name : List ℕ)

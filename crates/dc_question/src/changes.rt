@@ -1,9 +1,10 @@
 // Changes of questions.
-ghost use Rattle.std.specs.Prelude.{◌≡◌, ◌⊎◌, Some, Err, OnOk, false, length, map as each};
+ghost use Rattle.std.specs.Prelude.{◌≡◌, ◌⊎◌, Option, Some, Ok, Err, OnOk, is_some, true, false, length, map as each};
 ghost use Rattle.dc_store.specs.Plans.{stored, write, would_take};
 ghost use Rattle.dc_store.specs.StoreLaws.{AreSameBut};
 ghost use Rattle.dc_question.specs.Changes.{changed, value_set, flag_set, variable_set, value_reset, Does};
-ghost use Rattle.dc_question.specs.Questions.{IsSetOver};
+ghost use Rattle.dc_question.specs.Questions.{IsSetOver, question as question_of};
+ghost use Rattle.dc_template.specs.declared.kinds.Kind.{Kind as KindOf};
 
 use crate::errors::QuestionError;
 use crate::questions::Questions;
@@ -12,7 +13,7 @@ use dc_item::Op;
 use dc_layer::Layer;
 use dc_store::StoreError;
 use dc_template::Kind;
-use dc_text::{FieldKey, FlagName, Name, VarKey, settle};
+use dc_text::{FieldKey, FlagName, Mem, Name, VarKey, settle};
 
 impl<'q> Questions<'q> {
     #[tactic(auto, using(dc_store::proofs::Frames::same_layers))]
@@ -77,8 +78,39 @@ impl<'q> Questions<'q> {
     }
 
     #[tactic(auto, using(dc_store::proofs::Frames::same_layers))]
-    // Does an operation on a question that is there, with the kind of its template.
+    // Does an operation on a question that is there. Mostly the topmost layer takes it, and then no kind is looked for.
     fn change(&mut self, name: &Name, op: &Op) -> Result<(), QuestionError>
+        requires { IsSetOver self.old.setting (length self.old.store.now.layers.items) }
+        ensures does { Does result (changed (stored (each (λ b. state (b.vtable, b.value)) self.old.store.now.layers.items) self.old.store.now.told) self.old.setting name.now op.now) (stored (each (λ b. state (b.vtable, b.value)) self.old.store.now.layers.items) self.old.store.now.told) (stored (each (λ b. state (b.vtable, b.value)) self.new.store.now.layers.items) self.new.store.now.told) }
+        ensures others { AreSameBut name.now (each (λ b. state (b.vtable, b.value)) self.old.store.now.layers.items) (each (λ b. state (b.vtable, b.value)) self.new.store.now.layers.items) }
+        ensures count { length self.new.store.now.layers.items ≡ length self.old.store.now.layers.items }
+        ensures setting { self.new.setting ≡ self.old.setting }
+        ensures held { self.new.store.ghost_name ≡ self.old.store.ghost_name }
+    {
+        match self.change_on_top(name, op) {
+            Ok(true) => Ok(()),
+            Ok(false) => self.change_by_kind(name, op),
+            Err(error) => Err(error.into()),
+        }
+    }
+
+    // Tries the operation on the topmost layer, and answers whether it was done.
+    fn change_on_top(&mut self, name: &Name, op: &Op) -> Mem<bool>
+        requires { IsSetOver self.old.setting (length self.old.store.now.layers.items) }
+        ensures there { result ≡ Ok true → is_some (question_of (each (λ b. state (b.vtable, b.value)) self.old.store.now.layers.items) self.old.setting name.now) ≡ true }
+        ensures done { result ≡ Ok true → (kind : Option KindOf) → write (stored (each (λ b. state (b.vtable, b.value)) self.old.store.now.layers.items) self.old.store.now.told) self.old.setting.config name.now kind op.now ≡ Some (stored (each (λ b. state (b.vtable, b.value)) self.new.store.now.layers.items) self.new.store.now.told) }
+        ensures not_done { result ≡ Ok false → (stored (each (λ b. state (b.vtable, b.value)) self.new.store.now.layers.items) self.new.store.now.told) ≡ (stored (each (λ b. state (b.vtable, b.value)) self.old.store.now.layers.items) self.old.store.now.told) }
+        ensures others { AreSameBut name.now (each (λ b. state (b.vtable, b.value)) self.old.store.now.layers.items) (each (λ b. state (b.vtable, b.value)) self.new.store.now.layers.items) }
+        ensures count { length self.new.store.now.layers.items ≡ length self.old.store.now.layers.items }
+        ensures setting { self.new.setting ≡ self.old.setting }
+        ensures held { self.new.store.ghost_name ≡ self.old.store.ghost_name }
+    {
+        self.store.change_on_top(self.setting.config, name, op)
+    }
+
+    #[tactic(auto, using(dc_store::proofs::Frames::same_layers))]
+    // Does an operation on a question that is there, with the kind of its template.
+    fn change_by_kind(&mut self, name: &Name, op: &Op) -> Result<(), QuestionError>
         requires { IsSetOver self.old.setting (length self.old.store.now.layers.items) }
         ensures does { Does result (changed (stored (each (λ b. state (b.vtable, b.value)) self.old.store.now.layers.items) self.old.store.now.told) self.old.setting name.now op.now) (stored (each (λ b. state (b.vtable, b.value)) self.old.store.now.layers.items) self.old.store.now.told) (stored (each (λ b. state (b.vtable, b.value)) self.new.store.now.layers.items) self.new.store.now.told) }
         ensures others { AreSameBut name.now (each (λ b. state (b.vtable, b.value)) self.old.store.now.layers.items) (each (λ b. state (b.vtable, b.value)) self.new.store.now.layers.items) }

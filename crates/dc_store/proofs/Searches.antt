@@ -1,5 +1,5 @@
 -- What the searches find.
-use Rattle.std.proofs.Common.{◌≡◌, ℕ, zero, suc, ◌<◌, ◌+◌, Bool, true, false, cond, not, ◌&&◌, ◌||◌, List, [], ◌∷◌, Option, Some, None, is_some, refl, sym, ap, subst, ◌∙◌, add-one, arith}
+use Rattle.std.proofs.Common.{◌≡◌, ℕ, zero, suc, ◌<◌, ◌≤◌, ◌+◌, Bool, true, false, cond, not, ◌&&◌, ◌||◌, List, [], ◌∷◌, Option, Some, None, is_some, refl, sym, ap, subst, ◌∙◌, add-one, arith}
 use Rattle.std.specs.Prelude.{slice_get, option_and_then, if◌then◌else◌}
 use Rattle.std.specs.Option.{option_or, option_map_or}
 use Rattle.std.specs.List.{All, find, list_any, before_first, after_first, prefix_len}
@@ -235,3 +235,13 @@ home_taken ls ps n k p item h = put_taken ls p n k item (find_passes (takes_at l
 pub put_up_done : (ls new : List LayerState) (ps n : List ℕ) (k : Option Kind) (p : ℕ) (item : ItemParts) → Some p ≡ home ls ps n k → new ≡ change_at ls p (λ layer. with_made layer n (made_at layer n (Put item))) → put_up ls (home ls ps n k) n item ≡ Some new
 put_up_done ls new ps n k p item h is =
     ap (λ o. put_up ls o n item) (sym h) ∙ ap Some (sym (home_made ls p n item (above_fails (takes_at ls n k) (has_at ls n) ps p (sym h))) ∙ sym is)
+
+-- ---- a write on the topmost place
+
+pub top_written : (ls new : List LayerState) (ps n : List ℕ) (k : Option Kind) (op : Op) (d : ℕ) → 1 ≤ length ps → is_writable_at ls (get_or ps 0 d) ≡ true → has_at ls n (get_or ps 0 d) ≡ true
+    → new ≡ change_at ls (get_or ps 0 d) (λ layer. with_made layer n (made_at layer n op)) → write_of ls ps n k op ≡ Some new
+top_written ls new [] n k op d least writes there is = absurd (omega arith)
+top_written ls new (q ∷ ps) n k op d least writes there is =
+    let held : holder_of ls (q ∷ ps) n ≡ Some q = ap (λ b. cond b (Some q) (holder_of ls ps n)) there in
+    write_held ls new (q ∷ ps) n k q op
+    (sym (ap (option_and_then (λ p. if is_writable_at ls p then Some p else None)) held ∙ ap (λ b. if b then Some q else None) writes)) is

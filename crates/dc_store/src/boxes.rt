@@ -1,8 +1,8 @@
 // Calls of one of the layers.
-ghost use Rattle.std.specs.Prelude.{◌≡◌, ◌<◌, Some, None, IfOk, OnOk, OnErr, length, slice_get, map as each};
+ghost use Rattle.std.specs.Prelude.{◌≡◌, ◌<◌, Some, None, Ok, IfOk, OnOk, OnErr, length, slice_get, true, false, map as each};
 ghost use Rattle.std.specs.FinMap as map;
 ghost use Rattle.std.specs.Option.{option_copied};
-ghost use Rattle.dc_layer.specs.State.{LayerState, is_writable, admits, with_made, made_at, refusal, owned};
+ghost use Rattle.dc_layer.specs.State.{LayerState, is_writable, is_put, admits, with_made, made_at, refusal, owned};
 ghost use Rattle.dc_store.specs.Holders.{item_at as item_of, has_at as has_of};
 ghost use Rattle.dc_store.specs.Listings.{owned_at as owned_of};
 ghost use Rattle.dc_store.specs.Plans.{names_at as names_of};
@@ -59,6 +59,23 @@ fn change(layer: &mut Box<dyn Layer>, name: &Name, op: &Op) -> Mem<()>
         Ok(_taken) => Ok(()),
         Err(LayerError::OutOfMemory) => Err(OutOfMemory),
         Err(_) => unreachable!(),
+    }
+}
+
+// Tries a change that makes no item on a layer, and answers whether the layer took it: it is writable and has the item. One that doesn't
+// stays as it is.
+fn try_change(layer: &mut Box<dyn Layer>, name: &Name, op: &Op) -> Mem<bool>
+    requires { is_put op.now ≡ false }
+    ensures writable { result ≡ Ok true → is_writable (state layer.old) ≡ true }
+    ensures there { result ≡ Ok true → map.contains_key (state layer.old).table name.now ≡ true }
+    ensures done { result ≡ Ok true → state layer.new ≡ with_made (state layer.old) name.now (made_at (state layer.old) name.now op.now) }
+    ensures not_taken { result ≡ Ok false → state layer.new ≡ state layer.old }
+    ensures err { OnErr result (state layer.new ≡ state layer.old) }
+{
+    match layer.change(name, op) {
+        Ok(_taken) => Ok(true),
+        Err(LayerError::OutOfMemory) => Err(OutOfMemory),
+        Err(_) => Ok(false),
     }
 }
 
@@ -126,6 +143,25 @@ pub fn change_in(layers: &mut [Box<dyn Layer>], place: usize, name: &Name, op: &
     let layer = &mut layers[place];
     match change(layer, name, op) {
         Ok(()) => Ok(()),
+        Err(error) => Err(error),
+    }
+}
+
+/// Tries a change that makes no item on the layer at a place, and answers whether the layer took it: it is writable and has the item. One
+/// that doesn't stays as it is.
+pub fn try_change_in(layers: &mut [Box<dyn Layer>], place: usize, name: &Name, op: &Op) -> Mem<bool>
+    requires within { place < length layers.old }
+    requires change { is_put op.now ≡ false }
+    ensures writable { result ≡ Ok true → writable_of (each state layers.old) place ≡ true }
+    ensures there { result ≡ Ok true → has_of (each state layers.old) name.now place ≡ true }
+    ensures done { result ≡ Ok true → each state layers.new ≡ change_at (each state layers.old) place (λ layer. with_made layer name.now (made_at layer name.now op.now)) }
+    ensures not_taken { result ≡ Ok false → each state layers.new ≡ each state layers.old }
+    ensures err { OnErr result (each state layers.new ≡ each state layers.old) }
+{
+    let layer = &mut layers[place];
+    match try_change(layer, name, op) {
+        Ok(true) => Ok(true),
+        Ok(false) => Ok(false),
         Err(error) => Err(error),
     }
 }

@@ -1,10 +1,12 @@
 // The store.
-ghost use Rattle.std.specs.Prelude.{◌≡◌, ◌++◌, Some, None, Err, IfOk, OnOk, OnErr, [], length, false, map as each};
+ghost use Rattle.std.specs.Prelude.{◌≡◌, ◌++◌, Option, Some, None, Ok, Err, IfOk, OnOk, OnErr, [], is_some, length, true, false, map as each};
 ghost use Rattle.std.specs.Option.{option_copied, IfSome};
 ghost use Rattle.dc_conf.specs.Plans.{IsOver, AreWithin, places as places_of};
 ghost use Rattle.dc_store.specs.Plans.{holder, look, look_below, has_below, can_change, would_take, names, owned, backed_up, told_line, write, stored};
+ghost use Rattle.dc_store.specs.Holders.{look_of};
 ghost use Rattle.dc_store.specs.StoreLaws.{AreSameBut};
 ghost use Rattle.dc_store.specs.Writes.{write_of};
+ghost use Rattle.dc_template.specs.declared.kinds.Kind.{Kind as KindOf};
 
 use crate::backup::back_up_in;
 use crate::bases::places;
@@ -13,7 +15,7 @@ use crate::search::{
     has_below_in, holder_in, home_in, look_below_in, look_in, open_holder_in, seek_in,
 };
 use crate::telling::tell;
-use crate::writing::write_in;
+use crate::writing::{write_in, write_on_top};
 use dc_conf::plans::{Base, Plan};
 use dc_item::{Effect, Item, Op, in_order};
 use dc_layer::Layer;
@@ -160,6 +162,29 @@ impl Store {
         Ok(())
     }
 
+    /// Tries an operation on the topmost layer of the base alone, in a plan without a backup, and answers whether it was done: it makes no
+    /// item, and the layer is writable and has one. Then it is the change of an item of any kind. Where it isn't done, nothing changed.
+    pub fn change_on_top(&mut self, plan: &Plan, name: &Name, op: &Op) -> Mem<bool>
+        requires { IsOver plan.now (length self.old.layers.items) }
+        ensures there { result ≡ Ok true → is_some (look (each state self.old.layers.items) plan.now name.now) ≡ true }
+        ensures done { result ≡ Ok true → (kind : Option KindOf) → write (stored (each state self.old.layers.items) self.old.told) plan.now name.now kind op.now ≡ Some (stored (each state self.new.layers.items) self.new.told) }
+        ensures not_done { result ≡ Ok false → stored (each state self.new.layers.items) self.new.told ≡ stored (each state self.old.layers.items) self.old.told }
+        ensures others { AreSameBut name.now (each state self.old.layers.items) (each state self.new.layers.items) }
+        ensures count { length self.new.layers.items ≡ length self.old.layers.items }
+    {
+        if plan.backup.is_some() {
+            return Ok(false);
+        }
+        match self.change_base_on_top(&plan.base, name, op) {
+            Ok(true) => match self.tell(plan, op, name) {
+                Ok(()) => Ok(true),
+                Err(error) => Err(error),
+            },
+            Ok(false) => Ok(false),
+            Err(error) => Err(error),
+        }
+    }
+
     /// Each name that a layer of the base has, once, in byte order.
     pub fn names(&self, plan: &Plan) -> Mem<List<Name>>
         requires { IsOver plan.now (length self.now.layers.items) }
@@ -200,6 +225,19 @@ impl Store {
     {
         write_in(self.layers.as_mut_slice(), places(base), name, kind, op)?;
         Ok(())
+    }
+
+    // Tries an operation on the topmost layer of the base.
+    fn change_base_on_top(&mut self, base: &Base, name: &Name, op: &Op) -> Mem<bool>
+        requires { AreWithin (places_of base.now) (length self.old.layers.items) }
+        ensures there { result ≡ Ok true → is_some (look_of (each state self.old.layers.items) (places_of base.now) name.now) ≡ true }
+        ensures done { result ≡ Ok true → (kind : Option KindOf) → write_of (each state self.old.layers.items) (places_of base.now) name.now kind op.now ≡ Some (each state self.new.layers.items) }
+        ensures not_done { result ≡ Ok false → each state self.new.layers.items ≡ each state self.old.layers.items }
+        ensures err { OnErr result (each state self.new.layers.items ≡ each state self.old.layers.items) }
+        ensures count { length self.new.layers.items ≡ length self.old.layers.items }
+        ensures told { self.new.told ≡ self.old.told }
+    {
+        write_on_top(self.layers.as_mut_slice(), places(base), name, op)
     }
 
     // Brings the backup up to the base, where there is one.

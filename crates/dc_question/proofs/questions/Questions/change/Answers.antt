@@ -1,21 +1,22 @@
-use Rattle.std.proofs.Common.{Err, ap, ◌∙◌, map as each}
-use Rattle.dc_store.specs.declared.store.StoreError.{StoreError}
+use Rattle.std.proofs.Common.{map as each, subst}
 use Rattle.dc_store.specs.Plans.{StoreState, stored}
-use Rattle.dc_question.specs.Readings.{kind_by}
-use Rattle.dc_question.proofs.ChangeLemmas.{taken_does, refused_does, refusal_does}
+use Rattle.dc_store.proofs.Frames.{same_layers_then}
+use Rattle.dc_question.specs.Changes.{changed, Does}
+use Rattle.dc_question.proofs.ChangeLemmas.{any_does}
 use Rattle.dc_question.proofs.questions.Questions.change.Goals as goal
 
-pub returns-in-Ok-clause-does : goal.returns-in-Ok-clause-does
-returns-in-Ok-clause-does g c =
+pub returns-in-Ok-true-clause-does : goal.returns-in-Ok-true-clause-does
+returns-in-Ok-true-clause-does g c =
     let old : StoreState = stored (each (λ b. (goal.Layer-dyn g (b.vtable, b.value)).state b.value) c.args.self.now.store.now.layers.items) c.args.self.now.store.now.told in
-    let new : StoreState = stored (each (λ b. (goal.Layer-dyn g (b.vtable, b.value)).state b.value) c.write.new.self.store.now.layers.items) c.write.new.self.store.now.told in
-    taken_does old c.args.self.now.setting c.args.name.now c.in-Some.item.now c.kind-kind.result c.args.op.now c.in-Some.ensures (c.kind-kind.ensures ∙ ap kind_by c.template.ensures) new c.in-Ok.ensures.ok
+    let new : StoreState = stored (each (λ b. (goal.Layer-dyn g (b.vtable, b.value)).state b.value) c.change_on_top.new.self.store.now.layers.items) c.change_on_top.new.self.store.now.told in
+    any_does old new c.args.self.now.setting c.args.name.now c.args.op.now (c.in-Ok-true.ensures.there cc) (c.in-Ok-true.ensures.done cc)
 
-pub returns-in-Err-clause-does : goal.returns-in-Err-clause-does
-returns-in-Err-clause-does g c =
-    let old : StoreState = stored (each (λ b. (goal.Layer-dyn g (b.vtable, b.value)).state b.value) c.args.self.now.store.now.layers.items) c.args.self.now.store.now.told in
-    let new : StoreState = stored (each (λ b. (goal.Layer-dyn g (b.vtable, b.value)).state b.value) c.write.new.self.store.now.layers.items) c.write.new.self.store.now.told in
-    refusal_does (Unit {0}) _ old new c.in-Err.error c.refusal.result c.args.name.now c.refusal.ensures.refused c.refusal.ensures.memory
-    (λ e. refused_does old c.args.self.now.setting c.args.name.now c.in-Some.item.now c.kind-kind.result c.args.op.now c.in-Some.ensures (c.kind-kind.ensures ∙ ap kind_by c.template.ensures)
-    (c.write.ensures.refused (c.in-Err.is ∙ ap (λ (x : StoreError). Err x) e)))
-    (λ e. c.write.ensures.unchanged (c.in-Err.is ∙ ap (λ (x : StoreError). Err x) e))
+pub returns-in-Ok-false-clause-does : goal.returns-in-Ok-false-clause-does
+returns-in-Ok-false-clause-does g c =
+    let between : StoreState = stored (each (λ b. (goal.Layer-dyn g (b.vtable, b.value)).state b.value) c.change_on_top.new.self.store.now.layers.items) c.change_on_top.new.self.store.now.told in
+    let new : StoreState = stored (each (λ b. (goal.Layer-dyn g (b.vtable, b.value)).state b.value) c.change_by_kind.new.self.store.now.layers.items) c.change_by_kind.new.self.store.now.told in
+    subst (λ s. Does c.change_by_kind.result (changed s c.args.self.now.setting c.args.name.now c.args.op.now) s new) (c.in-Ok-false.ensures.not_done cc)
+    (subst (λ at. Does c.change_by_kind.result (changed between at c.args.name.now c.args.op.now) between new) c.in-Ok-false.ensures.setting c.change_by_kind.ensures.does)
+
+pub returns-in-Ok-false-clause-others : goal.returns-in-Ok-false-clause-others
+returns-in-Ok-false-clause-others g c = same_layers_then c.args.name.now _ _ _ c.in-Ok-false.ensures.others c.change_by_kind.ensures.others
