@@ -15,6 +15,9 @@ use std::{fs, io};
 // While a file is written, its owner alone may open it.
 const WRITING_MODE: u32 = 0o600;
 
+// The mode of a folder that its group or all may write to has one of these bits.
+const WRITABLE_BY_OTHERS: u32 = 0o022;
+
 // How often a path is opened again whose file was replaced meanwhile.
 const TRIES: u32 = 100;
 
@@ -79,7 +82,7 @@ impl Guard {
     }
 
     /// Locks the folder, and the file `.lock` in it where one stands. The files below it are locked with it, since a folder may
-    /// hold more files than a program may have open. One that isn't there, or can't be opened, isn't locked.
+    /// hold more files than a program may have open. One that isn't there, can't be opened, or can't be changed by this user isn't locked.
     pub fn enter<R: SystemFiles<File = File>>(
         &mut self,
         rt: &R,
@@ -89,6 +92,9 @@ impl Guard {
         let Ok(file) = fs::open(rt, name) else {
             return Ok(());
         };
+        if !may_change(rt, &done(file.metadata())?) {
+            return Ok(());
+        }
         self.hold(file)?;
         let mut below = folder.copy()?;
         below.push(b'/')?;
@@ -305,6 +311,16 @@ fn lock(file: &File) -> Result<(), FilesError> {
         Ok(()) => Ok(()),
         Err(TryLockError::WouldBlock) => Err(FilesError::Failed),
         Err(TryLockError::Error(error)) => Err(failed(&error)),
+    }
+}
+
+// Whether the user of this process may change what is in the folder, as far as its owner and its mode tell.
+fn may_change<R: SystemFiles>(rt: &R, folder: &Metadata) -> bool {
+    match fs::metadata(rt, "/proc/self") {
+        Ok(own) => {
+            own.uid() == 0 || own.uid() == folder.uid() || folder.mode() & WRITABLE_BY_OTHERS != 0
+        }
+        Err(_) => true,
     }
 }
 
