@@ -33,7 +33,8 @@ fn printed(alloc: Global) -> Option<Text> {
 
 // The value of the item that a put makes where none is. An owner makes none there.
 fn made_of_none(alloc: Global) -> Option<Text> {
-    let entry = read_records(alloc, b"Name: a\nValue: x\n").ok()?.pop()?;
+    let records = read_records(alloc, b"Name: a\nValue: x\n").ok()?;
+    let entry = records.into_list(alloc).ok()?.pop()?;
     let After::Changed(item) = Op::Put(entry.item).at(None).ok()? else {
         return None;
     };
@@ -207,11 +208,12 @@ fn put(alloc: Global, store: &mut Store, plan: &Plan, record: &[u8]) -> Option<(
     requires { IsOver plan.now (length store.old.layers.items) }
     ensures { IsOver plan.now (length store.new.layers.items) }
 {
+    let records = read_records(alloc, record).ok()?;
     let Entry {
         name,
         item,
         line: _,
-    } = read_records(alloc, record).ok()?.pop()?;
+    } = records.into_list(alloc).ok()?.pop()?;
     let op = Op::Put(item);
     store.change(plan, &name, None, &op).ok()
 }

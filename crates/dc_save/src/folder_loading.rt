@@ -1,14 +1,15 @@
 // Loading a layer in a folder.
-ghost use Rattle.std.specs.Prelude.{◌≡◌, [], IfOk, OnOk, OnErr, find, not};
+ghost use Rattle.std.specs.Prelude.{◌≡◌, [], IfOk, OnOk, OnErr, false, find, not};
 ghost use Rattle.std.specs.Option.{option_copied};
 ghost use Rattle.std.specs.FinMap as map;
 ghost use Rattle.dc_text.specs.Maps.{AreDistinct};
 ghost use Rattle.dc_item.specs.Table.{names_of};
+ghost use Rattle.dc_layer.specs.State.{taken_in};
 ghost use Rattle.dc_save.specs.Found.{IsSameButTable};
 ghost use Rattle.dc_save.specs.FolderLoading.{belongs as belongs_of, is_front as is_front_of, is_its_file as is_its_file_of, its_files as its_files_of, front_of, path_at as path_at_of, misfit as misfit_of, lacks_one as lacks_one_of, LoadsFolder, LoadsFolderFiles, FolderCounts};
 ghost use Rattle.dc_save.specs.FileTurns.{FileTurn, FileTurnTold, FileTurnCounts, FileTurns, TakesText, with_new};
 
-use crate::loading::{LoadError, Loaded, pass_over, take_entry};
+use crate::loading::{LoadError, Loaded, pass_over};
 use dc_conf::spec::{LayerSort, LayerSpec};
 use dc_item::{Entry, RecordError, read_records};
 use dc_layer::Layer;
@@ -147,7 +148,7 @@ fn take_file(
     ensures { TakesText spec.now file.now text.now path (state layer.old) (state layer.new) result }
 {
     let records = match read_records(alloc, text.bytes()) {
-        Ok(records) => records,
+        Ok(records) => records.into_list(alloc)?,
         Err(RecordError::Bad { line }) => return Err(LoadError::Damaged { path, line }),
         Err(RecordError::OutOfMemory) => return Err(LoadError::OutOfMemory),
     };
@@ -216,6 +217,20 @@ fn take_new(layer: &mut Box<dyn Layer>, records: List<Entry>) -> Mem<()>
         }
     }
     Ok(())
+}
+
+fn take_entry(layer: &mut Box<dyn Layer>, entry: Entry) -> Mem<()>
+    requires new { map.contains_key (state layer.old).table entry.name ≡ false }
+    requires untouched { (state layer.old).touched ≡ [] }
+    ensures ok { OnOk result (state layer.new ≡ taken_in (state layer.old) entry.name entry.item) }
+    ensures err { OnErr result (state layer.new ≡ state layer.old) }
+{
+    let Entry {
+        name,
+        item,
+        line: _,
+    } = entry;
+    layer.take_in(name, item)
 }
 
 fn has(layer: &Box<dyn Layer>, name: &Name) -> bool

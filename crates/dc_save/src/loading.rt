@@ -1,18 +1,15 @@
 // Loading a layer, and one in one file.
-ghost use Rattle.std.specs.Prelude.{◌≡◌, ◌++◌, [], Some, IfOk, OnOk, OnErr, false};
+ghost use Rattle.std.specs.Prelude.{◌≡◌, [], Some, false};
 ghost use Rattle.std.specs.FinMap as map;
-ghost use Rattle.dc_text.specs.Maps.{AreDistinct};
-ghost use Rattle.dc_item.specs.Table.{names_of, table_of};
-ghost use Rattle.dc_layer.specs.State.{taken_in, without_items};
-ghost use Rattle.dc_save.specs.Found.{IsSameButTable};
+ghost use Rattle.dc_item.specs.Table.{table_of};
 ghost use Rattle.dc_save.specs.Loading.{LoadsFile, LoadsOneFile, FileCounts, LoadsLayer, LoadsFiles, LoadCounts, Takes, PassesOver, with_loaded, text_in};
 
 use crate::folder_loading::load_folder;
 use dc_conf::spec::{LayerSort, LayerSpec};
-use dc_item::{Entry, RecordError, read_records};
+use dc_item::{RecordError, Records, read_records};
 use dc_layer::Layer;
 use dc_outside::{Files, FilesError};
-use dc_text::{List, Mem, OutOfMemory, Text};
+use dc_text::{OutOfMemory, Text};
 use std::alloc::Global;
 
 /// What became of a layer that was to be loaded.
@@ -54,39 +51,7 @@ fn bytes_in(found: &Option<Text>) -> &[u8]
     }
 }
 
-pub(crate) fn take_entry(layer: &mut Box<dyn Layer>, entry: Entry) -> Mem<()>
-    requires new { map.contains_key (state layer.old).table entry.name ≡ false }
-    requires untouched { (state layer.old).touched ≡ [] }
-    ensures ok { OnOk result (state layer.new ≡ taken_in (state layer.old) entry.name entry.item) }
-    ensures err { OnErr result (state layer.new ≡ state layer.old) }
-{
-    let Entry {
-        name,
-        item,
-        line: _,
-    } = entry;
-    layer.take_in(name, item)
-}
-
-// Takes all records into the layer.
-fn take_all(layer: &mut Box<dyn Layer>, records: List<Entry>) -> Mem<()>
-    requires apart { AreDistinct (names_of records) }
-    requires empty { (state layer.old).table ≡ map.empty }
-    requires untouched { (state layer.old).touched ≡ [] }
-    ensures ok { OnOk result (state layer.new ≡ record (state layer.old) { table = table_of records }) }
-    ensures err { OnErr result (IsSameButTable (state layer.old) (state layer.new)) }
-{
-    let mut left = records;
-    while let Some(entry) = left.pop() {
-        match take_entry(layer, entry) {
-            Ok(()) => {}
-            Err(error) => return Err(error),
-        }
-    }
-    Ok(())
-}
-
-// Keeps the text that was found, where the spec asks for that.
+// Keeps the text that was found, where the spec asks for that, and else lets it go.
 fn keep_found(layer: &mut Box<dyn Layer>, spec: &LayerSpec, found: Option<Text>)
     ensures { state layer.new ≡ with_loaded spec.now (state layer.old) (state layer.old).table found }
 {
@@ -100,7 +65,16 @@ fn keep_found(layer: &mut Box<dyn Layer>, spec: &LayerSpec, found: Option<Text>)
     }
 }
 
-// Takes in the records of the text that was found at the path.
+// Hands the records to the layer.
+fn take_records(layer: &mut Box<dyn Layer>, records: Records)
+    requires empty { (state layer.old).table ≡ map.empty }
+    requires untouched { (state layer.old).touched ≡ [] }
+    ensures { state layer.new ≡ record (state layer.old) { table = table_of records } }
+{
+    layer.take_all(records)
+}
+
+// Takes the records of the text that was found at the path. A text that isn't kept goes once it is read.
 fn take_found(
     alloc: Global,
     spec: &LayerSpec,
@@ -117,13 +91,9 @@ fn take_found(
         Err(RecordError::Bad { line }) => return Err(LoadError::Damaged { path, line }),
         Err(RecordError::OutOfMemory) => return Err(LoadError::OutOfMemory),
     };
-    match take_all(layer, records) {
-        Ok(()) => {
-            keep_found(layer, spec, found);
-            Ok(Loaded::Here)
-        }
-        Err(_) => Err(LoadError::OutOfMemory),
-    }
+    keep_found(layer, spec, found);
+    take_records(layer, records);
+    Ok(Loaded::Here)
 }
 
 // Leaves the layer out, unless a run needs it.
