@@ -1,15 +1,19 @@
-use Rattle.std.proofs.Common.{map as each, sym, ap, ◌∙◌}
-use Rattle.dc_item.proofs.TextTableLemmas as table
+use Rattle.std.proofs.Common.{◌≡◌, ◌∷◌, ◌+◌, drop, map as each, sym, ap, ◌∙◌}
+use Rattle.std.proofs.lemmas.List.{drop_more, drop_all}
 use Rattle.dc_layer.specs.PrefixTexts.{prefix_texts, with_records}
 use Rattle.dc_layer.proofs.PrefixLemmas.{filled_next, filled_all}
 use Rattle.dc_layer.proofs.imaging.fill.Goals as goal
 
 pub loop-name-preserved : goal.loop-name-preserved
 loop-name-preserved c =
-    filled_next (c.in-Some.name.now.now, c.in-Some.item.now.now) (table.shown (λ k. k.now) (λ v. v.now) c.next.new.self) c.loop-name.texts.entries c.add_record.new.texts.entries c.in_ok-add_record.ensures
-    ∙ ap (λ it. each (with_records (table.shown (λ k. k.now) (λ v. v.now) it)) (prefix_texts c.loop-name.texts.entries)) (sym c.in-Some.ensures.steps) ∙ c.loop-name.invariant
+    let n = c.loop-name.name-index in
+    let items = c.deref-name-items.result.now in
+    let pair = c.loop-name-item.result in
+    let next : drop n items ≡ pair ∷ drop (n + 1) items = drop_more items n pair c.loop-name-test.true ∙ ap (λ p. p ∷ drop (n + 1) items) (sym c.loop-name-item.is) in
+    filled_next (pair.0.now, pair.1.now) (each (λ e. (e.0.now, e.1.now)) (drop (n + 1) items)) c.loop-name.texts.entries c.add_record.new.texts.entries c.in_ok-add_record.ensures
+    ∙ ap (λ es. each (with_records (each (λ e. (e.0.now, e.1.now)) es)) (prefix_texts c.loop-name.texts.entries)) (sym next) ∙ c.loop-name.invariant
 
 pub returns : goal.returns
 returns c =
     sym (filled_all (prefix_texts c.loop-name.texts.entries))
-    ∙ ap (λ it. each (with_records (table.shown (λ k. k.now) (λ v. v.now) it)) (prefix_texts c.loop-name.texts.entries)) (sym c.in-None.ensures.steps.0) ∙ c.loop-name.invariant
+    ∙ ap (λ es. each (with_records (each (λ e. (e.0.now, e.1.now)) es)) (prefix_texts c.loop-name.texts.entries)) (sym (drop_all c.loop-name.name-index c.deref-name-items.result.now c.loop-name-test.false)) ∙ c.loop-name.invariant
