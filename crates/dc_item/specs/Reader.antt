@@ -40,7 +40,7 @@ added o _ = None
 abbrev pub IsOpen : Open → Type 0
 IsOpen o = (o.has_owners ≡ false → o.item.owners ≡ map.empty) × (o.has_flags ≡ false → o.item.flags ≡ map.empty)
 
--- a record has the name
+-- one of the records has the name
 abbrev pub has_name : List Entry → List ℕ → Bool
 has_name entries name = map.contains_key (set_of (names_of entries)) name
 

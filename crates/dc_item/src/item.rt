@@ -4,7 +4,7 @@ ghost use Rattle.std.specs.FinMap as map;
 ghost use Rattle.std.specs.Option.{option_copied};
 ghost use Rattle.dc_text.specs.Bytes.{is_nil};
 ghost use Rattle.dc_text.specs.Maps.{set_of};
-ghost use Rattle.dc_text.specs.Names.{is_name, is_flag_name};
+ghost use Rattle.dc_text.specs.Names.{is_name, is_flag_name, is_field_key};
 ghost use Rattle.dc_text.specs.Settled.{is_settled};
 ghost use Rattle.dc_item.specs.After.{with_flag, without, parts_eq};
 ghost use Rattle.dc_item.specs.Item.{no_parts, IsItem};
@@ -124,11 +124,17 @@ impl Item {
         Ok(item)
     }
 
-    // Gives back the memory that nothing takes.
-    pub(crate) fn shrink(&mut self)
-        ensures { self.new ≡ self.old }
+    // Hands out all that stands in the item, in memory of just its size, and leaves nothing in it but memory for others.
+    pub(crate) fn take(&mut self) -> Mem<Item>
+        ensures taken { IfOk result (λ taken. taken ≡ self.old) }
+        ensures left { OnOk result (self.new ≡ no_parts) }
+        ensures err { OnErr result (self.new ≡ self.old) }
     {
-        self.parts.shrink();
+        let parts = self.parts.take(self.alloc)?;
+        Ok(Item {
+            alloc: self.alloc,
+            parts,
+        })
     }
 
     // Puts the field, in the place of one with its key.
@@ -150,13 +156,14 @@ impl Item {
     }
 
     // Puts the field if the item has none with its key, and answers whether it had none.
-    pub(crate) fn put_new_field(&mut self, key: &FieldKey, value: &[u8]) -> Mem<bool>
-        requires { is_settled value.now ≡ true }
+    pub(crate) fn put_new_field(&mut self, key: &[u8], value: &[u8]) -> Mem<bool>
+        requires key { is_field_key key.now ≡ true }
+        requires value { is_settled value.now ≡ true }
         ensures new { IfOk result (λ is_new. is_new ≡ not (map.contains_key self.old.fields key.now)) }
         ensures put { IfOk result (λ is_new. self.new ≡ (if is_new then record self.old { fields = map.insert self.old.fields key.now value.now } else self.old)) }
         ensures err { OnErr result (self.new ≡ self.old) }
     {
-        let is_new = self.parts.insert_new(FIELDS, key.bytes(), value)?;
+        let is_new = self.parts.insert_new(FIELDS, key, value)?;
         Ok(is_new)
     }
 

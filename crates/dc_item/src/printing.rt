@@ -1,13 +1,12 @@
 // The printed text of records.
-ghost use Rattle.std.specs.Prelude.{◌≡◌, ◌++◌, ◌∷◌, [], IfOk, OnOk, map as each, if◌then◌else◌};
+ghost use Rattle.std.specs.Prelude.{◌≡◌, ◌++◌, ◌∷◌, [], IfOk, OnOk, codes, map as each, if◌then◌else◌};
 ghost use Rattle.std.specs.List.{AllByRecursion};
 ghost use Rattle.dc_text.specs.Ascii.{comma, space};
-ghost use Rattle.dc_text.specs.Bytes.{is_nil};
 ghost use Rattle.dc_text.specs.Lines.{text_of};
 ghost use Rattle.dc_text.specs.Maps.{AreDistinct};
 ghost use Rattle.dc_text.specs.Settled.{newlines_shown};
 ghost use Rattle.dc_item.specs.Item.{IsItem};
-ghost use Rattle.dc_item.specs.Printed.{canon, table_text, record_lines, shown_field, shown_variable, variable_lines, list_lines, joined};
+ghost use Rattle.dc_item.specs.Printed.{canon, table_text, record_lines, shown_field, shown_variable, variable_lines, list_lines};
 ghost use Rattle.dc_item.specs.Sections.{under, keys_under, fields_mark, variables_mark};
 ghost use Rattle.dc_item.specs.Table.{names_of, table_of, IsEntry, IsInOrder, ReadsAs};
 
@@ -100,24 +99,27 @@ fn push_value(alloc: Global, text: &mut Text, value: &[u8]) -> Mem<()>
     }
 }
 
+// The variables, and before the first of them their heading.
 fn print_variables(alloc: Global, text: &mut Text, entries: &[(&[u8], &[u8])]) -> Mem<()>
     ensures { OnOk result (text.new ≡ text.old ++ text_of (variable_lines (under variables_mark (each (λ e. (e.0.now, e.1.now)) entries.now)))) }
 {
-    if is_none_under(VARIABLES, entries) {
-        return Ok(());
-    }
-    text.append(b"Variables:")?;
-    text.push(b'\n')?;
-    print_each_variable(alloc, text, entries)
-}
-
-fn print_each_variable(alloc: Global, text: &mut Text, entries: &[(&[u8], &[u8])]) -> Mem<()>
-    ensures { OnOk result (text.new ≡ text.old ++ text_of (each shown_variable (under variables_mark (each (λ e. (e.0.now, e.1.now)) entries.now)))) }
-{
+    let mut is_first = true;
     for (key, value) in entries {
         if has_mark(VARIABLES, key) {
+            push_heading(text, is_first)?;
             print_variable(alloc, text, unmarked(key), value)?;
+            is_first = false;
         }
+    }
+    Ok(())
+}
+
+// The heading of the variables, if the first is to follow.
+fn push_heading(text: &mut Text, is_first: bool) -> Mem<()>
+    ensures { OnOk result (text.new ≡ text.old ++ (if is_first then codes "Variables:\n" else [])) }
+{
+    if is_first {
+        text.append(b"Variables:\n")?;
     }
     Ok(())
 }
@@ -132,48 +134,30 @@ fn print_variable(alloc: Global, text: &mut Text, key: &[u8], value: &[u8]) -> M
     text.push(b'\n')
 }
 
-// Whether no key begins with the mark.
-fn is_none_under(mark: u8, entries: &[(&[u8], &[u8])]) -> bool
-    ensures { result ≡ is_nil (under mark (each (λ e. (e.0.now, e.1.now)) entries.now)) }
-{
-    for (key, _) in entries {
-        if has_mark(mark, key) {
-            return false;
-        }
-    }
-    true
-}
-
 // The line of the owners or of the flags, where there are some.
 fn print_list(text: &mut Text, head: &[u8], mark: u8, entries: &[(&[u8], &[u8])]) -> Mem<()>
     ensures { OnOk result (text.new ≡ text.old ++ text_of (list_lines head.now (keys_under mark (each (λ e. (e.0.now, e.1.now)) entries.now)))) }
 {
-    if is_none_under(mark, entries) {
-        return Ok(());
-    }
-    text.append(head)?;
-    join_keys(text, mark, entries)?;
-    text.push(b'\n')
-}
-
-fn join_keys(text: &mut Text, mark: u8, entries: &[(&[u8], &[u8])]) -> Mem<()>
-    ensures { OnOk result (text.new ≡ text.old ++ joined (keys_under mark (each (λ e. (e.0.now, e.1.now)) entries.now))) }
-{
     let mut is_first = true;
     for (key, _) in entries {
         if has_mark(mark, key) {
-            push_piece(text, is_first, unmarked(key))?;
+            push_piece(text, head, is_first, unmarked(key))?;
             is_first = false;
         }
     }
-    Ok(())
+    if is_first {
+        return Ok(());
+    }
+    text.push(b'\n')
 }
 
-// A name of a list, and before it a comma and a space unless it is the first.
-fn push_piece(text: &mut Text, is_first: bool, name: &[u8]) -> Mem<()>
-    ensures { OnOk result (text.new ≡ text.old ++ (if is_first then name.now else comma ∷ space ∷ name.now)) }
+// A name of a list, and before it the head of the list if it is the first, or else a comma and a space.
+fn push_piece(text: &mut Text, head: &[u8], is_first: bool, name: &[u8]) -> Mem<()>
+    ensures { OnOk result (text.new ≡ text.old ++ (if is_first then head.now ++ name.now else comma ∷ space ∷ name.now)) }
 {
-    if !is_first {
+    if is_first {
+        text.append(head)?;
+    } else {
         text.append(b", ")?;
     }
     text.append(name)

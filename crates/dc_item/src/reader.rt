@@ -1,16 +1,17 @@
 // The reader of records, which takes one line after another.
-ghost use Rattle.std.specs.Prelude.{◌≡◌, IfOk, OnOk, None, Some, false, not, if◌then◌else◌, codes, map as each};
+ghost use Rattle.std.specs.Prelude.{◌≡◌, IfOk, OnOk, None, Some, true, false, not, if◌then◌else◌, codes, map as each};
 ghost use Rattle.std.specs.List.{list_all};
 ghost use Rattle.std.specs.Str.{bytes_eq};
 ghost use Rattle.std.specs.FinMap as map;
 ghost use Rattle.dc_text.specs.Bytes.{lower};
 ghost use Rattle.dc_text.specs.Maps.{set_of};
-ghost use Rattle.dc_text.specs.Names.{is_name as is_name_of, is_flag_name as is_flag_name_of};
+ghost use Rattle.dc_text.specs.Names.{is_name as is_name_of, is_flag_name as is_flag_name_of, is_field_key as is_field_key_of};
 ghost use Rattle.dc_text.specs.Settled.{settled};
+ghost use Rattle.dc_item.specs.Item.{no_parts};
 ghost use Rattle.dc_item.specs.Grammar.{line_said, pieces, headed_line, indented_line, name_line, owners_line, flags_line, variables_line, field_line, variable_line};
 
 use crate::item::Item;
-use crate::reading::{flags_in, is_word, names_in};
+use crate::reading::{flags_in, is_word, names_in, usual_key};
 use crate::record_line::RecordLine;
 use crate::records_read::Records;
 use dc_text::bytes::{is_blank, is_indented, split_at_byte, trim, without_space};
@@ -35,12 +36,14 @@ pub struct Open {
 impl Open {
     ghost use Rattle.dc_item.specs.Reader.{added, begun, IsOpen};
 
-    fn new(alloc: Global, name: Name, line: u64) -> Self
+    // Begins with an item in which nothing stands.
+    fn new(name: Name, item: Item, line: u64) -> Self
+        requires { item ≡ no_parts }
         ensures { result ≡ begun name line }
     {
         Open {
             name,
-            item: Item::new(alloc),
+            item,
             line,
             has_owners: false,
             has_flags: false,
@@ -55,6 +58,9 @@ impl Open {
         requires is_open { IsOpen self.old }
         ensures { IfOk result (λ stands. added self.old (headed_line (each lower word.now) rest.now) ≡ (if stands then Some self.new else None)) }
     {
+        if let Some(key) = usual_key(word) {
+            return self.add_keyed(alloc, key, rest);
+        }
         if is_word(word, b"owners") {
             self.add_owners(alloc, rest)
         } else if is_word(word, b"flags") {
@@ -107,20 +113,26 @@ impl Open {
         true
     }
 
-    fn add_field(&mut self, alloc: Global, key: &[u8], rest: &[u8]) -> Mem<bool>
-        ensures { IfOk result (λ stands. added self.old (field_line (each lower key.now) rest.now) ≡ (if stands then Some self.new else None)) }
+    fn add_field(&mut self, alloc: Global, word: &[u8], rest: &[u8]) -> Mem<bool>
+        ensures { IfOk result (λ stands. added self.old (field_line (each lower word.now) rest.now) ≡ (if stands then Some self.new else None)) }
     {
-        match FieldKey::read(alloc, key) {
-            Ok(key) => {
-                if !put_field(&mut self.item, alloc, &key, without_space(rest))? {
-                    return Ok(false);
-                }
-                self.in_variables = false;
-                Ok(true)
-            }
+        match FieldKey::read(alloc, word) {
+            Ok(key) => self.add_keyed(alloc, key.bytes(), rest),
             Err(NameRefused::Bad) => Ok(false),
             Err(NameRefused::OutOfMemory) => Err(OutOfMemory),
         }
+    }
+
+    // Takes a line of the field with this key, and answers whether it stands.
+    fn add_keyed(&mut self, alloc: Global, key: &[u8], rest: &[u8]) -> Mem<bool>
+        requires { is_field_key_of key.now ≡ true }
+        ensures { IfOk result (λ stands. added self.old (field_line key.now rest.now) ≡ (if stands then Some self.new else None)) }
+    {
+        if !put_field(&mut self.item, alloc, key, without_space(rest))? {
+            return Ok(false);
+        }
+        self.in_variables = false;
+        Ok(true)
     }
 
     // Takes a line that is indented, and answers whether it stands.
@@ -193,7 +205,8 @@ fn put_flags(item: &mut Item, alloc: Global, text: &[u8]) -> Mem<bool>
 
 // Puts the field, its value settled, if the item has none with its key, and answers whether it had none. Most values have no
 // backslash, and are settled as they stand.
-fn put_field(item: &mut Item, alloc: Global, key: &FieldKey, value: &[u8]) -> Mem<bool>
+fn put_field(item: &mut Item, alloc: Global, key: &[u8], value: &[u8]) -> Mem<bool>
+    requires { is_field_key_of key.now ≡ true }
     ensures new { IfOk result (λ is_new. is_new ≡ not (map.contains_key item.old.fields key.now)) }
     ensures put { IfOk result (λ is_new. item.new ≡ (if is_new then record item.old { fields = map.insert item.old.fields key.now (settled value.now) } else item.old)) }
 {
@@ -267,20 +280,21 @@ impl Reader {
         ensures { IfOk result (λ stands. step self.old number (name_line rest.now) ≡ (if stands then Some self.new else None)) }
     {
         match Name::read(alloc, trim(rest)) {
-            Ok(name) => Ok(self.begin(alloc, number, name)),
+            Ok(name) => Ok(self.begin(number, name)),
             Err(NameRefused::Bad) => Ok(false),
             Err(NameRefused::OutOfMemory) => Err(OutOfMemory),
         }
     }
 
     // Begins a record of the name, and answers whether one begins here.
-    fn begin(&mut self, alloc: Global, number: u64, name: Name) -> bool
+    fn begin(&mut self, number: u64, name: Name) -> bool
         ensures { step self.old number (RecordLine.Name name) ≡ (if result then Some self.new else None) }
     {
         if self.current.is_some() || self.done.has(name.bytes()) {
             return false;
         }
-        self.current = Some(Open::new(alloc, name, number));
+        let item = self.done.spare_item();
+        self.current = Some(Open::new(name, item, number));
         true
     }
 
@@ -314,14 +328,13 @@ impl Reader {
         if let Some(open) = self.current.take() {
             let Open {
                 name,
-                mut item,
+                item,
                 line,
                 has_owners: _,
                 has_flags: _,
                 has_variables: _,
                 in_variables: _,
             } = open;
-            item.shrink();
             self.done.push(name, item, line)?;
         }
         Ok(())

@@ -53,17 +53,17 @@ names_are_names m named = all_listed (keys m) (λ q e. named q (contains_key-key
 
 -- ---- an item written over
 
-there_again : (m : Table) (k : List ℕ) (v : ItemParts) → get m k ≡ Some v → insert m k v ≡ m
+pub there_again : (m : Table) (k : List ℕ) (v : ItemParts) → get m k ≡ Some v → insert m k v ≡ m
 there_again m k v e = same_map nat_list_cmp_total exact_texts _ _ (λ q. get-insert nat_list_cmp_total m k v q
     ∙ elim (eq_by_cmp text_cmp q k) as (λ b. eq_by_cmp text_cmp q k ≡ b → cond b (Some v) (get m q) ≡ get m q) [
       | true ↦ λ t. sym (ap (get m) (same_key q k t) ∙ e)
       | false ↦ λ t. refl
     ] refl)
 
--- an item that isn't changed is written over by itself
-pub applied_err : {T E : Type 0} (r : Result T E) (m new : Table) (k : List ℕ) (old made : ItemParts) → get m k ≡ Some old → new ≡ insert m k made → OnErr r (made ≡ old) → OnErr r (new ≡ m)
-applied_err (Ok x) m new k old made was put is = tt
-applied_err (Err e) m new k old made was put is = put ∙ ap (insert m k) is ∙ there_again m k old was
+-- what holds in any case holds after an error
+pub either_way : {T E P : Type 0} (r : Result T E) → P → OnErr r P
+either_way (Ok x) p = tt
+either_way (Err e) p = p
 
 -- the names of entries, as a map shows them
 abbrev pub firsts : List (List ℕ × ItemParts) → List (List ℕ)

@@ -1,13 +1,9 @@
 // What a layer holds, however it is kept.
-ghost use Rattle.std.specs.Prelude.{◌≡◌, ◌&&◌, IfOk, OnOk, OnErr, false, is_some, map as each, not};
-ghost use Rattle.std.specs.Option.{option_copied, option_map_or};
-ghost use Rattle.std.specs.FinMap as map;
-ghost use Rattle.dc_item.specs.After.{after_at};
-ghost use Rattle.dc_item.specs.Item.{ItemParts};
-ghost use Rattle.dc_item.specs.declared.op.After.TheVariants.{Changed};
+ghost use Rattle.std.specs.Prelude.{◌≡◌, ◌&&◌, IfOk, false};
+ghost use Rattle.std.specs.Option.{option_map_or};
 ghost use Rattle.dc_layer.specs.Folders.{has_place_for as has_place_for_of};
 ghost use Rattle.dc_layer.specs.Rules.{accepts, rules_of};
-ghost use Rattle.dc_layer.specs.State.{blank, touch, is_put, images_by, is_file};
+ghost use Rattle.dc_layer.specs.State.{blank, is_put, images_by, is_file};
 
 use crate::folders::has_place_for;
 use crate::image::Image;
@@ -100,68 +96,10 @@ impl Held {
     }
 }
 
-// Changes the item at the name, or makes one, and touches it, or changes nothing.
-fn change_touched(
-    table: &mut ItemTable,
-    touched: &mut IndexSet<Vec<u8>>,
-    name: &Name,
-    op: &Op,
-) -> Mem<()>
-    ensures table { OnOk result ((item : ItemParts) → after_at op.now (map.get table.old name.now) ≡ Changed item → table.new ≡ map.insert table.old name.now item) }
-    ensures touched { OnOk result (each (λ k. k.items) touched.new.keys ≡ touch (each (λ k. k.items) touched.old.keys) name.now) }
-    ensures same_table { OnErr result (table.new ≡ table.old) }
-    ensures same_touched { OnErr result (each (λ k. k.items) touched.new.keys ≡ each (λ k. k.items) touched.old.keys) }
-{
-    if touched.contains(name.bytes()) {
-        return table.change(name, op);
-    }
-    let mark = name.copy()?.into_text().into_vec()?;
-    touched.reserve(1)?;
-    table.change(name, op)?;
-    match touched.insert(mark) {
-        Ok(_) => Ok(()),
-        Err(_) => unreachable!(),
-    }
-}
-
-// Takes the item at the name away and touches it, or changes nothing.
-fn remove_touched(table: &mut ItemTable, touched: &mut IndexSet<Vec<u8>>, name: &Name) -> Mem<()>
-    ensures table { OnOk result (table.new ≡ map.remove table.old name.now) }
-    ensures touched { OnOk result (each (λ k. k.items) touched.new.keys ≡ touch (each (λ k. k.items) touched.old.keys) name.now) }
-    ensures same_table { OnErr result (table.new ≡ table.old) }
-    ensures same_touched { OnErr result (each (λ k. k.items) touched.new.keys ≡ each (λ k. k.items) touched.old.keys) }
-{
-    touch_name(touched, name)?;
-    table.remove(name.bytes());
-    Ok(())
-}
-
-// Touches the name, or changes nothing. It takes no memory where the name was touched before.
-fn touch_name(touched: &mut IndexSet<Vec<u8>>, name: &Name) -> Mem<()>
-    ensures ok { OnOk result (each (λ k. k.items) touched.new.keys ≡ touch (each (λ k. k.items) touched.old.keys) name.now) }
-    ensures err { OnErr result (each (λ k. k.items) touched.new.keys ≡ each (λ k. k.items) touched.old.keys) }
-{
-    if touched.contains(name.bytes()) {
-        return Ok(());
-    }
-    touched.insert(name.copy()?.into_text().into_vec()?)?;
-    Ok(())
-}
-
 pub(crate) fn is_put_op(op: &Op) -> bool
     ensures { result ≡ is_put op.now }
 {
     matches!(op, Op::Put(_))
-}
-
-// Whether there is no item to change, and the operation makes none.
-fn lacks_item(op: &Op, held: Option<&Item>) -> bool
-    ensures { result ≡ (not (is_some (option_copied held.entry)) && not (is_put op.now)) }
-{
-    match held {
-        Some(_) => false,
-        None => !is_put_op(op),
-    }
 }
 
 // The text that the file of an image is to hold.
@@ -244,18 +182,12 @@ impl Layer for Held {
         if !self.writable() {
             return Err(LayerError::ReadOnly);
         }
-        let held = self.table.get(name.bytes());
-        if lacks_item(op, held) {
-            return Err(LayerError::NotHere);
-        }
-        match op.effect(held)? {
-            Effect::Same => Ok(Taken::Same),
-            Effect::Changed => {
-                change_touched(&mut self.table, &mut self.touched, name, op)?;
-                Ok(Taken::Changed)
-            }
-            Effect::Gone => {
-                remove_touched(&mut self.table, &mut self.touched, name)?;
+        match self.table.work(&mut self.touched, name, op)? {
+            None => Err(LayerError::NotHere),
+            Some(Effect::Same) => Ok(Taken::Same),
+            Some(Effect::Changed) => Ok(Taken::Changed),
+            Some(Effect::Gone) => {
+                self.table.remove(name.bytes());
                 Ok(Taken::Gone)
             }
         }

@@ -9,9 +9,9 @@ use Rattle.std.specs.FinMap.{put, is_sorted}
 use Rattle.std.specs.FinMap.Entries.{by_order, below_all}
 use Rattle.std.specs.declared.cmp.Ordering.TheVariants.{Less, Greater}
 use Rattle.dc_text.specs.Maps.{text_cmp}
-use Rattle.dc_text.proofs.SmallMapLemmas.{without}
 use Rattle.dc_parts.specs.Packed.{packed, text_at, HasText, entries_in, IsPacked, IsLast, before, behind, value_at}
-use Rattle.dc_parts.proofs.PackedLemmas.{by_place, first, second, less, parts, packed-append, text_at-packed, HasText-packed, length-packed, put-place, without-place}
+use Rattle.dc_parts.proofs.PackedLemmas.{by_place, parts, packed-append, text_at-packed, HasText-packed, length-packed, put-place, without-place}
+use Rattle.dc_parts.proofs.PlaceLemmas.{first, second, less, without}
 
 -- ---- a key above that of the last entry
 

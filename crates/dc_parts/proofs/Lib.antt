@@ -1,3 +1,4 @@
 pub mod LastLemmas
 pub mod ManyLemmas
 pub mod PackedLemmas
+pub mod PlaceLemmas

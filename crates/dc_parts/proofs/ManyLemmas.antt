@@ -5,12 +5,12 @@ use Rattle.std.specs.List.Sorted.{IsBinarySearchResult}
 use Rattle.std.specs.declared.cmp.Ordering.{Ordering}
 use Rattle.std.specs.declared.cmp.Ordering.TheVariants.{Less, Equal, Greater}
 use Rattle.std.specs.Ordering.{ordering_index, is_lt}
-use Rattle.std.specs.FinMap.{FinMap, put, is_sorted, entries, entries_sorted, from_sorted, same_entries_map, entries-from_sorted, contains_key, get-from_sorted}
+use Rattle.std.specs.FinMap.{FinMap, put, is_sorted, find, entries, entries_sorted, from_sorted, same_entries_map, entries-from_sorted, contains_key, get-from_sorted}
 use Rattle.std.proofs.lemmas.List.{get_or_default, length-append}
 use Rattle.std.proofs.Math.Seq.{get_or-append_seam}
 use Rattle.dc_text.specs.Maps.{text_cmp}
-use Rattle.dc_text.specs.Places.{IsAt, IsGapFor}
-use Rattle.dc_text.proofs.SmallMapLemmas.{set_at, searched, is_found, find_gap}
+use Rattle.dc_parts.specs.Places.{IsAt, IsGapFor}
+use Rattle.dc_parts.proofs.PlaceLemmas.{set_at, searched, find_at, find_gap}
 
 lowest : (o p : Ordering) → ordering_index o ≤ ordering_index p → is_lt p ≡ true → o ≡ Less
 lowest Less p h e = refl
@@ -41,6 +41,11 @@ set_pair q v es i pair h at is =
 -- a key above the last one goes behind all
 pub gap_behind : (q : List ℕ) (es front : List (List ℕ × List ℕ)) (last : List ℕ × List ℕ) → T (is_sorted text_cmp es) → es ≡ front ++ last ∷ [] → is_lt (text_cmp last.0 q) ≡ true → IsGapFor q es (length es)
 gap_behind q es front last h is low = searched es h q (Err (length es)) (omega arith) (behind (λ e. text_cmp e.0 q) es front last is low)
+
+-- a key that has a place is found
+is_found : (q : List ℕ) (es : List (List ℕ × List ℕ)) (i : ℕ) → T (is_sorted text_cmp es) → IsAt q es i → is_some (find text_cmp q es) ≡ true
+is_found q [] i h at = absurd (omega (arith, at.in_range))
+is_found q (e ∷ es) i h at = ap is_some (find_at q (e ∷ es) i e h at)
 
 -- whether the map has a key that has a place, and one that has a gap
 pub has_at : (q : List ℕ) (es : List (List ℕ × List ℕ)) (i : ℕ) (m : FinMap {K = List ℕ} text_cmp (List ℕ)) → T (is_sorted text_cmp es) → from_sorted es ≡ m → IsAt q es i → contains_key m q ≡ true

@@ -4,7 +4,8 @@ use Rattle.std.specs.Prelude.{◌==◌, ◌≢◌, replicate, T, ◌&&◌, is_so
 use Rattle.std.proofs.Math.Seq.{take-append_seam, drop-append_seam}
 use Rattle.std.proofs.Math.Nat.{div-add-mod}
 use Rattle.std.proofs.lemmas.Bool.Decides.{nat_tests}
-use Rattle.std.proofs.lemmas.List.{append-nil, map-append, length-take, take-append-drop, take-append-le}
+use Rattle.std.proofs.lemmas.List.{append-nil, map-append, length-take, take-append-drop, take-append-le, take_at}
+use Rattle.std.proofs.lemmas.Slice.{drop-append-drop}
 use Rattle.std.specs.declared.cmp.Ordering.{Ordering}
 use Rattle.std.specs.Ordering.{is_lt, is_eq}
 use Rattle.std.specs.Cmp.Lexicographic.{nat_list_cmp_total}
@@ -13,8 +14,8 @@ use Rattle.std.specs.FinMap.Entries.{by_order, below_all}
 use Rattle.std.specs.declared.cmp.Ordering.TheVariants.{Less, Equal, Greater}
 use Rattle.dc_text.specs.Maps.{text_cmp}
 use Rattle.dc_text.proofs.MapLemmas.{exact_texts}
-use Rattle.dc_text.proofs.SmallMapLemmas.{without, without_none}
 use Rattle.dc_parts.specs.Packed.{packed_length, packed_text, packed, length_at, behind_length, text_at, behind_text, HasText, entries_in, IsPacked, IsBegunBy, before, from, behind, value_at}
+use Rattle.dc_parts.proofs.PlaceLemmas.{first, second, less, find_below, without, without_none}
 
 -- ---- a length is read again
 
@@ -233,24 +234,6 @@ length-place q (e ∷ es) =
     by_place q e (λ o. length (by_order o [] [] (e ∷ before q es)) + cond (is_some (by_order o None (Some e.1) (value_at q es))) 1 0 + length (by_order o (e ∷ es) es (behind q es)) ≡ suc (length es))
     (λ _. omega arith) (λ _. omega arith) (λ _. omega (arith, length-place q es))
 
-pub first : (a b : Bool) → T (a && b) → T a
-first true b p = tt
-first false b p = p
-
-pub second : (a b : Bool) → T (a && b) → T b
-second true b p = p
-second false b p = absurd p
-
-pub less : (o : Ordering) → T (is_lt o) → o ≡ Less
-less Less p = refl
-less Equal p = absurd p
-less Greater p = absurd p
-
--- a key that is below all entries isn't found
-find_below : (q : List ℕ) (es : List (List ℕ × List ℕ)) → T (below_all text_cmp q es) → find text_cmp q es ≡ None
-find_below q [] h = refl
-find_below q (e ∷ es) h = ap (λ o. cond (is_eq o) (Some e.1) (find text_cmp q es)) (less _ (first _ _ h)) ∙ find_below q es (second _ _ h)
-
 below_first : (q k : List ℕ) (es : List (List ℕ × List ℕ)) → text_cmp q k ≡ Less → T (below_all text_cmp k es) → T (below_all text_cmp q es)
 below_first q k [] lt h = tt
 below_first q k (e ∷ es) lt h =
@@ -341,6 +324,19 @@ length_laid n k old mid new so_far whole last =
     last ∙ ap (λ l. l ++ (n % 255) ∷ []) so_far ∙ append_assoc old (replicate k 255) ((n % 255) ∷ [])
     ∙ ap (λ j. old ++ (replicate j 255 ++ (n % 255) ∷ [])) whole
 
+-- a length below 255 takes one byte
+short_length : (n : ℕ) → n < 255 → packed_length n ≡ n ∷ []
+unfolding packed_length
+short_length n lt =
+    let none : n / 255 ≡ 0 = omega arith in
+    let all : n % 255 ≡ n = omega arith in
+    (λ i. replicate (none i) 255 ++ (all i) ∷ [])
+
+-- such a length, written
+pub short_laid : (n byte : ℕ) (old mid new : List ℕ) → n < 255 → byte ≡ n → mid ≡ old → new ≡ mid ++ byte ∷ [] → new ≡ old ++ packed_length n
+short_laid n byte old mid new lt is same written =
+    written ∙ (λ i. same i ++ (is i) ∷ []) ∙ ap (λ l. old ++ l) (sym (short_length n lt))
+
 -- an entry, written piece by piece
 pub entry_laid : (mark : ℕ) (key value b0 b1 b2 b3 b4 b5 : List ℕ) → b1 ≡ b0 ++ packed_length (length key + 1) → b2 ≡ b1 ++ mark ∷ [] → b3 ≡ b2 ++ key
     → b4 ≡ b3 ++ packed_length (length value) → b5 ≡ b4 ++ value → b5 ≡ b0 ++ packed ((mark ∷ key, value) ∷ [])
@@ -352,6 +348,56 @@ entry_laid mark key value b0 b1 b2 b3 b4 b5 e1 e2 e3 e4 e5 =
     let laid : (((((b0 ++ front) ++ mark ∷ []) ++ key) ++ value_length) ++ value) ≡ b0 ++ ((front ++ (mark ∷ key)) ++ ((value_length ++ value) ++ [])) = simp (append_assoc, append-nil) in
     e5 ∙ ap (λ l. l ++ value) (e4 ∙ ap (λ l. l ++ value_length) (e3 ∙ ap (λ l. l ++ key) (e2 ∙ ap (λ l. l ++ mark ∷ []) (e1 ∙ ap (λ n. b0 ++ packed_length n) one_more))))
     ∙ laid
+
+-- ---- how an entry is written over others
+
+-- a text, written over what stands behind the front
+over : (at past : ℕ) (text front b0 b1 b2 : List ℕ) → length front ≡ at → past ≡ at + length text → b1 ≡ front ++ drop at b0 → b2 ≡ take at b1 ++ (text ++ drop past b1) → b2 ≡ (front ++ text) ++ drop past b0
+over at past text front b0 b1 b2 long sum before is =
+    let kept : take at b1 ≡ front = ap (take at) before ∙ take_at front (drop at b0) at long in
+    let rest : drop past b1 ≡ drop past b0 = ap (drop past) before ∙ drop-append-drop at b0 front past (omega arith) long in
+    is ∙ (λ i. kept i ++ (text ++ rest i)) ∙ sym (append_assoc front text (drop past b0))
+
+-- an entry of which each length takes one byte, written over others piece by piece, and what is left of those cut out
+module _ (mark one two start end : ℕ) (key value b0 b1 b2 b3 b4 b5 : List ℕ) where
+  abbrev at_key : ℕ
+  at_key = start + 2
+
+  abbrev at_length : ℕ
+  at_length = at_key + length key
+
+  abbrev at_value : ℕ
+  at_value = at_length + 1
+
+  abbrev past_entry : ℕ
+  past_entry = at_value + length value
+
+  pub within_laid : length key + 1 < 255 → length value < 255 → one ≡ length key + 1 → two ≡ length value → past_entry ≤ end → end ≤ length b0
+      → b1 ≡ take start b0 ++ ((one ∷ mark ∷ []) ++ drop at_key b0) → b2 ≡ take at_key b1 ++ (key ++ drop at_length b1)
+      → b3 ≡ take at_length b2 ++ ((two ∷ []) ++ drop at_value b2) → b4 ≡ take at_value b3 ++ (value ++ drop past_entry b3)
+      → b5 ≡ take past_entry b4 ++ drop end b4 → b5 ≡ take start b0 ++ (packed ((mark ∷ key, value) ∷ []) ++ drop end b0)
+  within_laid short_key short_value one_is two_is fits in_range e1 e2 e3 e4 e5 =
+      let f0 : List ℕ = take start b0 in
+      let f1 : List ℕ = f0 ++ (one ∷ mark ∷ []) in
+      let f2 : List ℕ = f1 ++ key in
+      let f3 : List ℕ = f2 ++ (two ∷ []) in
+      let f4 : List ℕ = f3 ++ value in
+      let n0 : length f0 ≡ start = omega (arith, length-take start b0) in
+      let n1 : length f1 ≡ at_key = omega (arith, length-append f0 (one ∷ mark ∷ [])) in
+      let n2 : length f2 ≡ at_length = omega (arith, length-append f1 key) in
+      let n3 : length f3 ≡ at_value = omega (arith, length-append f2 (two ∷ [])) in
+      let n4 : length f4 ≡ past_entry = omega (arith, length-append f3 value) in
+      let w1 : b1 ≡ f1 ++ drop at_key b0 = over start at_key (one ∷ mark ∷ []) f0 b0 b0 b1 n0 refl (sym (take-append-drop start b0)) e1 in
+      let w2 : b2 ≡ f2 ++ drop at_length b0 = over at_key at_length key f1 b0 b1 b2 n1 refl w1 e2 in
+      let w3 : b3 ≡ f3 ++ drop at_value b0 = over at_length at_value (two ∷ []) f2 b0 b2 b3 n2 refl w2 e3 in
+      let w4 : b4 ≡ f4 ++ drop past_entry b0 = over at_value past_entry value f3 b0 b3 b4 n3 refl w3 e4 in
+      let kept : take past_entry b4 ≡ f4 = ap (take past_entry) w4 ∙ take_at f4 (drop past_entry b0) past_entry n4 in
+      let rest : drop end b4 ≡ drop end b0 = ap (drop end) w4 ∙ drop-append-drop past_entry b0 f4 end fits n4 in
+      let key_length : one ∷ [] ≡ packed_length (length key + 1) = ap (λ n. n ∷ []) one_is ∙ sym (short_length (length key + 1) short_key) in
+      let value_length : two ∷ [] ≡ packed_length (length value) = ap (λ n. n ∷ []) two_is ∙ sym (short_length (length value) short_value) in
+      let front : f1 ≡ (f0 ++ packed_length (length key + 1)) ++ mark ∷ [] = sym (append_assoc f0 (one ∷ []) (mark ∷ [])) ∙ ap (λ l. (f0 ++ l) ++ mark ∷ []) key_length in
+      let entry : f4 ≡ f0 ++ packed ((mark ∷ key, value) ∷ []) = entry_laid mark key value f0 _ f1 f2 f3 f4 refl front refl (ap (λ l. f2 ++ l) value_length) refl in
+      e5 ∙ (λ i. (kept ∙ entry) i ++ rest i) ∙ append_assoc f0 (packed ((mark ∷ key, value) ∷ [])) (drop end b0)
 
 -- ---- bytes that begin as before
 

@@ -3,7 +3,7 @@ ghost use Rattle.std.specs.Prelude.{◌≡◌, ◌≤◌, ◌∷◌, ◌++◌, [
 ghost use Rattle.std.specs.Option.{option_copied};
 ghost use Rattle.std.specs.FinMap as map;
 ghost use Rattle.dc_text.specs.Maps.{text_cmp};
-ghost use Rattle.dc_text.specs.Places.{IsAt, IsGapFor};
+ghost use Rattle.dc_parts.specs.Places.{IsAt, IsGapFor};
 
 use dc_text::{Mem, Text};
 use std::alloc::Global;

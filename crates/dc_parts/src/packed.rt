@@ -1,5 +1,5 @@
 // Few entries of a map from texts, packed into one piece of memory.
-ghost use Rattle.std.specs.Prelude.{T, ◌≡◌, ◌++◌, ◌∷◌, ◌≤◌, ◌+◌, ◌-◌, ◌^◌, [], OnOk, OnErr, IfOk, if◌then◌else◌, is_some, not, length, take, drop, map as each};
+ghost use Rattle.std.specs.Prelude.{T, ◌≡◌, ◌++◌, ◌∷◌, ◌<◌, ◌≤◌, ◌+◌, ◌-◌, ◌^◌, [], OnOk, OnErr, IfOk, if◌then◌else◌, is_some, not, length, take, drop, map as each};
 ghost use Rattle.std.specs.Option.{option_copied};
 ghost use Rattle.std.specs.FinMap as map;
 ghost use Rattle.dc_text.specs.Maps.{text_cmp};
@@ -49,11 +49,21 @@ fn compare(mark: u8, key: &[u8], other: &[u8]) -> Ordering
         None => Ordering::Greater,
         Some((first, rest)) => {
             if mark == *first {
-                key.cmp(rest)
+                compare_texts(key, rest)
             } else {
                 mark.cmp(first)
             }
         }
+    }
+}
+
+// The order of two texts. The first bytes tell most apart.
+fn compare_texts(text: &[u8], other: &[u8]) -> Ordering
+    ensures { result ≡ text_cmp text.now other.now }
+{
+    match (text, other) {
+        ([first, ..], [second, ..]) if first != second => first.cmp(second),
+        _ => text.cmp(other),
     }
 }
 
@@ -186,6 +196,33 @@ fn write_entry(bytes: &mut Vec<u8>, mark: u8, key: &[u8], value: &[u8]) -> Mem<(
     ensures ok { OnOk result (bytes.new.items ≡ bytes.old.items ++ packed ((mark ∷ key.now, value.now) ∷ [])) }
     ensures err { OnErr result (IsBegunBy bytes.old.items bytes.new.items) }
 {
+    if key.len() < 254 && value.len() < 255 {
+        write_short_entry(bytes, mark, key, value)
+    } else {
+        write_long_entry(bytes, mark, key, value)
+    }
+}
+
+// Writes an entry of which each length takes one byte, as those of most do.
+fn write_short_entry(bytes: &mut Vec<u8>, mark: u8, key: &[u8], value: &[u8]) -> Mem<()>
+    requires key { length key.now < 254 }
+    requires value { length value.now < 255 }
+    ensures ok { OnOk result (bytes.new.items ≡ bytes.old.items ++ packed ((mark ∷ key.now, value.now) ∷ [])) }
+    ensures err { OnErr result (IsBegunBy bytes.old.items bytes.new.items) }
+{
+    bytes.reserve(key.len() + value.len() + 3)?;
+    bytes.push_reserved((key.len() + 1) as u8);
+    bytes.push_reserved(mark);
+    bytes.extend_from_slice(key)?;
+    bytes.push_reserved(value.len() as u8);
+    bytes.extend_from_slice(value)?;
+    Ok(())
+}
+
+fn write_long_entry(bytes: &mut Vec<u8>, mark: u8, key: &[u8], value: &[u8]) -> Mem<()>
+    ensures ok { OnOk result (bytes.new.items ≡ bytes.old.items ++ packed ((mark ∷ key.now, value.now) ∷ [])) }
+    ensures err { OnErr result (IsBegunBy bytes.old.items bytes.new.items) }
+{
     push_length(bytes, key.len() + 1)?;
     bytes.push(mark)?;
     bytes.extend_from_slice(key)?;
@@ -222,19 +259,87 @@ fn write_with_rest(bytes: &mut Vec<u8>, end: usize, mark: u8, key: &[u8], value:
     Ok(())
 }
 
-// Takes the bytes from the start to the end out.
+// Takes the bytes from the start to the end out, if there are any.
 fn cut_out(bytes: &mut Vec<u8>, start: usize, end: usize)
     requires ordered { start ≤ end }
     requires in_range { end ≤ length bytes.old.items }
     ensures { bytes.new.items ≡ take start bytes.old.items ++ drop end bytes.old.items }
 {
-    let rest = bytes.len() - end;
-    bytes.copy_within(end.., start);
-    bytes.truncate(start + rest);
+    if start < end {
+        let rest = bytes.len() - end;
+        bytes.copy_within(end.., start);
+        bytes.truncate(start + rest);
+    }
 }
 
-// Puts an entry between the bytes before the start and those from the end on: it is written behind all, and what it takes the place
-// of is cut out.
+// Writes a text over so many bytes from a place on.
+fn write_at(bytes: &mut Vec<u8>, at: usize, text: &[u8])
+    requires { at + length text.now ≤ length bytes.old.items }
+    ensures { bytes.new.items ≡ take at bytes.old.items ++ (text.now ++ drop (at + length text.now) bytes.old.items) }
+{
+    bytes[at..at + text.len()].copy_from_slice(text);
+}
+
+// Puts an entry of which each length takes one byte in the place of the bytes from the start to the end, which are no fewer than it
+// takes. It takes no memory.
+fn put_within(bytes: &mut Vec<u8>, span: Span, mark: u8, key: &[u8], value: &[u8])
+    requires key { length key.now < 254 }
+    requires value { length value.now < 255 }
+    requires fits { span.start + length key.now + length value.now + 3 ≤ span.end }
+    requires in_range { span.end ≤ length bytes.old.items }
+    ensures { bytes.new.items ≡ take span.start bytes.old.items ++ (packed ((mark ∷ key.now, value.now) ∷ []) ++ drop span.end bytes.old.items) }
+{
+    let at_key = span.start + 2;
+    let at_value = at_key + key.len() + 1;
+    write_at(bytes, span.start, &[(key.len() + 1) as u8, mark]);
+    write_at(bytes, at_key, key);
+    write_at(bytes, at_key + key.len(), &[value.len() as u8]);
+    write_at(bytes, at_value, value);
+    cut_out(bytes, at_value + value.len(), span.end);
+}
+
+// Makes room for so many more bytes before those from the end on. What stands in that room is of no account.
+fn open_gap(bytes: &mut Vec<u8>, end: usize, more: usize) -> Mem<()>
+    requires in_range { end ≤ length bytes.old.items }
+    requires few { more ≤ 512 }
+    ensures front { OnOk result (take end bytes.new.items ≡ take end bytes.old.items) }
+    ensures rest { OnOk result (drop (end + more) bytes.new.items ≡ drop end bytes.old.items) }
+    ensures count { OnOk result (length bytes.new.items ≡ length bytes.old.items + more) }
+    ensures err { OnErr result (bytes.new.items ≡ bytes.old.items) }
+{
+    let len = bytes.len();
+    bytes.resize(len + more, 0)?;
+    bytes.copy_within(end..len, end + more);
+    Ok(())
+}
+
+// Puts an entry of which each length takes one byte in the place of the bytes from the start to the end: what stands behind them moves
+// once.
+fn put_short(bytes: &mut Vec<u8>, span: Span, mark: u8, key: &[u8], value: &[u8]) -> Mem<()>
+    requires key { length key.now < 254 }
+    requires value { length value.now < 255 }
+    requires ordered { span.start ≤ span.end }
+    requires in_range { span.end ≤ length bytes.old.items }
+    ensures ok { OnOk result (bytes.new.items ≡ take span.start bytes.old.items ++ (packed ((mark ∷ key.now, value.now) ∷ []) ++ drop span.end bytes.old.items)) }
+    ensures err { OnErr result (bytes.new.items ≡ bytes.old.items) }
+{
+    let end = span.start + key.len() + value.len() + 3;
+    if end <= span.end {
+        put_within(bytes, span, mark, key, value);
+        return Ok(());
+    }
+    open_gap(bytes, span.end, end - span.end)?;
+    let wider = Span {
+        start: span.start,
+        end,
+        is_there: span.is_there,
+    };
+    put_within(bytes, wider, mark, key, value);
+    Ok(())
+}
+
+// Puts an entry between the bytes before the start and those from the end on. A long one is written behind all, and what it takes the
+// place of is cut out.
 fn put_between(bytes: &mut Vec<u8>, span: Span, mark: u8, key: &[u8], value: &[u8]) -> Mem<()>
     requires ordered { span.start ≤ span.end }
     requires in_range { span.end ≤ length bytes.old.items }
@@ -242,13 +347,14 @@ fn put_between(bytes: &mut Vec<u8>, span: Span, mark: u8, key: &[u8], value: &[u
     ensures err { OnErr result (bytes.new.items ≡ bytes.old.items) }
 {
     let before = bytes.len();
+    if span.start < before && key.len() < 254 && value.len() < 255 {
+        return put_short(bytes, span, mark, key, value);
+    }
     let room = room_for(key.len(), value.len()).saturating_add(before - span.end);
     bytes.reserve(room_behind(before, room))?;
     match write_with_rest(bytes, span.end, mark, key, value) {
         Ok(()) => {
-            if span.start < before {
-                cut_out(bytes, span.start, before);
-            }
+            cut_out(bytes, span.start, before);
             Ok(())
         }
         Err(error) => {
@@ -378,11 +484,17 @@ impl Packed {
         }
     }
 
-    /// Gives back the memory that no entry takes.
-    pub(crate) fn shrink(&mut self)
-        ensures { self.new ≡ self.old }
+    /// Hands out the entries in memory of just their size, and forgets them. Its own memory stays for others.
+    pub(crate) fn take(&mut self) -> Mem<Self>
+        ensures taken { IfOk result (λ taken. taken ≡ self.old) }
+        ensures left { OnOk result (self.new ≡ map.empty) }
+        ensures err { OnErr result (self.new ≡ self.old) }
     {
-        self.bytes.shrink_to_fit();
+        let taken = self.copy()?;
+        self.count = 0;
+        self.last = 0;
+        self.bytes.clear();
+        Ok(taken)
     }
 
     /// The entries, in byte order of their keys.

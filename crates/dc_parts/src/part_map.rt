@@ -137,13 +137,24 @@ impl PartMap {
         }
     }
 
-    /// Gives back the memory that no entry takes.
-    pub fn shrink(&mut self)
-        ensures { self.new ≡ self.old }
+    /// Hands out the entries, and forgets them. Few of them are handed out in memory of just their size, and the memory in which
+    /// they stood stays for others.
+    pub fn take(&mut self, alloc: Global) -> Mem<PartMap>
+        ensures taken { IfOk result (λ taken. taken ≡ self.old) }
+        ensures left { OnOk result (self.new ≡ map.empty) }
+        ensures err { OnErr result (self.new ≡ self.old) }
     {
         match &mut self.kept {
-            Kept::Few(few) => few.shrink(),
-            Kept::Many(many) => many.shrink(),
+            Kept::Few(few) => {
+                let taken = few.take()?;
+                Ok(PartMap {
+                    kept: Kept::Few(taken),
+                })
+            }
+            Kept::Many(many) => {
+                many.shrink();
+                Ok(std::mem::replace(self, PartMap::new(alloc)))
+            }
         }
     }
 

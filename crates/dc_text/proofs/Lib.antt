@@ -4,5 +4,4 @@ pub mod LineLaws
 pub mod LineLemmas
 pub mod MapLemmas
 pub mod SettledLemmas
-pub mod SmallMapLemmas
 pub mod TextLines

@@ -4,6 +4,5 @@ pub mod Faults
 pub mod Lines
 pub mod Maps
 pub mod Names
-pub mod Places
 pub mod Settled
 pub mod Texts

@@ -201,7 +201,8 @@ impl VarKey {
     }
 }
 
-fn is_field_key(key: &[u8]) -> bool
+/// Whether the bytes are the key of a field, in lower case.
+pub fn is_field_key(key: &[u8]) -> bool
     ensures { result ≡ is_field_key_of key.now }
 {
     begins_with_letter(key) && has_length(key, 64) && has_key_bytes(key) && !is_reserved(key)
@@ -222,10 +223,15 @@ fn is_lower_letter(byte: u8) -> bool
     b'a' <= byte && byte <= b'z'
 }
 
+// Each byte is looked at, whatever came before it, so that many are at once.
 fn has_key_bytes(key: &[u8]) -> bool
     ensures { result ≡ list_all is_key_byte_of key.now }
 {
-    key.iter().all(|byte| is_key_byte(*byte))
+    let mut are = true;
+    for byte in key {
+        are &= is_key_byte(*byte);
+    }
+    are
 }
 
 fn is_key_byte(byte: u8) -> bool
@@ -233,9 +239,8 @@ fn is_key_byte(byte: u8) -> bool
 {
     is_lower_letter(byte)
         || (b'0' <= byte && byte <= b'9')
-        || byte == b'-'
+        || (b'-' <= byte && byte <= b'.')
         || byte == b'_'
-        || byte == b'.'
         || byte == b'@'
 }
 
@@ -243,10 +248,13 @@ fn is_key_byte(byte: u8) -> bool
 pub fn is_reserved(word: &[u8]) -> bool
     ensures { result ≡ is_reserved_of word.now }
 {
-    word == b"name".as_slice()
-        || word == b"owners".as_slice()
-        || word == b"flags".as_slice()
-        || word == b"variables".as_slice()
+    match word.len() {
+        4 => word == b"name".as_slice(),
+        5 => word == b"flags".as_slice(),
+        6 => word == b"owners".as_slice(),
+        9 => word == b"variables".as_slice(),
+        _ => false,
+    }
 }
 
 /// Whether the bytes are the name of a flag.

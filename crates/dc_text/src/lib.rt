@@ -10,7 +10,6 @@ pub mod memory;
 pub mod names;
 pub mod settling;
 mod short;
-pub mod small_maps;
 pub mod texts;
 
 pub use keys::{FieldKey, FlagName, VarKey};
@@ -19,5 +18,4 @@ pub use maps::TextMap;
 pub use memory::{Mem, OutOfMemory};
 pub use names::{Name, NameRefused};
 pub use settling::{Settled, settle, show_newlines};
-pub use small_maps::SmallMap;
 pub use texts::Text;

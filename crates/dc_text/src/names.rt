@@ -103,10 +103,15 @@ pub(crate) fn has_length(bytes: &[u8], most: usize) -> bool
     1 <= bytes.len() && bytes.len() <= most
 }
 
+// Each byte is looked at, whatever came before it, so that many are at once.
 pub(crate) fn has_name_bytes(bytes: &[u8]) -> bool
     ensures { result ≡ list_all is_name_byte_of bytes.now }
 {
-    bytes.iter().all(|byte| is_name_byte(*byte))
+    let mut are = true;
+    for byte in bytes {
+        are &= is_name_byte(*byte);
+    }
+    are
 }
 
 fn has_name_parts(bytes: &[u8]) -> bool
@@ -118,7 +123,7 @@ fn has_name_parts(bytes: &[u8]) -> bool
 fn is_name_part(part: &[u8]) -> bool
     ensures { result ≡ is_name_part_of part.now }
 {
-    !(part.is_empty() || part == b".".as_slice() || part == b"..".as_slice())
+    !matches!(part, [] | [b'.'] | [b'.', b'.'])
 }
 
 fn is_name_byte(byte: u8) -> bool

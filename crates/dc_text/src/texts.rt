@@ -132,10 +132,26 @@ impl Text {
         ensures ok { OnOk result (self.new ≡ self.old ++ byte ∷ []) }
         ensures err { OnErr result (self.new ≡ self.old) }
     {
-        self.append(&[byte])
+        if let Kept::InVector(long) = &mut self.kept {
+            long.push(byte)?;
+            return Ok(());
+        }
+        self.append_anywhere(&[byte])
     }
 
     pub fn append(&mut self, bytes: &[u8]) -> Mem<()>
+        ensures ok { OnOk result (self.new ≡ self.old ++ bytes.now) }
+        ensures err { OnErr result (self.new ≡ self.old) }
+    {
+        if let Kept::InVector(long) = &mut self.kept {
+            long.extend_from_slice(bytes)?;
+            return Ok(());
+        }
+        self.append_anywhere(bytes)
+    }
+
+    // Puts the bytes at the end, wherever those before them are.
+    fn append_anywhere(&mut self, bytes: &[u8]) -> Mem<()>
         ensures ok { OnOk result (self.new ≡ self.old ++ bytes.now) }
         ensures err { OnErr result (self.new ≡ self.old) }
     {

@@ -1,7 +1,7 @@
 use Rattle.std.proofs.Common.{◌∷◌, rules}
 use Rattle.std.proofs.lemmas.Fn.{always_returns_same}
 use Rattle.dc_text.specs.Maps.{text_cmp}
-use Rattle.dc_text.proofs.SmallMapLemmas.{searched}
+use Rattle.dc_parts.proofs.PlaceLemmas.{searched}
 use Rattle.dc_parts.proofs.many.search.Goals as goal
 
 pub returns : goal.returns

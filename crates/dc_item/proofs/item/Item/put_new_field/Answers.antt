@@ -11,18 +11,18 @@ pub invariant_of-self-2 : goal.invariant_of-self-2
 invariant_of-self-2 c =
     let is_new = c.in_ok-is_new.is_new in
     let put : c.insert_new.new.self ≡ cond is_new (map.insert c.self.inside.parts (fields_mark ∷ c.args.key.now) c.args.value.now) c.self.inside.parts
-    = c.in_ok-is_new.ensures.put ∙ (λ i. cond is_new (map.insert c.self.inside.parts (fields_mark ∷ c.bytes.ensures.value i) c.args.value.now) c.self.inside.parts) in
-    with_new_field is_new c.self.inside.parts c.insert_new.new.self c.args.key.now c.args.value.now c.self.invariant put c.bytes.ensures.key c.requires
+    = c.in_ok-is_new.ensures.put in
+    with_new_field is_new c.self.inside.parts c.insert_new.new.self c.args.key.now c.args.value.now c.self.invariant put c.requires.key c.requires.value
 
 pub returns-clause-new : goal.returns-clause-new
 returns-clause-new c =
     let key = c.args.key.now in
-    c.in_ok-is_new.ensures.new ∙ (λ i. not (map.contains_key c.self.inside.parts (fields_mark ∷ c.bytes.ensures.value i)))
+    c.in_ok-is_new.ensures.new
     ∙ ap (λ o. not (is_some o)) (sym (get-section fields_mark c.self.inside.parts key) ∙ ap (λ (p : ItemParts). map.get p.fields key) c.self.view_is)
 
 pub returns-clause-put : goal.returns-clause-put
 returns-clause-put c =
     let is_new = c.in_ok-is_new.is_new in
     let put : c.insert_new.new.self ≡ cond is_new (map.insert c.self.inside.parts (fields_mark ∷ c.args.key.now) c.args.value.now) c.self.inside.parts
-    = c.in_ok-is_new.ensures.put ∙ (λ i. cond is_new (map.insert c.self.inside.parts (fields_mark ∷ c.bytes.ensures.value i) c.args.value.now) c.self.inside.parts) in
+    = c.in_ok-is_new.ensures.put in
     put_new_field is_new c.self.inside.parts c.insert_new.new.self c.args.key.now c.args.value.now c.args.self.now c.self.view_is put

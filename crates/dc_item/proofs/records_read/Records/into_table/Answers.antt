@@ -5,7 +5,7 @@ use Rattle.dc_item.proofs.RecordsReadLemmas.{table-with_lines, keys_named}
 use Rattle.dc_item.proofs.records_read.Records.into_table.Goals as goal
 
 pub returns-clause-table : goal.returns-clause-table
-returns-clause-table c = c.of.ensures ∙ table-with_lines _ c.self.inside.lines.items c.self.invariant.as_many ∙ ap table_of c.self.view_is
+returns-clause-table c = c.of.ensures ∙ table-with_lines _ c.self.inside.lines.items c.self.invariant.0.as_many ∙ ap table_of c.self.view_is
 
 pub returns-clause-names : goal.returns-clause-names
-returns-clause-names c = λ name there. keys_named _ name c.self.invariant.named (ap (λ m. map.contains_key m name) (sym c.of.ensures) ∙ there)
+returns-clause-names c = λ name there. keys_named _ name c.self.invariant.0.named (ap (λ m. map.contains_key m name) (sym c.of.ensures) ∙ there)

@@ -1,7 +1,7 @@
 use Rattle.std.proofs.Common.{◌∷◌, sym, ap, ◌∙◌, Some}
 use Rattle.std.specs.FinMap as map
 use Rattle.dc_text.specs.Maps.{text_cmp}
-use Rattle.dc_text.proofs.SmallMapLemmas.{find_at, find_gap}
+use Rattle.dc_parts.proofs.PlaceLemmas.{find_at, find_gap}
 use Rattle.dc_parts.proofs.many.Many.get.Goals as goal
 
 pub returns-in-Ok : goal.returns-in-Ok

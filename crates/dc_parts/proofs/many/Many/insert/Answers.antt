@@ -1,8 +1,8 @@
 use Rattle.std.proofs.Common.{◌∷◌, ap, ◌∙◌}
 use Rattle.std.specs.List as holes
 use Rattle.std.specs.FinMap as map
-use Rattle.dc_text.proofs.SmallMapLemmas.{insert_gap, is_sorted_put, from_sorted_put}
 use Rattle.dc_parts.proofs.ManyLemmas.{set_pair}
+use Rattle.dc_parts.proofs.PlaceLemmas.{insert_gap, is_sorted_put, from_sorted_put}
 use Rattle.dc_parts.proofs.many.Many.insert.Goals as goal
 
 -- the key was there, and its pair is written over

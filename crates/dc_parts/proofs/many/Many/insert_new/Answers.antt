@@ -1,8 +1,8 @@
 use Rattle.std.proofs.Common.{◌∷◌, not, sym, ap, ◌∙◌}
 use Rattle.std.specs.List as holes
 use Rattle.std.specs.FinMap as map
-use Rattle.dc_text.proofs.SmallMapLemmas.{insert_gap, is_sorted_put, from_sorted_put}
 use Rattle.dc_parts.proofs.ManyLemmas.{has_at, has_no_gap}
+use Rattle.dc_parts.proofs.PlaceLemmas.{insert_gap, is_sorted_put, from_sorted_put}
 use Rattle.dc_parts.proofs.many.Many.insert_new.Goals as goal
 
 -- the key is there

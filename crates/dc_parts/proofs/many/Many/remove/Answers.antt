@@ -1,6 +1,6 @@
 use Rattle.std.proofs.Common.{◌∷◌, sym, ap, ◌∙◌}
 use Rattle.std.specs.FinMap as map
-use Rattle.dc_text.proofs.SmallMapLemmas.{remove_at, without_none, find_gap, is_sorted_without, from_sorted_without}
+use Rattle.dc_parts.proofs.PlaceLemmas.{remove_at, without_none, find_gap, is_sorted_without, from_sorted_without}
 use Rattle.dc_parts.proofs.many.Many.remove.Goals as goal
 
 pub invariant_of-self : goal.invariant_of-self

@@ -1,9 +1,9 @@
 use Rattle.std.proofs.Common.{refl, ◌∷◌, ap, ◌∙◌, arith, subst, sym}
 use Rattle.std.specs.FinMap as map
-use Rattle.dc_text.proofs.SmallMapLemmas.{is_sorted_put, from_sorted_put}
 use Rattle.dc_parts.specs.Packed.{entries_in, IsLast}
 use Rattle.dc_parts.proofs.LastLemmas.{put_last}
 use Rattle.dc_parts.proofs.PackedLemmas.{put_packed, count_fits}
+use Rattle.dc_parts.proofs.PlaceLemmas.{is_sorted_put, from_sorted_put}
 use Rattle.dc_parts.proofs.packed.Packed.insert.Goals as goal
 
 pub count_with-self-inside-requires : goal.count_with-self-inside-requires

@@ -1,9 +1,9 @@
 use Rattle.std.proofs.Common.{refl, ◌∷◌, not, false, ap, ◌∙◌, sym, arith, subst}
 use Rattle.std.specs.FinMap as map
-use Rattle.dc_text.proofs.SmallMapLemmas.{is_sorted_put, from_sorted_put}
 use Rattle.dc_parts.specs.Packed.{entries_in, IsLast}
 use Rattle.dc_parts.proofs.LastLemmas.{put_last}
 use Rattle.dc_parts.proofs.PackedLemmas.{put_packed, count_fits, there-place}
+use Rattle.dc_parts.proofs.PlaceLemmas.{is_sorted_put, from_sorted_put}
 use Rattle.dc_parts.proofs.packed.Packed.insert_new.Goals as goal
 
 -- the key is there

@@ -1,6 +1,6 @@
 use Rattle.std.proofs.Common.{refl}
-use Rattle.dc_text.proofs.SmallMapLemmas.{from_sorted_none}
 use Rattle.dc_parts.specs.Packed.{entries_in}
+use Rattle.dc_parts.proofs.PlaceLemmas.{from_sorted_none}
 use Rattle.dc_parts.proofs.packed.Packed.new.Goals as goal
 
 pub returns : goal.returns

@@ -1,9 +1,9 @@
 use Rattle.std.proofs.Common.{◌∷◌, refl, ap, ◌∙◌, sym, subst, arith}
 use Rattle.std.specs.FinMap as map
-use Rattle.dc_text.proofs.SmallMapLemmas.{is_sorted_without, from_sorted_without}
 use Rattle.dc_parts.specs.Packed.{entries_in, IsLast}
 use Rattle.dc_parts.proofs.LastLemmas.{cut_last}
 use Rattle.dc_parts.proofs.PackedLemmas.{cut_packed, without_missing}
+use Rattle.dc_parts.proofs.PlaceLemmas.{is_sorted_without, from_sorted_without}
 use Rattle.dc_parts.proofs.packed.Packed.remove.Goals as goal
 
 -- the key is there

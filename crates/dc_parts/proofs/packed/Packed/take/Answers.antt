@@ -1,0 +1,7 @@
+use Rattle.std.proofs.Common.{refl}
+use Rattle.dc_parts.specs.Packed.{entries_in}
+use Rattle.dc_parts.proofs.PlaceLemmas.{from_sorted_none}
+use Rattle.dc_parts.proofs.packed.Packed.take.Goals as goal
+
+pub returns-clause-left : goal.returns-clause-left
+returns-clause-left c = from_sorted_none (entries_in 0 c.clear.new.self.items) refl
