@@ -1,5 +1,5 @@
 // A run over a real folder.
-ghost use Rattle.std.specs.Prelude.{◌≡◌, ◌≤◌, [], length, IfSome, map as each};
+ghost use Rattle.std.specs.Prelude.{◌≡◌, ◌≤◌, [], length, map as each};
 ghost use Rattle.dc_conf.specs.declared.spec.LayerSort.TheVariants.{File as OneFile, Tree, Pack};
 ghost use Rattle.dc_layer.specs.State.{blank};
 ghost use Rattle.dc_shelf.specs.Shelves.{AreBlank};
@@ -12,6 +12,7 @@ use dc_run::{Settings, Shelf, run_words};
 use dc_text::{List, Text};
 use std::alloc::Global;
 use std::os::unix::fs::MetadataExt;
+use std::process::Abort;
 use std::{env, fs, io};
 
 // An empty folder of this process.
@@ -23,63 +24,63 @@ fn make_folder(rt: &HostRuntime, name: &str) -> io::Result<String> {
 }
 
 // The path of a name in the folder.
-fn inside(rt: &HostRuntime, folder: &str, name: &str) -> Option<String> {
-    format!(in rt.alloc(); "{folder}/{name}").ok()
+fn inside(rt: &impl Abort, alloc: Global, folder: &str, name: &str) -> String {
+    format!(in alloc; "{folder}/{name}").expect(rt, "memory")
 }
 
-// The same, as the files take it.
-fn text_inside(alloc: Global, folder: &str, name: &str) -> Option<Text> {
-    let mut path = Text::from_bytes(alloc, folder.as_bytes()).ok()?;
-    path.push(b'/').ok()?;
-    path.append(name.as_bytes()).ok()?;
-    Some(path)
+fn text(rt: &impl Abort, alloc: Global, bytes: &str) -> Text {
+    Text::from_bytes(alloc, bytes.as_bytes()).expect(rt, "memory")
 }
 
 // Writes a configuration of questions and templates in the folder.
-fn configure(rt: &HostRuntime, folder: &str) -> Option<()> {
-    let path = inside(rt, folder, "conf")?;
-    let conf = format!(in rt.alloc();
+fn configure(rt: &impl Abort, host: &HostRuntime, folder: &str) {
+    let path = inside(rt, host.alloc(), folder, "conf");
+    let conf = format!(in host.alloc();
         "Config: q\nTemplates: t\n\nName: q\nDriver: File\nFilename: {folder}/questions\n\nName: t\nDriver: File\nFilename: {folder}/templates\n"
-    ).ok()?;
-    fs::write(rt, path.as_str(), conf.as_str()).ok()?;
-    Some(())
+    ).expect(rt, "memory");
+    fs::write(host, path.as_str(), conf.as_str())
+        .ok()
+        .expect(rt, "done");
 }
 
 // A blank layer of each sort.
-fn blank_boxes(alloc: Global) -> Option<(Box<FileLayer>, Box<DirTreeLayer>, Box<PackageDirLayer>)>
-    ensures file { IfSome result (λ boxes. ⟦<FileLayer as Layer>⟧.state boxes.0.value ≡ blank OneFile) }
-    ensures tree { IfSome result (λ boxes. ⟦<DirTreeLayer as Layer>⟧.state boxes.1.value ≡ blank Tree) }
-    ensures pack { IfSome result (λ boxes. ⟦<PackageDirLayer as Layer>⟧.state boxes.2.value ≡ blank Pack) }
+fn blank_boxes(
+    rt: &impl Abort,
+    alloc: Global,
+) -> (Box<FileLayer>, Box<DirTreeLayer>, Box<PackageDirLayer>)
+    ensures file { ⟦<FileLayer as Layer>⟧.state result.0.value ≡ blank OneFile }
+    ensures tree { ⟦<DirTreeLayer as Layer>⟧.state result.1.value ≡ blank Tree }
+    ensures pack { ⟦<PackageDirLayer as Layer>⟧.state result.2.value ≡ blank Pack }
 {
-    let file = Box::new(alloc, FileLayer::blank(alloc)).ok()?;
-    let tree = Box::new(alloc, DirTreeLayer::blank(alloc)).ok()?;
-    let pack = Box::new(alloc, PackageDirLayer::blank(alloc)).ok()?;
-    Some((file, tree, pack))
+    let file = Box::new(alloc, FileLayer::blank(alloc)).expect(rt, "memory");
+    let tree = Box::new(alloc, DirTreeLayer::blank(alloc)).expect(rt, "memory");
+    let pack = Box::new(alloc, PackageDirLayer::blank(alloc)).expect(rt, "memory");
+    (file, tree, pack)
 }
 
 // A shelf of blank layers.
-fn blank_shelf(alloc: Global) -> Option<Shelf>
-    ensures files { IfSome result (λ shelf. AreBlank OneFile (each (λ b. state (b.vtable, b.value)) shelf.files.items)) }
-    ensures trees { IfSome result (λ shelf. AreBlank Tree (each (λ b. state (b.vtable, b.value)) shelf.trees.items)) }
-    ensures packs { IfSome result (λ shelf. AreBlank Pack (each (λ b. state (b.vtable, b.value)) shelf.packs.items)) }
-    ensures some_files { IfSome result (λ shelf. 16 ≤ length shelf.files.items) }
-    ensures some_trees { IfSome result (λ shelf. 16 ≤ length shelf.trees.items) }
-    ensures some_packs { IfSome result (λ shelf. 16 ≤ length shelf.packs.items) }
-    ensures used { IfSome result (λ shelf. shelf.used.items ≡ []) }
+fn blank_shelf(rt: &impl Abort, alloc: Global) -> Shelf
+    ensures files { AreBlank OneFile (each (λ b. state (b.vtable, b.value)) result.files.items) }
+    ensures trees { AreBlank Tree (each (λ b. state (b.vtable, b.value)) result.trees.items) }
+    ensures packs { AreBlank Pack (each (λ b. state (b.vtable, b.value)) result.packs.items) }
+    ensures some_files { 16 ≤ length result.files.items }
+    ensures some_trees { 16 ≤ length result.trees.items }
+    ensures some_packs { 16 ≤ length result.packs.items }
+    ensures used { result.used.items ≡ [] }
 {
     let mut shelf = Shelf::empty(alloc);
     while shelf.files.len() < 16 {
-        let (file, tree, pack) = blank_boxes(alloc)?;
-        shelf.take_each(file, tree, pack).ok()?;
+        let (file, tree, pack) = blank_boxes(rt, alloc);
+        shelf.take_each(file, tree, pack).expect(rt, "memory");
     }
-    Some(shelf)
+    shelf
 }
 
 // What `communicate` answers to the input over the configuration in the folder.
-fn answered(rt: &HostRuntime, folder: &str, input: &[u8]) -> Option<Text> {
-    let alloc = rt.alloc();
+fn answered(rt: &impl Abort, host: &HostRuntime, folder: &str, input: &[u8]) -> Text {
+    let alloc = host.alloc();
     let settings = Settings {
-        conf_path: text_inside(alloc, folder, "conf")?,
+        conf_path: text(rt, alloc, inside(rt, alloc, folder, "conf").as_str()),
         frontend: None,
         priority: None,
         lang: Text::new(alloc),
@@ -87,41 +88,45 @@ fn answered(rt: &HostRuntime, folder: &str, input: &[u8]) -> Option<Text> {
     };
     let mut words = List::new(alloc);
     words
-        .push(Text::from_bytes(alloc, b"communicate").ok()?)
-        .ok()?;
-    let mut io = MemLink::new(alloc, input, &[], &[]).ok()?;
-    let mut err = MemLink::new(alloc, b"", &[], &[]).ok()?;
-    let mut files = HostFiles::new(alloc, rt.clone().ok()?, List::new(alloc));
-    let mut shelf = blank_shelf(alloc)?;
-    let mut child = HostChild::new(alloc, rt);
+        .push(text(rt, alloc, "communicate"))
+        .expect(rt, "memory");
+    let mut io = MemLink::new(alloc, input, &[], &[]).expect(rt, "memory");
+    let mut err = MemLink::new(alloc, b"", &[], &[]).expect(rt, "memory");
+    let own = host.clone().expect(rt, "memory");
+    let mut files = HostFiles::new(alloc, own, List::new(alloc));
+    let mut shelf = blank_shelf(rt, alloc);
+    let mut child = HostChild::new(alloc, host);
     let _ = run_words(
         alloc, &words, &settings, &mut io, &mut err, &mut child, &mut files, &mut shelf,
     );
-    Some(io.sent().copy().ok()?)
+    io.sent().copy().expect(rt, "memory")
 }
 
 // The paths below the folder, a bar after each.
-fn paths_in(rt: &HostRuntime, folder: &str) -> Option<Text> {
-    let alloc = rt.alloc();
-    let mut files = HostFiles::new(alloc, rt.clone().ok()?, List::new(alloc));
-    let folder = Text::from_bytes(alloc, folder.as_bytes()).ok()?;
-    let paths = files.list(&folder).ok()?;
+fn paths_in(rt: &impl Abort, host: &HostRuntime, folder: &str) -> Text {
+    let alloc = host.alloc();
+    let own = host.clone().expect(rt, "memory");
+    let mut files = HostFiles::new(alloc, own, List::new(alloc));
     let mut shown = Text::new(alloc);
-    for path in paths.as_slice() {
-        shown.append(path.bytes()).ok()?;
-        shown.push(b'|').ok()?;
+    for path in files
+        .list(&text(rt, alloc, folder))
+        .expect(rt, "a list")
+        .as_slice()
+    {
+        shown.append(path.bytes()).expect(rt, "memory");
+        shown.push(b'|').expect(rt, "memory");
     }
-    Some(shown)
+    shown
 }
 
 #[test]
 fn a_run_saves_its_questions(rt: HostRuntime) {
     let folder = make_folder(&rt, "run").ok().expect(&rt, "done");
-    let path = inside(&rt, &folder, "questions").expect(&rt, "done");
-    configure(&rt, folder.as_str()).expect(&rt, "done");
+    let path = inside(&rt, rt.alloc(), &folder, "questions");
+    configure(&rt, &rt, folder.as_str());
     let old = "Name: a/b\nValue: old\n";
     fs::write(&rt, path.as_str(), old).ok().expect(&rt, "done");
-    let said = answered(&rt, &folder, b"SET a/b new\n").expect(&rt, "done");
+    let said = answered(&rt, &rt, &folder, b"SET a/b new\n");
     assert_eq!(rt; said.bytes(), b"0 value set\n".as_slice());
     let saved = fs::read_to_string(&rt, path.as_str()).ok();
     assert_eq!(rt;
@@ -133,7 +138,7 @@ fn a_run_saves_its_questions(rt: HostRuntime) {
         .expect(&rt, "done")
         .mode();
     assert_eq!(rt; mode & 0o7777, 0o600);
-    let left = paths_in(&rt, folder.as_str()).expect(&rt, "done");
+    let left = paths_in(&rt, &rt, folder.as_str());
     assert_eq!(rt;
         left.bytes(),
         b"conf|questions|questions-old|".as_slice(),

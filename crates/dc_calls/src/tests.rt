@@ -12,95 +12,108 @@ use dc_store::Store;
 use dc_template::{print_templates, read_templates};
 use dc_text::{FieldKey, List, Text};
 use std::alloc::Global;
+use std::process::Abort;
 
-fn text(alloc: Global, bytes: &str) -> Option<Text> {
-    Text::from_bytes(alloc, bytes.as_bytes()).ok()
+fn text(rt: &impl Abort, alloc: Global, bytes: &str) -> Text {
+    Text::from_bytes(alloc, bytes.as_bytes()).expect(rt, "memory")
 }
 
 const TEMPLATES: &str =
     "\n# first\ntemplate: a \n#\nDescription-de: \u{e4}: \n\tx \n# y\n z\nTYPE:note\nDescription:\n .\n \t\n\nTemplate: b\nType: select\nChoices: ${c}";
 
 // The templates as they are printed, and the words of their kinds.
-fn printed(alloc: Global) -> Option<Text> {
-    let list = read_templates(alloc, TEMPLATES.as_bytes()).ok()?;
-    let mut shown = print_templates(alloc, &list).ok()?;
+fn printed(rt: &impl Abort, alloc: Global) -> Text {
+    let list = read_templates(alloc, TEMPLATES.as_bytes()).expect(rt, "templates");
+    let mut shown = print_templates(alloc, &list).expect(rt, "memory");
     for template in list.as_slice() {
-        shown.append(template.kind().word()).ok()?;
-        shown.push(b'|').ok()?;
+        shown.append(template.kind().word()).expect(rt, "memory");
+        shown.push(b'|').expect(rt, "memory");
     }
-    Some(shown)
+    shown
 }
 
 // The value of the item that a put makes where none is. An owner makes none there.
-fn made_of_none(alloc: Global) -> Option<Text> {
-    let records = read_records(alloc, b"Name: a\nValue: x\n").ok()?;
-    let entry = records.into_list(alloc).ok()?.pop()?;
-    let After::Changed(item) = Op::Put(entry.item).at(None).ok()? else {
-        return None;
-    };
-    let After::Same = Op::AddOwner(entry.name).at(None).ok()? else {
-        return None;
-    };
-    Text::from_bytes(alloc, item.field(b"value")?).ok()
+fn made_of_none(rt: &impl Abort, alloc: Global) -> Text {
+    let records = read_records(alloc, b"Name: a\nValue: x\n").expect(rt, "records");
+    let mut list = records.into_list(alloc).expect(rt, "memory");
+    let entry = list.pop().expect(rt, "a record");
+    let owned = Op::AddOwner(entry.name).at(None).expect(rt, "memory");
+    assert!(rt; matches!(owned, After::Same));
+    match Op::Put(entry.item).at(None).expect(rt, "memory") {
+        After::Changed(item) => {
+            let value = item.field(b"value").expect(rt, "a value");
+            Text::from_bytes(alloc, value).expect(rt, "memory")
+        }
+        _ => panic!(rt; "no item"),
+    }
 }
 
 const CONF: &[u8] =
     b"Config: s\nTemplates: templates\n\nName: config\nDriver: File\nFilename: c\n\nName: passwords\nDriver: File\nFilename: p\n\nName: s\nDriver: Stack\nStack: passwords, config\n\nName: templates\nDriver: File\nFilename: t\n";
 
 // The databases that are reached, and the place of each root.
-fn shown(alloc: Global, resolved: &Resolved) -> Option<Text> {
+fn shown(rt: &impl Abort, alloc: Global, resolved: &Resolved) -> Text {
     let mut shown = Text::new(alloc);
     for spec in resolved.specs.as_slice() {
-        shown.append(spec.name.bytes()).ok()?;
-        shown.push(b' ').ok()?;
+        shown.append(spec.name.bytes()).expect(rt, "memory");
+        shown.push(b' ').expect(rt, "memory");
     }
     for plan in resolved.plans.as_slice() {
-        let Base::Leaf(place) = &plan.base else {
-            return None;
-        };
-        let place = format!(in alloc; "{place}|").ok()?;
-        shown.append(place.as_bytes()).ok()?;
+        match &plan.base {
+            Base::Leaf(place) => {
+                let place = format!(in alloc; "{place}|").expect(rt, "memory");
+                shown.append(place.as_bytes()).expect(rt, "memory");
+            }
+            _ => panic!(rt; "no leaf"),
+        }
     }
-    Some(shown)
+    shown
 }
 
-fn resolved(alloc: Global, words: &[&str]) -> Option<Text> {
-    let conf = read_conf(alloc, CONF).ok()?;
+fn resolved(rt: &impl Abort, alloc: Global, words: &[&str]) -> Text {
+    let conf = read_conf(alloc, CONF).expect(rt, "a configuration");
     let mut roots = List::new(alloc);
     for word in words {
-        roots.push(text(alloc, word)?).ok()?;
+        roots.push(text(rt, alloc, word)).expect(rt, "memory");
     }
     match conf.resolve(alloc, &roots) {
-        Ok(resolved) => shown(alloc, &resolved),
-        Err(ResolveError::Unknown { root: 1 }) => text(alloc, "unknown"),
-        Err(_) => None,
+        Ok(resolved) => shown(rt, alloc, &resolved),
+        Err(ResolveError::Unknown { root: 1 }) => text(rt, alloc, "unknown"),
+        Err(_) => panic!(rt; "refused"),
     }
 }
 
 #[test]
 fn values_are_made(rt: HostRuntime) {
-    let alloc = rt.alloc();
     for (found, expected) in [
         (
-            printed(alloc),
+            printed(&rt, rt.alloc()),
             "Template: a\nType: note\nDescription:\n .\nDescription-de: \u{e4}:\n x z\n\nTemplate: b\nType: select\nChoices: ${c}\n\nnote|select|",
         ),
-        (made_of_none(alloc), "x"),
+        (made_of_none(&rt, rt.alloc()), "x"),
         (
-            resolved(alloc, &["templates", "config", "templates"]),
+            resolved(&rt, rt.alloc(), &["templates", "config", "templates"]),
             "config templates 1|0|1|",
         ),
-        (resolved(alloc, &["passwords"]), "passwords 0|"),
-        (resolved(alloc, &["config", "Config", "x"]), "unknown"),
+        (resolved(&rt, rt.alloc(), &["passwords"]), "passwords 0|"),
+        (
+            resolved(&rt, rt.alloc(), &["config", "Config", "x"]),
+            "unknown",
+        ),
     ] {
-        let found = found.expect(&rt, "memory");
         assert_eq!(rt; found.bytes(), expected.as_bytes(), "{expected:?}");
     }
 }
 
-fn is_found(alloc: Global, pattern: &str, ignore_case: bool, bytes: &[u8]) -> Option<bool> {
-    let pattern = Pattern::build(alloc, pattern.as_bytes(), ignore_case).ok()?;
-    pattern.found(alloc, bytes).ok()
+fn is_found(
+    rt: &impl Abort,
+    alloc: Global,
+    pattern: &str,
+    ignore_case: bool,
+    bytes: &[u8],
+) -> bool {
+    let pattern = Pattern::build(alloc, pattern.as_bytes(), ignore_case).expect(rt, "a pattern");
+    pattern.found(alloc, bytes).expect(rt, "memory")
 }
 
 #[test]
@@ -113,64 +126,65 @@ fn patterns_are_found(rt: HostRuntime) {
         ("b", true, b"\xff\x00b".as_slice(), true),
         ("[b]", true, b"\xff\x00b".as_slice(), true),
     ] {
-        let found = is_found(rt.alloc(), pattern, ignore_case, bytes);
-        assert_eq!(rt; found, Some(answer), "{pattern:?}");
+        let found = is_found(&rt, rt.alloc(), pattern, ignore_case, bytes);
+        assert_eq!(rt; found, answer, "{pattern:?}");
     }
 }
 
-fn make_files(alloc: Global, paths: &[&str]) -> Option<MemFiles> {
+fn make_files(rt: &impl Abort, alloc: Global, paths: &[&str]) -> MemFiles {
     let mut entries = Vec::new(alloc);
     for path in paths {
-        entries.push((text(alloc, path)?, Text::new(alloc))).ok()?;
+        let entry = (text(rt, alloc, path), Text::new(alloc));
+        entries.push(entry).expect(rt, "memory");
     }
-    MemFiles::new(alloc, &entries, &[]).ok()
+    MemFiles::new(alloc, &entries, &[]).expect(rt, "memory")
 }
 
 // The paths in the folder, a bar after each.
-fn paths_in(alloc: Global, files: &mut MemFiles, folder: &str) -> Option<Text> {
-    let folder = text(alloc, folder)?;
+fn paths_in(rt: &impl Abort, alloc: Global, files: &mut MemFiles, folder: &str) -> Text {
+    let folder = text(rt, alloc, folder);
     let mut shown = Text::new(alloc);
-    for path in files.list(&folder).ok()?.as_slice() {
-        shown.append(path.bytes()).ok()?;
-        shown.push(b'|').ok()?;
+    for path in files.list(&folder).expect(rt, "a list").as_slice() {
+        shown.append(path.bytes()).expect(rt, "memory");
+        shown.push(b'|').expect(rt, "memory");
     }
-    Some(shown)
+    shown
 }
 
 // Saves an image without a text.
-fn remove(alloc: Global, files: &mut MemFiles, path: &str) -> Option<()> {
+fn remove(rt: &impl Abort, alloc: Global, files: &mut MemFiles, path: &str) {
     let mut images = List::new(alloc);
     let image = Image {
-        path: text(alloc, path)?,
+        path: text(rt, alloc, path),
         mode: 0o600,
         bytes: None,
         old: None,
     };
-    images.push(image).ok()?;
+    images.push(image).expect(rt, "memory");
     let mut layers = List::new(alloc);
-    layers.push(images).ok()?;
-    save_images(alloc, files, &layers).ok()
+    layers.push(images).expect(rt, "memory");
+    save_images(alloc, files, &layers).ok().expect(rt, "a save");
 }
 
 #[test]
 fn files_are_listed_and_removed(rt: HostRuntime) {
-    let alloc = rt.alloc();
     let paths = ["d/b", "d", "da/x", "d/a/c", "d/a.x"];
-    let mut files = make_files(alloc, &paths).expect(&rt, "memory");
+    let mut files = make_files(&rt, rt.alloc(), &paths);
     for (folder, paths) in [("d", "a.x|a/c|b|"), ("d/a", "c|"), ("x", "")] {
-        let found = paths_in(alloc, &mut files, folder).expect(&rt, "memory");
+        let found = paths_in(&rt, rt.alloc(), &mut files, folder);
         assert_eq!(rt; found.bytes(), paths.as_bytes(), "{folder:?}");
     }
-    remove(alloc, &mut files, "d/b").expect(&rt, "memory");
-    let found = paths_in(alloc, &mut files, "d").expect(&rt, "memory");
+    remove(&rt, rt.alloc(), &mut files, "d/b");
+    let found = paths_in(&rt, rt.alloc(), &mut files, "d");
     assert_eq!(rt; found.bytes(), b"a.x|a/c|".as_slice());
 }
 
 #[test]
 fn a_program_is_read_to_its_end_and_waited_for(rt: HostRuntime) {
-    let word = text(rt.alloc(), "config").expect(&rt, "memory");
     let mut words = List::new(rt.alloc());
-    words.push(word).expect(&rt, "memory");
+    words
+        .push(text(&rt, rt.alloc(), "config"))
+        .expect(&rt, "memory");
     let mut child = MemChild::new(rt.alloc(), b"a", &[], &[3, 5], 3).expect(&rt, "memory");
     assert_eq!(rt; child.start(&words), Ok(()));
     let mut buf = [0u8; 4];
@@ -183,7 +197,7 @@ fn a_program_is_read_to_its_end_and_waited_for(rt: HostRuntime) {
 }
 
 // A layer in a file, without items.
-fn layer(alloc: Global) -> Option<FileLayer> {
+fn layer(rt: &impl Abort, alloc: Global) -> FileLayer {
     let mut layer = FileLayer::blank(alloc);
     let spec = LayerSpec {
         name: Text::new(alloc),
@@ -199,29 +213,30 @@ fn layer(alloc: Global) -> Option<FileLayer> {
         accept_type: None,
         reject_type: None,
     };
-    layer.set_up(spec).ok()?;
-    Some(layer)
+    layer.set_up(spec).expect(rt, "patterns");
+    layer
 }
 
 // Puts in the item of a record.
-fn put(alloc: Global, store: &mut Store, plan: &Plan, record: &[u8]) -> Option<()>
+fn put(rt: &impl Abort, alloc: Global, store: &mut Store, plan: &Plan, record: &[u8])
     requires { IsOver plan.now (length store.old.layers.items) }
     ensures { IsOver plan.now (length store.new.layers.items) }
 {
-    let records = read_records(alloc, record).ok()?;
+    let records = read_records(alloc, record).expect(rt, "records");
+    let mut list = records.into_list(alloc).expect(rt, "memory");
     let Entry {
         name,
         item,
         line: _,
-    } = records.into_list(alloc).ok()?.pop()?;
+    } = list.pop().expect(rt, "a record");
     let op = Op::Put(item);
-    store.change(plan, &name, None, &op).ok()
+    store.change(plan, &name, None, &op).expect(rt, "a change");
 }
 
 #[test]
 fn a_store_tells_and_its_question_has_a_field(rt: HostRuntime) {
     let alloc = rt.alloc();
-    let layer = layer(alloc).expect(&rt, "memory");
+    let layer = layer(&rt, rt.alloc());
     let layer: Box<dyn Layer> = Box::new(alloc, layer).expect(&rt, "memory");
     let mut layers: Vec<Box<dyn Layer>> = Vec::new(alloc);
     layers.push(layer).expect(&rt, "memory");
@@ -232,8 +247,14 @@ fn a_store_tells_and_its_question_has_a_field(rt: HostRuntime) {
         debug: true,
     };
     let template = b"Name: t\nDescription: Pick ${more}\n".as_slice();
-    put(alloc, &mut store, &plan, template).expect(&rt, "memory");
-    put(alloc, &mut store, &plan, b"Name: q\nTemplate: t\n").expect(&rt, "memory");
+    put(&rt, rt.alloc(), &mut store, &plan, template);
+    put(
+        &rt,
+        rt.alloc(),
+        &mut store,
+        &plan,
+        b"Name: q\nTemplate: t\n",
+    );
     let told = store.take_told();
     assert_eq!(rt; told.bytes(), b"debug: put t\ndebug: put q\n".as_slice());
     let names = store.names(&plan).expect(&rt, "memory");
