@@ -1,5 +1,5 @@
 -- Lines that are neither blank nor a Name line go to the record that is open.
-use Rattle.std.proofs.Common.{◌≡◌, ℕ, Bool, true, false, cond, List, Some, None, Option, refl, subst, sym, ap, ◌∙◌}
+use Rattle.std.proofs.Common.{◌≡◌, ℕ, Bool, true, false, cond, List, ◌++◌, Some, None, Option, refl, subst, sym, ap, ◌∙◌}
 use Rattle.std.specs.Prelude.{codes, ◌==◌}
 use Rattle.std.specs.List.{list_all, list_any, before_first, after_first}
 use Rattle.std.specs.Option.{option_map_or}
@@ -9,7 +9,10 @@ use Rattle.dc_text.specs.Bytes.{is_blank as are_blank, is_indented, trimmed, wit
 use Rattle.dc_text.specs.Names.{is_name, is_field_key, is_flag_name, is_variable_key}
 use Rattle.dc_text.specs.Settled.{settled}
 use Rattle.dc_item.specs.Grammar.{pieces, line_said, headed_line, indented_line, name_line, owners_line, flags_line, variables_line, field_line, variable_line}
+use Rattle.dc_item.specs.Heads.{front_of, head_said}
 use Rattle.dc_item.specs.Reader.{added, step, with_current}
+use Rattle.dc_item.specs.declared.reading.Head.{Head}
+use Rattle.dc_item.specs.declared.reading.Head.TheVariants as head
 use Rattle.dc_item.specs.declared.record_line.RecordLine.{RecordLine}
 use Rattle.dc_item.specs.declared.record_line.RecordLine.TheVariants.{Owners, Flags, Variables, Variable, Field, Nothing}
 use Rattle.dc_item.specs.declared.reader.Open.{Open}
@@ -70,3 +73,17 @@ indented_goes_on r n line unblank indented =
     ap (step r n) (indented_said line unblank indented)
     ∙ either_goes_on (list_any (λ byte. byte == equals_sign) line) (variable_line (trimmed (before_first (λ byte. byte == equals_sign) line)) (after_first (λ byte. byte == equals_sign) line)) Nothing
     (variable_goes_on (trimmed (before_first (λ byte. byte == equals_sign) line)) (after_first (λ byte. byte == equals_sign) line)) nothing_goes_on r n
+
+-- ---- a line with a usual head
+
+pub usual_said : (h : Head) (rest : List ℕ) → line_said (front_of h ++ rest) ≡ head_said h rest
+usual_said head.Name rest = refl
+usual_said head.Owners rest = refl
+usual_said head.Flags rest = refl
+usual_said head.Variables rest = refl
+usual_said head.TypeField rest = refl
+usual_said head.ValueField rest = refl
+usual_said head.DefaultField rest = refl
+usual_said head.TemplateField rest = refl
+usual_said head.DescriptionField rest = refl
+usual_said head.ExtendedField rest = refl

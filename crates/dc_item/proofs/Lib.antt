@@ -7,6 +7,7 @@ pub mod ItemLemmas
 pub mod OpenRecord
 pub mod PartLemmas
 pub mod PieceLemmas
+pub mod PlainLines
 pub mod PrintedBytes
 pub mod PrintedLines
 pub mod PrintedText

@@ -1,6 +1,8 @@
 pub mod After
 pub mod Grammar
+pub mod Heads
 pub mod Item
+pub mod Plain
 pub mod Printed
 pub mod Reader
 pub mod Records

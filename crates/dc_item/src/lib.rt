@@ -15,6 +15,7 @@ mod record_line;
 pub mod records;
 pub mod records_read;
 mod same;
+mod table_key;
 pub mod text_table;
 
 pub use effect::Effect;

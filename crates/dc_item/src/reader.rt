@@ -9,9 +9,11 @@ ghost use Rattle.dc_text.specs.Names.{is_name as is_name_of, is_flag_name as is_
 ghost use Rattle.dc_text.specs.Settled.{settled};
 ghost use Rattle.dc_item.specs.Item.{no_parts};
 ghost use Rattle.dc_item.specs.Grammar.{line_said, pieces, headed_line, indented_line, name_line, owners_line, flags_line, variables_line, field_line, variable_line};
+ghost use Rattle.dc_item.specs.Heads.{head_said};
+ghost use Rattle.dc_item.specs.Plain.{PlainIf};
 
 use crate::item::Item;
-use crate::reading::{flags_in, is_word, names_in, usual_key};
+use crate::reading::{Head, flags_in, is_word, names_in, usual_head};
 use crate::record_line::RecordLine;
 use crate::records_read::Records;
 use dc_text::bytes::{is_blank, is_indented, split_at_byte, trim, without_space};
@@ -52,15 +54,33 @@ impl Open {
         }
     }
 
+    // Takes a line with this head, and answers whether it stands.
+    fn add_usual(&mut self, alloc: Global, head: Head, rest: &[u8], is_plain: bool) -> Mem<bool>
+        requires is_open { IsOpen self.old }
+        requires plain { PlainIf is_plain rest.now }
+        ensures { IfOk result (λ stands. added self.old (head_said head rest.now) ≡ (if stands then Some self.new else None)) }
+    {
+        match head {
+            Head::Name => Ok(false),
+            Head::Owners => self.add_owners(alloc, rest),
+            Head::Flags => self.add_flags(alloc, rest),
+            Head::Variables => Ok(self.begin_variables(rest)),
+            Head::TypeField => self.add_keyed(alloc, b"type", rest, is_plain),
+            Head::ValueField => self.add_keyed(alloc, b"value", rest, is_plain),
+            Head::DefaultField => self.add_keyed(alloc, b"default", rest, is_plain),
+            Head::TemplateField => self.add_keyed(alloc, b"template", rest, is_plain),
+            Head::DescriptionField => self.add_keyed(alloc, b"description", rest, is_plain),
+            Head::ExtendedField => self.add_keyed(alloc, b"extended_description", rest, is_plain),
+        }
+    }
+
     // Takes a line with this word before its colon, other than a Name line, and answers whether it stands.
-    fn add_headed(&mut self, alloc: Global, word: &[u8], rest: &[u8]) -> Mem<bool>
+    fn add_headed(&mut self, alloc: Global, word: &[u8], rest: &[u8], is_plain: bool) -> Mem<bool>
         requires further { bytes_eq (each lower word.now) (codes "name") ≡ false }
         requires is_open { IsOpen self.old }
+        requires plain { PlainIf is_plain rest.now }
         ensures { IfOk result (λ stands. added self.old (headed_line (each lower word.now) rest.now) ≡ (if stands then Some self.new else None)) }
     {
-        if let Some(key) = usual_key(word) {
-            return self.add_keyed(alloc, key, rest);
-        }
         if is_word(word, b"owners") {
             self.add_owners(alloc, rest)
         } else if is_word(word, b"flags") {
@@ -68,7 +88,7 @@ impl Open {
         } else if is_word(word, b"variables") {
             Ok(self.begin_variables(rest))
         } else {
-            self.add_field(alloc, word, rest)
+            self.add_field(alloc, word, rest, is_plain)
         }
     }
 
@@ -113,22 +133,24 @@ impl Open {
         true
     }
 
-    fn add_field(&mut self, alloc: Global, word: &[u8], rest: &[u8]) -> Mem<bool>
+    fn add_field(&mut self, alloc: Global, word: &[u8], rest: &[u8], is_plain: bool) -> Mem<bool>
+        requires { PlainIf is_plain rest.now }
         ensures { IfOk result (λ stands. added self.old (field_line (each lower word.now) rest.now) ≡ (if stands then Some self.new else None)) }
     {
         match FieldKey::read(alloc, word) {
-            Ok(key) => self.add_keyed(alloc, key.bytes(), rest),
+            Ok(key) => self.add_keyed(alloc, key.bytes(), rest, is_plain),
             Err(NameRefused::Bad) => Ok(false),
             Err(NameRefused::OutOfMemory) => Err(OutOfMemory),
         }
     }
 
     // Takes a line of the field with this key, and answers whether it stands.
-    fn add_keyed(&mut self, alloc: Global, key: &[u8], rest: &[u8]) -> Mem<bool>
-        requires { is_field_key_of key.now ≡ true }
+    fn add_keyed(&mut self, alloc: Global, key: &[u8], rest: &[u8], is_plain: bool) -> Mem<bool>
+        requires key { is_field_key_of key.now ≡ true }
+        requires plain { PlainIf is_plain rest.now }
         ensures { IfOk result (λ stands. added self.old (field_line key.now rest.now) ≡ (if stands then Some self.new else None)) }
     {
-        if !put_field(&mut self.item, alloc, key, without_space(rest))? {
+        if !put_field(&mut self.item, alloc, key, without_space(rest), is_plain)? {
             return Ok(false);
         }
         self.in_variables = false;
@@ -136,23 +158,25 @@ impl Open {
     }
 
     // Takes a line that is indented, and answers whether it stands.
-    fn add_indented(&mut self, alloc: Global, line: &[u8]) -> Mem<bool>
+    fn add_indented(&mut self, alloc: Global, line: &[u8], is_plain: bool) -> Mem<bool>
+        requires { PlainIf is_plain line.now }
         ensures { IfOk result (λ stands. added self.old (indented_line line.now) ≡ (if stands then Some self.new else None)) }
     {
         match split_at_byte(line, b'=') {
             None => Ok(false),
-            Some((key, rest)) => self.add_variable(alloc, trim(key), rest),
+            Some((key, rest)) => self.add_variable(alloc, trim(key), rest, is_plain),
         }
     }
 
-    fn add_variable(&mut self, alloc: Global, key: &[u8], rest: &[u8]) -> Mem<bool>
+    fn add_variable(&mut self, alloc: Global, key: &[u8], rest: &[u8], is_plain: bool) -> Mem<bool>
+        requires { PlainIf is_plain rest.now }
         ensures { IfOk result (λ stands. added self.old (variable_line key.now rest.now) ≡ (if stands then Some self.new else None)) }
     {
         if !self.in_variables {
             return Ok(false);
         }
         match VarKey::read(alloc, key) {
-            Ok(key) => put_variable(&mut self.item, alloc, &key, without_space(rest)),
+            Ok(key) => put_variable(&mut self.item, alloc, &key, without_space(rest), is_plain),
             Err(NameRefused::Bad) => Ok(false),
             Err(NameRefused::OutOfMemory) => Err(OutOfMemory),
         }
@@ -205,26 +229,34 @@ fn put_flags(item: &mut Item, alloc: Global, text: &[u8]) -> Mem<bool>
 
 // Puts the field, its value settled, if the item has none with its key, and answers whether it had none. Most values have no
 // backslash, and are settled as they stand.
-fn put_field(item: &mut Item, alloc: Global, key: &[u8], value: &[u8]) -> Mem<bool>
-    requires { is_field_key_of key.now ≡ true }
+fn put_field(item: &mut Item, alloc: Global, key: &[u8], value: &[u8], is_plain: bool) -> Mem<bool>
+    requires key { is_field_key_of key.now ≡ true }
+    requires plain { PlainIf is_plain value.now }
     ensures new { IfOk result (λ is_new. is_new ≡ not (map.contains_key item.old.fields key.now)) }
     ensures put { IfOk result (λ is_new. item.new ≡ (if is_new then record item.old { fields = map.insert item.old.fields key.now (settled value.now) } else item.old)) }
 {
-    match split_at_byte(value, b'\\') {
-        None => item.put_new_field(key, value),
-        Some(_) => item.put_new_field(key, settle(alloc, value)?.bytes()),
+    if is_plain {
+        return item.put_new_field(key, value);
     }
+    item.put_new_field(key, settle(alloc, value)?.bytes())
 }
 
 // Puts the variable, its value settled, if the item has none with its key, and answers whether it had none.
-fn put_variable(item: &mut Item, alloc: Global, key: &VarKey, value: &[u8]) -> Mem<bool>
+fn put_variable(
+    item: &mut Item,
+    alloc: Global,
+    key: &VarKey,
+    value: &[u8],
+    is_plain: bool,
+) -> Mem<bool>
+    requires { PlainIf is_plain value.now }
     ensures new { IfOk result (λ is_new. is_new ≡ not (map.contains_key item.old.variables key.now)) }
     ensures put { IfOk result (λ is_new. item.new ≡ (if is_new then record item.old { variables = map.insert item.old.variables key.now (settled value.now) } else item.old)) }
 {
-    match split_at_byte(value, b'\\') {
-        None => item.put_new_variable(key, value),
-        Some(_) => item.put_new_variable(key, settle(alloc, value)?.bytes()),
+    if is_plain {
+        return item.put_new_variable(key, value);
     }
+    item.put_new_variable(key, settle(alloc, value)?.bytes())
 }
 
 /// The records of the lines that were read.
@@ -247,9 +279,41 @@ impl Reader {
         }
     }
 
-    /// Takes the next line, which has this number, and answers whether it stands.
-    pub fn take(&mut self, alloc: Global, number: u64, line: &[u8]) -> Mem<bool>
-        requires { IsReading self.old }
+    /// Takes the next line, which has this number, and answers whether it stands. A plain line has no backslash.
+    pub fn take(&mut self, alloc: Global, number: u64, line: &[u8], is_plain: bool) -> Mem<bool>
+        requires is_reading { IsReading self.old }
+        requires plain { PlainIf is_plain line.now }
+        ensures { IfOk result (λ stands. step self.old number (line_said line.now) ≡ (if stands then Some self.new else None)) }
+    {
+        match usual_head(line) {
+            Some((head, rest)) => self.take_usual(alloc, number, head, rest, is_plain),
+            None => self.take_other(alloc, number, line, is_plain),
+        }
+    }
+
+    // Takes a line with this head.
+    fn take_usual(
+        &mut self,
+        alloc: Global,
+        number: u64,
+        head: Head,
+        rest: &[u8],
+        is_plain: bool,
+    ) -> Mem<bool>
+        requires is_reading { IsReading self.old }
+        requires plain { PlainIf is_plain rest.now }
+        ensures { IfOk result (λ stands. step self.old number (head_said head rest.now) ≡ (if stands then Some self.new else None)) }
+    {
+        match head {
+            Head::Name => self.take_name(alloc, number, rest),
+            _ => self.add_usual(alloc, head, rest, is_plain),
+        }
+    }
+
+    // Takes a line whatever it begins with.
+    fn take_other(&mut self, alloc: Global, number: u64, line: &[u8], is_plain: bool) -> Mem<bool>
+        requires is_reading { IsReading self.old }
+        requires plain { PlainIf is_plain line.now }
         ensures { IfOk result (λ stands. step self.old number (line_said line.now) ≡ (if stands then Some self.new else None)) }
     {
         if is_blank(line) {
@@ -257,22 +321,30 @@ impl Reader {
             return Ok(true);
         }
         if is_indented(line) {
-            return self.add_indented(alloc, line);
+            return self.add_indented(alloc, line, is_plain);
         }
         match split_at_byte(line, b':') {
             None => Ok(false),
-            Some((word, rest)) => self.take_headed(alloc, number, word, rest),
+            Some((word, rest)) => self.take_headed(alloc, number, word, rest, is_plain),
         }
     }
 
-    fn take_headed(&mut self, alloc: Global, number: u64, word: &[u8], rest: &[u8]) -> Mem<bool>
-        requires { IsReading self.old }
+    fn take_headed(
+        &mut self,
+        alloc: Global,
+        number: u64,
+        word: &[u8],
+        rest: &[u8],
+        is_plain: bool,
+    ) -> Mem<bool>
+        requires is_reading { IsReading self.old }
+        requires plain { PlainIf is_plain rest.now }
         ensures { IfOk result (λ stands. step self.old number (headed_line (each lower word.now) rest.now) ≡ (if stands then Some self.new else None)) }
     {
         if is_word(word, b"name") {
             self.take_name(alloc, number, rest)
         } else {
-            self.add_headed(alloc, word, rest)
+            self.add_headed(alloc, word, rest, is_plain)
         }
     }
 
@@ -298,25 +370,39 @@ impl Reader {
         true
     }
 
+    // Gives a line with this head to the record that is open.
+    fn add_usual(&mut self, alloc: Global, head: Head, rest: &[u8], is_plain: bool) -> Mem<bool>
+        requires is_reading { IsReading self.old }
+        requires plain { PlainIf is_plain rest.now }
+        ensures { IfOk result (λ stands. with_current self.old (λ current. added current (head_said head rest.now)) ≡ (if stands then Some self.new else None)) }
+    {
+        match &mut self.current {
+            None => Ok(false),
+            Some(open) => open.add_usual(alloc, head, rest, is_plain),
+        }
+    }
+
     // Gives a line with this word before its colon, other than a Name line, to the record that is open.
-    fn add_headed(&mut self, alloc: Global, word: &[u8], rest: &[u8]) -> Mem<bool>
+    fn add_headed(&mut self, alloc: Global, word: &[u8], rest: &[u8], is_plain: bool) -> Mem<bool>
         requires further { bytes_eq (each lower word.now) (codes "name") ≡ false }
         requires is_reading { IsReading self.old }
+        requires plain { PlainIf is_plain rest.now }
         ensures { IfOk result (λ stands. with_current self.old (λ current. added current (headed_line (each lower word.now) rest.now)) ≡ (if stands then Some self.new else None)) }
     {
         match &mut self.current {
             None => Ok(false),
-            Some(open) => open.add_headed(alloc, word, rest),
+            Some(open) => open.add_headed(alloc, word, rest, is_plain),
         }
     }
 
     // Gives a line that is indented to the record that is open.
-    fn add_indented(&mut self, alloc: Global, line: &[u8]) -> Mem<bool>
+    fn add_indented(&mut self, alloc: Global, line: &[u8], is_plain: bool) -> Mem<bool>
+        requires { PlainIf is_plain line.now }
         ensures { IfOk result (λ stands. with_current self.old (λ current. added current (indented_line line.now)) ≡ (if stands then Some self.new else None)) }
     {
         match &mut self.current {
             None => Ok(false),
-            Some(open) => open.add_indented(alloc, line),
+            Some(open) => open.add_indented(alloc, line, is_plain),
         }
     }
 

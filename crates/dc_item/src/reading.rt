@@ -4,13 +4,13 @@ ghost use Rattle.std.specs.List.{list_all};
 ghost use Rattle.std.specs.Str.{bytes_eq};
 ghost use Rattle.dc_text.specs.Bytes.{lower};
 ghost use Rattle.dc_text.specs.Lines.{unless_empty};
-ghost use Rattle.dc_text.specs.Names.{is_name, is_flag_name, is_field_key};
+ghost use Rattle.dc_text.specs.Names.{is_name, is_flag_name};
 ghost use Rattle.dc_item.specs.Grammar.{pieces};
+ghost use Rattle.dc_item.specs.Heads.{front_of};
 
 use dc_text::bytes::{split_at_byte, trim};
 use dc_text::{FlagName, List, Name, NameRefused};
 use std::alloc::Global;
-use std::cmp::Ordering;
 
 /// Whether the bytes spell the word, without regard to case.
 pub fn is_word(bytes: &[u8], word: &[u8]) -> bool
@@ -19,26 +19,56 @@ pub fn is_word(bytes: &[u8], word: &[u8]) -> bool
     bytes.eq_ignore_ascii_case(word)
 }
 
-// Whether the bytes are the word, told by their order, which costs less than the equality of the kit does for some ten bytes.
-fn is_same(bytes: &[u8], word: &[u8]) -> bool
-    ensures { result ≡ true → bytes.now ≡ word.now }
-{
-    matches!(bytes.cmp(word), Ordering::Equal)
+/// A word before the colon that most lines have, as it is printed.
+#[derive(Clone, Copy)]
+pub enum Head {
+    Name,
+    Owners,
+    Flags,
+    Variables,
+    TypeField,
+    ValueField,
+    DefaultField,
+    TemplateField,
+    DescriptionField,
+    ExtendedField,
 }
 
-/// The key that the word is in lower case, if it is one of those that most records have, as they are printed.
-pub fn usual_key(word: &[u8]) -> Option<&'static [u8]>
-    ensures { IfSome result (λ key. (key.now ≡ each lower word.now) × (is_field_key key.now ≡ true)) }
+/// The head that the line begins with and what stands behind its colon, if it is one of those that most lines have. What tells
+/// them apart is looked at first, and one alone is compared.
+pub fn usual_head(line: &[u8]) -> Option<(Head, &[u8])>
+    ensures { IfSome result (λ r. line.now ≡ front_of r.0 ++ r.1.now) }
 {
-    match word.len() {
-        4 if is_same(word, b"Type") => Some(b"type"),
-        5 if is_same(word, b"Value") => Some(b"value"),
-        7 if is_same(word, b"Default") => Some(b"default"),
-        8 if is_same(word, b"Template") => Some(b"template"),
-        11 if is_same(word, b"Description") => Some(b"description"),
-        20 if is_same(word, b"Extended_description") => Some(b"extended_description"),
+    match line {
+        [b'N', ..] => behind(line, Head::Name, b"Name:"),
+        [b'O', ..] => behind(line, Head::Owners, b"Owners:"),
+        [b'F', ..] => behind(line, Head::Flags, b"Flags:"),
+        [b'V', _, b'r', ..] => behind(line, Head::Variables, b"Variables:"),
+        [b'V', ..] => behind(line, Head::ValueField, b"Value:"),
+        [b'T', b'y', ..] => behind(line, Head::TypeField, b"Type:"),
+        [b'T', ..] => behind(line, Head::TemplateField, b"Template:"),
+        [b'D', _, b'f', ..] => behind(line, Head::DefaultField, b"Default:"),
+        [b'D', ..] => behind(line, Head::DescriptionField, b"Description:"),
+        [b'E', ..] => behind(line, Head::ExtendedField, b"Extended_description:"),
         _ => None,
     }
+}
+
+// The head and what stands behind it, if the line begins with it, as it is printed.
+#[inline(always)]
+fn behind<'a>(line: &'a [u8], head: Head, printed: &[u8]) -> Option<(Head, &'a [u8])>
+    requires { printed.now ≡ front_of head }
+    ensures { IfSome result (λ r. line.now ≡ front_of r.0 ++ r.1.now) }
+{
+    if line.len() < printed.len() {
+        return None;
+    }
+    for at in 0..printed.len() {
+        if line[at] != printed[at] {
+            return None;
+        }
+    }
+    Some((head, &line[printed.len()..]))
 }
 
 /// The names between commas. `Bad` comes exactly where one of them is no name.

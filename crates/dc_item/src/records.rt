@@ -1,5 +1,7 @@
 // The records of a database text.
-ghost use Rattle.std.specs.Prelude.{◌≡◌, IfOk, MatchResult};
+ghost use Rattle.std.specs.Prelude.{◌≡◌, ◌==◌, IfOk, MatchResult, if◌then◌else◌, nat_le};
+ghost use Rattle.std.specs.List.{position_or_len};
+ghost use Rattle.dc_text.specs.Ascii.{backslash};
 ghost use Rattle.dc_text.specs.Lines.{lines_of};
 ghost use Rattle.dc_item.specs.Records.{IsAnswer};
 ghost use Rattle.dc_item.specs.Reader.{read_all, Fails, IsReading};
@@ -7,7 +9,7 @@ ghost use Rattle.dc_item.specs.Reader.{read_all, Fails, IsReading};
 use crate::reader::Reader;
 use crate::records_read::Records;
 use dc_text::OutOfMemory;
-use dc_text::bytes::split_line;
+use dc_text::bytes::{place_of, split_line};
 use std::alloc::Global;
 use thiserror::Error;
 
@@ -49,13 +51,28 @@ fn read_lines(alloc: Global, bytes: &[u8]) -> Result<Reader, RecordError>
     let mut reader = Reader::new(alloc);
     let mut rest = bytes;
     let mut line = 0u64;
+    let mut plain = 0;
     while !rest.is_empty() {
         let (text, after) = split_line(rest);
         line += 1;
-        if !reader.take(alloc, line, text)? {
+        plain = plain_front(rest, plain, text.len());
+        if !reader.take(alloc, line, text, text.len() <= plain)? {
             return Err(RecordError::Bad { line });
         }
+        plain = plain.saturating_sub(text.len() + 1);
         rest = after;
     }
     Ok(reader)
+}
+
+// How many bytes at the front have no backslash: as many as are known, where that reaches as far as is wanted, else all before
+// the first.
+fn plain_front(bytes: &[u8], known: usize, wanted: usize) -> usize
+    ensures { result ≡ (if nat_le wanted known then known else position_or_len (λ byte. byte == backslash) bytes.now) }
+{
+    if wanted <= known {
+        known
+    } else {
+        place_of(bytes, b'\\').unwrap_or(bytes.len())
+    }
 }

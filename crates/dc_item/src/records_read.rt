@@ -10,6 +10,7 @@ ghost use Rattle.dc_item.specs.Table.{names_of, table_of};
 use crate::entry::Entry;
 use crate::item::Item;
 use crate::owners::name_of;
+use crate::table_key::TableKey;
 use crate::text_table::TextTable;
 use dc_text::{List, Mem, Name};
 use indexmap::IndexMap;
@@ -19,7 +20,7 @@ use std::marker::Model;
 /// The records of a text, in the order in which they stand there. No two have one name.
 #[derive(Drop)]
 pub struct Records {
-    items: IndexMap<Vec<u8>, Item>,
+    items: IndexMap<TableKey, Item>,
     // The number of each record's Name line, from 1.
     lines: Vec<u64>,
     // An item in which nothing stands, with the memory in which the parts of the last record were put together.
@@ -37,9 +38,9 @@ impl Model for Records {
 
     ghost coded = { Prim.hlevel (codes, parts_code) };
 
-    ghost view = { λ r. with_lines (each (λ e. (e.0.items, e.1)) r.items.entries) r.lines.items };
+    ghost view = { λ r. with_lines (each (λ e. (e.0.text, e.1)) r.items.entries) r.lines.items };
 
-    ghost invariant = { λ r. AreKept (each (λ e. (e.0.items, e.1)) r.items.entries) r.lines.items × (r.spare ≡ no_parts) };
+    ghost invariant = { λ r. AreKept (each (λ e. (e.0.text, e.1)) r.items.entries) r.lines.items × (r.spare ≡ no_parts) };
 }
 
 impl Records {
@@ -82,7 +83,7 @@ impl Records {
         ensures { OnOk result (self.new ≡ self.old ++ record { name = name; item = item; line = line } ∷ []) }
     {
         let mut item = item;
-        let key = name.into_text().into_vec()?;
+        let key = TableKey::new(name.into_text());
         self.lines.reserve(1)?;
         self.items.insert(key, item.take()?)?;
         self.lines.push_reserved(line);
@@ -114,7 +115,7 @@ impl Records {
         } = self;
         let mut list = List::new(alloc);
         for (key, item) in items {
-            let name = name_of(alloc, &key)?;
+            let name = name_of(alloc, key.bytes())?;
             let line = lines[list.len()];
             list.push(Entry { name, item, line })?;
         }

@@ -5,6 +5,7 @@ ghost use Rattle.std.specs.Option.{option_copied, option_copied_mut};
 ghost use Rattle.std.specs.FinMap as map;
 ghost use Rattle.dc_text.specs.Maps.{text_cmp};
 
+use crate::table_key::TableKey;
 use dc_text::{Mem, Text};
 use indexmap::IndexMap;
 use std::alloc::Global;
@@ -16,7 +17,7 @@ use std::marker::Model;
 #[derive(Drop)]
 pub struct TextTable<V> {
     alloc: Global,
-    entries: IndexMap<Vec<u8>, V>,
+    entries: IndexMap<TableKey, V>,
 }
 
 impl<V> Model for TextTable<V> {
@@ -29,7 +30,7 @@ impl<V> Model for TextTable<V> {
 
     ghost coded = { map.code (coded_list coded_ℕ) V.code };
 
-    ghost view = { λ m. map.from_entries (each (λ e. (e.0.items, e.1)) m.entries.entries) };
+    ghost view = { λ m. map.from_entries (each (λ e. (e.0.text, e.1)) m.entries.entries) };
 }
 
 impl<V: Drop> TextTable<V> {
@@ -64,7 +65,7 @@ impl<V: Drop> TextTable<V> {
         ensures ok { OnOk result (self.new ≡ map.insert self.old key value) }
         ensures err { OnErr result (self.new ≡ self.old) }
     {
-        self.entries.insert(key.into_vec()?, value)?;
+        self.entries.insert(TableKey::new(key), value)?;
         Ok(())
     }
 
@@ -89,7 +90,7 @@ impl<V: Drop> TextTable<V> {
     {
         let mut order = Vec::with_capacity(self.alloc, self.entries.len())?;
         for (key, value) in self.entries.iter() {
-            order.push((key.as_slice(), value))?;
+            order.push((key.bytes(), value))?;
         }
         // What was read from a file stands in one run, rising or falling, which the sort takes by one pass.
         order.sort_by(
@@ -101,8 +102,8 @@ impl<V: Drop> TextTable<V> {
     }
 
     /// The map of these entries, which aren't copied.
-    pub(crate) fn of(entries: IndexMap<Vec<u8>, V>) -> Self
-        ensures { result ≡ map.from_entries (each (λ e. (e.0.items, e.1)) entries.entries) }
+    pub(crate) fn of(entries: IndexMap<TableKey, V>) -> Self
+        ensures { result ≡ map.from_entries (each (λ e. (e.0.text, e.1)) entries.entries) }
     {
         TextTable {
             alloc: *entries.allocator(),

@@ -1,4 +1,4 @@
-pub mod LastLemmas
+pub mod FingerLemmas
 pub mod ManyLemmas
 pub mod PackedLemmas
 pub mod PlaceLemmas

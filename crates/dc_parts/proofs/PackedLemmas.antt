@@ -1,6 +1,6 @@
 -- What is packed is read again, and the place of a key among entries in order.
-use Rattle.std.proofs.Common.{◌≡◌, ℕ, zero, suc, ◌+◌, ◌-◌, ◌*◌, ◌/◌, ◌%◌, ◌<◌, ◌≤◌, Bool, true, false, cond, not, List, [], ◌∷◌, ◌++◌, length, take, drop, Some, None, Option, Result, Ok, Err, OnErr, refl, sym, ap, subst, ◌∙◌, arith, append_assoc, length-append}
-use Rattle.std.specs.Prelude.{◌==◌, ◌≢◌, replicate, T, ◌&&◌, is_some, map}
+use Rattle.std.proofs.Common.{◌≡◌, ℕ, zero, suc, ◌+◌, ◌-◌, ◌*◌, ◌/◌, ◌%◌, ◌<◌, ◌≤◌, Bool, true, false, cond, not, List, [], ◌∷◌, ◌++◌, length, take, drop, get_or, Some, None, Option, Result, Ok, Err, OnErr, refl, sym, ap, subst, ◌∙◌, arith, append_assoc, length-append}
+use Rattle.std.specs.Prelude.{if◌then◌else◌, ◌==◌, ◌≢◌, replicate, T, ◌&&◌, is_some, map}
 use Rattle.std.proofs.Math.Seq.{take-append_seam, drop-append_seam}
 use Rattle.std.proofs.Math.Nat.{div-add-mod}
 use Rattle.std.proofs.lemmas.Bool.Decides.{nat_tests}
@@ -8,13 +8,14 @@ use Rattle.std.proofs.lemmas.List.{append-nil, map-append, length-take, take-app
 use Rattle.std.proofs.lemmas.Slice.{drop-append-drop}
 use Rattle.std.specs.declared.cmp.Ordering.{Ordering}
 use Rattle.std.specs.Ordering.{is_lt, is_eq}
+use Rattle.std.specs.Cmp.{tied_itself}
 use Rattle.std.specs.Cmp.Lexicographic.{nat_list_cmp_total}
 use Rattle.std.specs.FinMap.{FinMap, put, is_sorted, find, get, contains_key, entries, len, from_sorted, get-from_sorted, entries-from_sorted, len-entries}
 use Rattle.std.specs.FinMap.Entries.{by_order, below_all}
 use Rattle.std.specs.declared.cmp.Ordering.TheVariants.{Less, Equal, Greater}
 use Rattle.dc_text.specs.Maps.{text_cmp}
 use Rattle.dc_text.proofs.MapLemmas.{exact_texts}
-use Rattle.dc_parts.specs.Packed.{packed_length, packed_text, packed, length_at, behind_length, text_at, behind_text, HasText, entries_in, IsPacked, IsBegunBy, before, from, behind, value_at}
+use Rattle.dc_parts.specs.Packed.{packed_length, packed_text, packed_as, packed_key, packed, usual_keys, usual_key, number_from, number_of, length_at, behind_length, text_at, behind_text, key_at, behind_key, HasText, entries_up_to, entries_in, IsPacked, IsBegunBy, before, from, behind, value_at}
 use Rattle.dc_parts.proofs.PlaceLemmas.{first, second, less, find_below, without, without_none}
 
 -- ---- a length is read again
@@ -67,27 +68,205 @@ pub HasText-packed : (text rest : List ℕ) → HasText (packed_text text ++ res
 unfolding HasText
 HasText-packed text rest = rw (text-length text rest, text-behind text rest, length-append) (omega arith)
 
+-- ---- what cannot be
+
+no_text : {mark : ℕ} {key : List ℕ} → mark ∷ key ≡ [] → ⊥
+no_text e = cc
+
+not_both : false ≡ true → ⊥
+not_both e = cc
+
+-- ---- the number of a usual key
+
+some_same : (m n : ℕ) → Some m ≡ Some n → m ≡ n
+some_same m n e = cc
+
+equals : (o : Ordering) → is_eq o ≡ true → o ≡ Equal
+equals Less e = absurd (cc)
+equals Equal e = refl
+equals Greater e = absurd (cc)
+
+numbered : (m : ℕ) (q : List ℕ) (ks : List (List ℕ)) (n : ℕ) → number_from m q ks ≡ Some n → (i : ℕ) × (n ≡ m + i) × (get_or ks i [] ≡ q) × (i < length ks)
+numbered m q [] n e = absurd (cc)
+numbered m q (k ∷ ks) n e =
+    elim (is_eq (text_cmp q k)) as (λ b. is_eq (text_cmp q k) ≡ b → cond b (Some m) (number_from (suc m) q ks) ≡ Some n → (i : ℕ) × (n ≡ m + i) × (get_or (k ∷ ks) i [] ≡ q) × (i < suc (length ks))) [
+      | true ↦ λ t f. (0, omega (arith, some_same m n f), sym (exact_texts q k (equals (text_cmp q k) t)), omega arith)
+      | false ↦ λ t f.
+          let later : (i : ℕ) × (n ≡ suc m + i) × (get_or ks i [] ≡ q) × (i < length ks) = numbered (suc m) q ks n f in
+          (suc later.0, omega (arith, later.1), later.2, omega (arith, later.3))
+    ] refl e
+
+-- the number of a key leads to it
+usual_of : (q : List ℕ) (n : ℕ) → number_of q ≡ Some n → (usual_key n ≡ q) × (n < 8)
+usual_of q n e =
+    let found : (i : ℕ) × (n ≡ 0 + i) × (get_or usual_keys i [] ≡ q) × (i < 8) = numbered 0 q usual_keys n e in
+    let same : n ≡ found.0 = omega (arith, found.1) in
+    (ap usual_key same ∙ found.2, omega (arith, found.1, found.3))
+
+number-usual : (n : ℕ) → n < 8 → number_of (usual_key n) ≡ Some n
+number-usual zero lt = refl
+number-usual (suc zero) lt = refl
+number-usual (suc (suc zero)) lt = refl
+number-usual (suc (suc (suc zero))) lt = refl
+number-usual (suc (suc (suc (suc zero)))) lt = refl
+number-usual (suc (suc (suc (suc (suc zero))))) lt = refl
+number-usual (suc (suc (suc (suc (suc (suc zero)))))) lt = refl
+number-usual (suc (suc (suc (suc (suc (suc (suc zero))))))) lt = refl
+number-usual (suc (suc (suc (suc (suc (suc (suc (suc n)))))))) lt = absurd (omega arith)
+
+-- the number of the usual key of a mark and a length
+abbrev pub number_like : ℕ → ℕ → ℕ
+number_like mark count =
+    if count == 4 then (if mark == 2 then 7 else 5) else
+    if count == 5 then 6 else
+    if count == 7 then 1 else
+    if count == 8 then 4 else
+    if count == 11 then 2 else
+    if count == 20 then 3 else 0
+
+abbrev like : List ℕ → ℕ
+like [] = 0
+like (mark ∷ key) = number_like mark (length key)
+
+like-usual : (n : ℕ) → n < 8 → like (usual_key n) ≡ n
+like-usual zero lt = refl
+like-usual (suc zero) lt = refl
+like-usual (suc (suc zero)) lt = refl
+like-usual (suc (suc (suc zero))) lt = refl
+like-usual (suc (suc (suc (suc zero)))) lt = refl
+like-usual (suc (suc (suc (suc (suc zero))))) lt = refl
+like-usual (suc (suc (suc (suc (suc (suc zero)))))) lt = refl
+like-usual (suc (suc (suc (suc (suc (suc (suc zero))))))) lt = refl
+like-usual (suc (suc (suc (suc (suc (suc (suc (suc n)))))))) lt = absurd (omega arith)
+
+-- there is no key at a number past the list
+past_keys : (n : ℕ) → 8 ≤ n → usual_key n ≡ []
+past_keys zero h = absurd (omega arith)
+past_keys (suc zero) h = absurd (omega arith)
+past_keys (suc (suc zero)) h = absurd (omega arith)
+past_keys (suc (suc (suc zero))) h = absurd (omega arith)
+past_keys (suc (suc (suc (suc zero)))) h = absurd (omega arith)
+past_keys (suc (suc (suc (suc (suc zero))))) h = absurd (omega arith)
+past_keys (suc (suc (suc (suc (suc (suc zero)))))) h = absurd (omega arith)
+past_keys (suc (suc (suc (suc (suc (suc (suc zero))))))) h = absurd (omega arith)
+past_keys (suc (suc (suc (suc (suc (suc (suc (suc n)))))))) h = refl
+
+-- no other usual key has that mark and that length
+pub only_like : (mark count n : ℕ) → n ≡ number_like mark count → (key : List ℕ) (m : ℕ) → length key ≡ count → number_of (mark ∷ key) ≡ Some m → n ≡ m
+only_like mark count n is key m long e =
+    let found : (usual_key m ≡ mark ∷ key) × (m < 8) = usual_of (mark ∷ key) m e in
+    is ∙ ap (number_like mark) (sym long) ∙ ap like (sym found.0) ∙ like-usual m found.1
+
+module _ (mark n : ℕ) (key u : List ℕ) (at : u ≡ usual_key n) where
+  -- a key that is the usual one of its mark and length
+  pub is_usual : is_eq (text_cmp (mark ∷ key) u) ≡ true → Some n ≡ number_of (mark ∷ key)
+  is_usual equal =
+      let same : mark ∷ key ≡ usual_key n = exact_texts (mark ∷ key) u (equals _ equal) ∙ at in
+      let few : n < 8 = elim (n / 8) as (λ k. n / 8 ≡ k → n < 8) [ zero ↦ λ e. omega (arith, e) | suc k ↦ λ e. absurd (no_text (same ∙ past_keys n (omega (arith, e)))) ] refl in
+      sym (number-usual n few) ∙ ap number_of (sym same)
+
+  -- and one that isn't
+  pub is_unusual : ((k : List ℕ) (m : ℕ) → length k ≡ length key → number_of (mark ∷ k) ≡ Some m → n ≡ m) → is_eq (text_cmp (mark ∷ key) u) ≡ false → None ≡ number_of (mark ∷ key)
+  is_unusual only other =
+      elim (number_of (mark ∷ key)) as (λ o. number_of (mark ∷ key) ≡ o → None ≡ o) [
+        | None ↦ λ e. refl
+        | Some m ↦ λ e.
+            let found : (usual_key m ≡ mark ∷ key) × (m < 8) = usual_of (mark ∷ key) m e in
+            let same : n ≡ m = only key m refl e in
+            let equal : text_cmp (mark ∷ key) u ≡ Equal = ap (text_cmp (mark ∷ key)) (at ∙ ap usual_key same ∙ found.0) ∙ tied_itself nat_list_cmp_total (mark ∷ key) in
+            absurd (not_both (sym other ∙ ap is_eq equal))
+      ] refl
+
+-- ---- a key is read again
+
+-- the length of a text that isn't empty doesn't begin with 0
+text_front : (n : ℕ) (rest : List ℕ) → 0 < n → (b : ℕ) × (more : List ℕ) × (packed_length n ++ rest ≡ b ∷ more) × (0 < b)
+text_front n rest some =
+    let front : (b : ℕ) × (more : List ℕ) × (replicate (n / 255) 255 ++ (n % 255) ∷ rest ≡ b ∷ more) × (0 < b)
+    = elim (n / 255) as (λ k. n / 255 ≡ k → (b : ℕ) × (more : List ℕ) × (replicate k 255 ++ (n % 255) ∷ rest ≡ b ∷ more) × (0 < b)) [
+      | zero ↦ λ e. (n % 255, rest, refl, omega (arith, e, some))
+      | suc k ↦ λ e. (255, replicate k 255 ++ (n % 255) ∷ rest, refl, omega arith)
+    ] refl in
+    (front.0, front.1, run n rest ∙ front.2, front.3)
+
+other_front : (b : ℕ) (more : List ℕ) → 0 < b → (key_at (b ∷ more) ≡ text_at (b ∷ more)) × (behind_key (b ∷ more) ≡ behind_text (b ∷ more))
+other_front zero more h = absurd (omega arith)
+other_front (suc b) [] h = (refl, refl)
+other_front (suc b) (c ∷ more) h = (refl, refl)
+
+as_text : (bytes : List ℕ) (b : ℕ) (more : List ℕ) → bytes ≡ b ∷ more → 0 < b → (key_at bytes ≡ text_at bytes) × (behind_key bytes ≡ behind_text bytes)
+as_text bytes b more is some =
+    (ap key_at is ∙ (other_front b more some).0 ∙ ap text_at (sym is), ap behind_key is ∙ (other_front b more some).1 ∙ ap behind_text (sym is))
+
+unusual_read : (q rest : List ℕ) → number_of q ≡ None → (key_at (packed_text q ++ rest) ≡ q) × (behind_key (packed_text q ++ rest) ≡ rest)
+unusual_read [] rest e = absurd (cc)
+unusual_read (m ∷ q) rest e =
+    let front : (b : ℕ) × (more : List ℕ) × (packed_length (suc (length q)) ++ ((m ∷ q) ++ rest) ≡ b ∷ more) × (0 < b) = text_front (suc (length q)) ((m ∷ q) ++ rest) (omega arith) in
+    let plain : (key_at (packed_text (m ∷ q) ++ rest) ≡ text_at (packed_text (m ∷ q) ++ rest)) × (behind_key (packed_text (m ∷ q) ++ rest) ≡ behind_text (packed_text (m ∷ q) ++ rest))
+    = as_text (packed_text (m ∷ q) ++ rest) front.0 front.1 (with_length (m ∷ q) rest ∙ front.2) front.3 in
+    (plain.0 ∙ text_at-packed (m ∷ q) rest, plain.1 ∙ behind_text-packed (m ∷ q) rest)
+
+usual_has_text : (n : ℕ) (rest : List ℕ) → HasText (0 ∷ n ∷ rest)
+unfolding HasText length_at behind_length
+usual_has_text n rest = omega arith
+
+length-packed_text : (text : List ℕ) → 1 ≤ length (packed_text text)
+unfolding packed_text packed_length
+length-packed_text text = omega (arith, length-append (replicate (length text / 255) 255 ++ (length text % 255) ∷ []) text, length-append (replicate (length text / 255) 255) ((length text % 255) ∷ []))
+
+key_read : (q rest : List ℕ) (o : Option ℕ) → number_of q ≡ o
+    → (key_at (packed_as o q ++ rest) ≡ q) × (behind_key (packed_as o q ++ rest) ≡ rest) × HasText (packed_as o q ++ rest) × (1 ≤ length (packed_as o q))
+key_read q rest None e = ((unusual_read q rest e).0, (unusual_read q rest e).1, HasText-packed q rest, length-packed_text q)
+key_read q rest (Some n) e = ((usual_of q n e).0, refl, usual_has_text n rest, omega arith)
+
+pub key_at-packed : (q rest : List ℕ) → key_at (packed_key q ++ rest) ≡ q
+key_at-packed q rest = (key_read q rest (number_of q) refl).0
+
+pub behind_key-packed : (q rest : List ℕ) → behind_key (packed_key q ++ rest) ≡ rest
+behind_key-packed q rest = (key_read q rest (number_of q) refl).1
+
+HasText-key : (q rest : List ℕ) → HasText (packed_key q ++ rest)
+HasText-key q rest = (key_read q rest (number_of q) refl).2
+
+length-packed_key : (q : List ℕ) → 1 ≤ length (packed_key q)
+length-packed_key q = (key_read q [] (number_of q) refl).3
+
 -- ---- entries are read again
 
-pub entries_in-packed : (es : List (List ℕ × List ℕ)) → entries_in (length es) (packed es) ≡ es
-entries_in-packed [] = refl
-entries_in-packed (e ∷ es) =
+-- there are no more entries than bytes
+length-packed : (es : List (List ℕ × List ℕ)) → length es ≤ length (packed es)
+length-packed [] = omega arith
+length-packed (e ∷ es) =
+    omega (arith, length-packed es, length-packed_key e.0, length-append (packed_key e.0) (packed_text e.1 ++ packed es), length-append (packed_text e.1) (packed es))
+
+one_entry : (count : ℕ) (bytes : List ℕ) → 0 < length bytes → entries_up_to (suc count) bytes ≡ (key_at bytes, text_at (behind_key bytes)) ∷ entries_up_to count (behind_text (behind_key bytes))
+one_entry count [] some = absurd (omega arith)
+one_entry count (byte ∷ bytes) some = refl
+
+entries_up_to-packed : (count : ℕ) (es : List (List ℕ × List ℕ)) → length es ≤ count → entries_up_to count (packed es) ≡ es
+entries_up_to-packed zero [] few = refl
+entries_up_to-packed zero (e ∷ es) few = absurd (omega arith)
+entries_up_to-packed (suc count) [] few = refl
+entries_up_to-packed (suc count) (e ∷ es) few =
     let value : List ℕ = packed_text e.1 ++ packed es in
-    let past_key : behind_text (packed_text e.0 ++ value) ≡ value = behind_text-packed e.0 value in
-    (λ i. (text_at-packed e.0 value i, text_at (past_key i)) ∷ entries_in (length es) (behind_text (past_key i)))
-    ∙ (λ i. (e.0, text_at-packed e.1 (packed es) i) ∷ entries_in (length es) (behind_text-packed e.1 (packed es) i))
-    ∙ ap (λ l. e ∷ l) (entries_in-packed es)
+    let past_key : behind_key (packed_key e.0 ++ value) ≡ value = behind_key-packed e.0 value in
+    one_entry count (packed_key e.0 ++ value) (omega (arith, length-packed (e ∷ es)))
+    ∙ (λ i. (key_at-packed e.0 value i, text_at (past_key i)) ∷ entries_up_to count (behind_text (past_key i)))
+    ∙ (λ i. (e.0, text_at-packed e.1 (packed es) i) ∷ entries_up_to count (behind_text-packed e.1 (packed es) i))
+    ∙ ap (λ l. e ∷ l) (entries_up_to-packed count es (omega arith))
+
+-- what is packed anew
+pub packed_anew : (es : List (List ℕ × List ℕ)) (bytes : List ℕ) → bytes ≡ packed es → (entries_in bytes ≡ es) × IsPacked bytes
+packed_anew es bytes is =
+    let read : entries_in bytes ≡ es = ap entries_in is ∙ entries_up_to-packed (length (packed es)) es (length-packed es) in
+    (read, ap packed read ∙ sym is)
 
 pub packed-append : (es fs : List (List ℕ × List ℕ)) → packed (es ++ fs) ≡ packed es ++ packed fs
 packed-append [] fs = refl
 packed-append (e ∷ es) fs =
-    ap (λ l. packed_text e.0 ++ (packed_text e.1 ++ l)) (packed-append es fs)
-    ∙ ap (λ l. packed_text e.0 ++ l) (sym (append_assoc (packed_text e.1) (packed es) (packed fs)))
-    ∙ sym (append_assoc (packed_text e.0) (packed_text e.1 ++ packed es) (packed fs))
-
-pub length-entries_in : (count : ℕ) (bytes : List ℕ) → length (entries_in count bytes) ≡ count
-length-entries_in zero bytes = refl
-length-entries_in (suc count) bytes = ap suc (length-entries_in count (behind_text (behind_text bytes)))
+    ap (λ l. packed_key e.0 ++ (packed_text e.1 ++ l)) (packed-append es fs)
+    ∙ ap (λ l. packed_key e.0 ++ l) (sym (append_assoc (packed_text e.1) (packed es) (packed fs)))
+    ∙ sym (append_assoc (packed_key e.0) (packed_text e.1 ++ packed es) (packed fs))
 
 -- ---- how a length is read
 
@@ -147,60 +326,97 @@ no_length (byte ∷ bytes) e = absurd (omega arith)
 
 -- ---- the first of packed entries
 
-pub opened : (count : ℕ) (bytes : List ℕ) → 0 < count → entries_in count bytes ≡ (text_at bytes, text_at (behind_text bytes)) ∷ entries_in (count - 1) (behind_text (behind_text bytes))
-opened zero bytes some = absurd (omega arith)
-opened (suc count) bytes some =
-    let one_less : count ≡ suc count - 1 = omega arith in
-    ap (λ n. (text_at bytes, text_at (behind_text bytes)) ∷ entries_in n (behind_text (behind_text bytes))) one_less
+first_of : (bytes : List ℕ) (es : List (List ℕ × List ℕ)) → bytes ≡ packed es → 0 < length bytes → (e : List ℕ × List ℕ) × (later : List (List ℕ × List ℕ)) × (bytes ≡ packed (e ∷ later))
+first_of bytes [] is some = absurd (omega (arith, ap length is))
+first_of bytes (e ∷ es) is some = (e, es, is)
 
-module _ (count : ℕ) (bytes : List ℕ) (some : 0 < count) (is_packed : IsPacked count bytes) where
-  later : List (List ℕ × List ℕ)
-  later = entries_in (count - 1) (behind_text (behind_text bytes))
+module _ (bytes : List ℕ) (some : 0 < length bytes) (is_packed : IsPacked bytes) where
+  split : (e : List ℕ × List ℕ) × (later : List (List ℕ × List ℕ)) × (bytes ≡ packed (e ∷ later))
+  split = first_of bytes (entries_in bytes) (sym is_packed) some
 
-  laid : bytes ≡ packed_text (text_at bytes) ++ (packed_text (text_at (behind_text bytes)) ++ packed later)
-  unfolding later
-  laid = sym is_packed ∙ ap packed (opened count bytes some)
+  past_key : behind_key bytes ≡ packed_text split.0.1 ++ packed split.1
+  past_key = ap behind_key split.2 ∙ behind_key-packed split.0.0 (packed_text split.0.1 ++ packed split.1)
 
-  past_key : behind_text bytes ≡ packed_text (text_at (behind_text bytes)) ++ packed later
-  past_key = ap behind_text laid ∙ behind_text-packed _ _
-
-  past_value : behind_text (behind_text bytes) ≡ packed later
+  past_value : behind_text (behind_key bytes) ≡ packed split.1
   past_value = ap behind_text past_key ∙ behind_text-packed _ _
 
   pub has_key : HasText bytes
-  has_key = subst HasText (sym laid) (HasText-packed _ _)
+  has_key = subst HasText (sym split.2) (HasText-key split.0.0 (packed_text split.0.1 ++ packed split.1))
 
-  pub has_value : HasText (behind_text bytes)
+  pub has_value : HasText (behind_key bytes)
   has_value = subst HasText (sym past_key) (HasText-packed _ _)
 
-  pub later_packed : IsPacked (count - 1) (behind_text (behind_text bytes))
-  unfolding later
-  later_packed = sym past_value
+  pub later_packed : IsPacked (behind_text (behind_key bytes))
+  later_packed = (packed_anew split.1 _ past_value).1
 
--- the first entry is passed where the key is higher
-pub passed : (q : List ℕ) (count : ℕ) (bytes k rest : List ℕ) → 0 < count → k ≡ text_at bytes → rest ≡ behind_text (behind_text bytes) → text_cmp q k ≡ Greater
-    → (from q (entries_in (count - 1) rest) ≡ from q (entries_in count bytes)) × (behind q (entries_in (count - 1) rest) ≡ behind q (entries_in count bytes))
-    × (value_at q (entries_in (count - 1) rest) ≡ value_at q (entries_in count bytes))
-passed q count bytes k rest some key is higher =
-    let es : List (List ℕ × List ℕ) = entries_in (count - 1) (behind_text (behind_text bytes)) in
-    let e : List ℕ × List ℕ = (text_at bytes, text_at (behind_text bytes)) in
-    let order : Greater ≡ text_cmp q (text_at bytes) = sym higher ∙ ap (text_cmp q) key in
-    let same : entries_in (count - 1) rest ≡ es = ap (entries_in (count - 1)) is in
-    let all : e ∷ es ≡ entries_in count bytes = sym (opened count bytes some) in (
-      ap (from q) same ∙ ap (λ o. by_order o (e ∷ es) (e ∷ es) (from q es)) order ∙ ap (from q) all,
-      ap (behind q) same ∙ ap (λ o. by_order o (e ∷ es) es (behind q es)) order ∙ ap (behind q) all,
-      ap (value_at q) same ∙ ap (λ o. by_order o None (Some e.1) (value_at q es)) order ∙ ap (value_at q) all,
-    )
+  pub opened : entries_in bytes ≡ (key_at bytes, text_at (behind_key bytes)) ∷ entries_in (behind_text (behind_key bytes))
+  opened =
+      let key : key_at bytes ≡ split.0.0 = ap key_at split.2 ∙ key_at-packed split.0.0 (packed_text split.0.1 ++ packed split.1) in
+      let value : text_at (behind_key bytes) ≡ split.0.1 = ap text_at past_key ∙ text_at-packed _ _ in
+      (packed_anew (split.0 ∷ split.1) bytes split.2).0 ∙ (λ i. ((sym key) i, (sym value) i) ∷ (sym (packed_anew split.1 _ past_value).0) i)
 
--- behind the first entry where it has the key
-pub met : (q : List ℕ) (count : ℕ) (bytes k rest : List ℕ) → 0 < count → IsPacked count bytes → k ≡ text_at bytes → rest ≡ behind_text (behind_text bytes) → text_cmp q k ≡ Equal
-    → rest ≡ packed (behind q (entries_in count bytes))
-met q count bytes k rest some is_packed key is equal =
-    let es : List (List ℕ × List ℕ) = entries_in (count - 1) (behind_text (behind_text bytes)) in
-    let e : List ℕ × List ℕ = (text_at bytes, text_at (behind_text bytes)) in
-    is ∙ sym (later_packed count bytes some is_packed)
-    ∙ ap (λ o. packed (by_order o (e ∷ es) es (behind q es))) (sym equal ∙ ap (text_cmp q) key)
-    ∙ ap (λ l. packed (behind q l)) (sym (opened count bytes some))
+  pub shorter : length (behind_text (behind_key bytes)) < length bytes
+  shorter =
+      omega (arith, ap length past_value, ap length split.2, length-append (packed_key split.0.0) (packed_text split.0.1 ++ packed split.1), length-append (packed_text split.0.1) (packed split.1), length-packed_key split.0.0)
+
+-- whether bytes are left, as `is_empty` tells
+pub some_left : (bytes : List ℕ) (empty : Bool) → empty ≡ (length bytes == 0) → empty ≡ false → 0 < length bytes
+some_left bytes empty is test = grind (arith, nat_tests)
+
+pub no_more : (bytes : List ℕ) (empty : Bool) → empty ≡ (length bytes == 0) → empty ≡ true → length bytes ≡ 0
+no_more bytes empty is test = grind (arith, nat_tests)
+
+-- no entry is in no bytes
+pub none_in : (bytes : List ℕ) → length bytes ≡ 0 → entries_in bytes ≡ []
+none_in [] none = refl
+none_in (byte ∷ bytes) none = absurd (omega arith)
+
+pub none_left : (q bytes : List ℕ) → length bytes ≡ 0 → (bytes ≡ packed (from q (entries_in bytes))) × (bytes ≡ packed (behind q (entries_in bytes))) × (None ≡ value_at q (entries_in bytes))
+none_left q [] none = (refl, refl, refl)
+none_left q (byte ∷ bytes) none = absurd (omega arith)
+
+module _ (q bytes k rest : List ℕ) (some : 0 < length bytes) (is_packed : IsPacked bytes) (key : k ≡ key_at bytes) (is : rest ≡ behind_text (behind_key bytes)) where
+  abbrev one : List ℕ × List ℕ
+  one = (key_at bytes, text_at (behind_key bytes))
+
+  abbrev others : List (List ℕ × List ℕ)
+  others = entries_in (behind_text (behind_key bytes))
+
+  begins : entries_in bytes ≡ one ∷ others
+  begins = opened bytes some is_packed
+
+  -- the first entry is passed where the key is higher
+  pub passed : text_cmp q k ≡ Greater
+      → (from q (entries_in rest) ≡ from q (entries_in bytes)) × (behind q (entries_in rest) ≡ behind q (entries_in bytes)) × (value_at q (entries_in rest) ≡ value_at q (entries_in bytes))
+  passed higher =
+      let order : Greater ≡ text_cmp q (key_at bytes) = sym higher ∙ ap (text_cmp q) key in
+      let same : entries_in rest ≡ others = ap entries_in is in (
+        ap (from q) same ∙ ap (λ o. by_order o (one ∷ others) (one ∷ others) (from q others)) order ∙ ap (from q) (sym begins),
+        ap (behind q) same ∙ ap (λ o. by_order o (one ∷ others) others (behind q others)) order ∙ ap (behind q) (sym begins),
+        ap (value_at q) same ∙ ap (λ o. by_order o None (Some (text_at (behind_key bytes))) (value_at q others)) order ∙ ap (value_at q) (sym begins),
+      )
+
+  -- the place is at the first entry where the key is lower
+  pub stopped : text_cmp q k ≡ Less
+      → (bytes ≡ packed (from q (entries_in bytes))) × (bytes ≡ packed (behind q (entries_in bytes))) × (None ≡ value_at q (entries_in bytes))
+  stopped lower =
+      let order : Less ≡ text_cmp q (key_at bytes) = sym lower ∙ ap (text_cmp q) key in
+      let laid : bytes ≡ packed (one ∷ others) = sym is_packed ∙ ap packed begins in (
+        laid ∙ ap (λ o. packed (by_order o (one ∷ others) (one ∷ others) (from q others))) order ∙ ap (λ l. packed (from q l)) (sym begins),
+        laid ∙ ap (λ o. packed (by_order o (one ∷ others) others (behind q others))) order ∙ ap (λ l. packed (behind q l)) (sym begins),
+        ap (λ o. by_order o None (Some (text_at (behind_key bytes))) (value_at q others)) order ∙ ap (value_at q) (sym begins),
+      )
+
+  -- and where it has the key
+  pub met : text_cmp q k ≡ Equal
+      → (bytes ≡ packed (from q (entries_in bytes))) × (rest ≡ packed (behind q (entries_in bytes))) × (Some (text_at (behind_key bytes)) ≡ value_at q (entries_in bytes))
+  met equal =
+      let order : Equal ≡ text_cmp q (key_at bytes) = sym equal ∙ ap (text_cmp q) key in
+      let laid : bytes ≡ packed (one ∷ others) = sym is_packed ∙ ap packed begins in (
+        laid ∙ ap (λ o. packed (by_order o (one ∷ others) (one ∷ others) (from q others))) order ∙ ap (λ l. packed (from q l)) (sym begins),
+        is ∙ sym (later_packed bytes some is_packed) ∙ ap (λ o. packed (by_order o (one ∷ others) others (behind q others))) order ∙ ap (λ l. packed (behind q l)) (sym begins),
+        ap (λ o. by_order o None (Some (text_at (behind_key bytes))) (value_at q others)) order ∙ ap (value_at q) (sym begins),
+      )
 
 -- ---- the place of a key
 
@@ -265,13 +481,13 @@ parts bytes front back is =
       omega (arith, ap length is, length-append front back),
     )
 
-module _ (q : List ℕ) (count : ℕ) (bytes : List ℕ) (is_packed : IsPacked count bytes) where
-  pub at_from : bytes ≡ packed (before q (entries_in count bytes)) ++ packed (from q (entries_in count bytes))
-  at_from = sym is_packed ∙ ap packed (sym (before-from q (entries_in count bytes))) ∙ packed-append (before q (entries_in count bytes)) (from q (entries_in count bytes))
+module _ (q bytes : List ℕ) (is_packed : IsPacked bytes) where
+  pub at_from : bytes ≡ packed (before q (entries_in bytes)) ++ packed (from q (entries_in bytes))
+  at_from = sym is_packed ∙ ap packed (sym (before-from q (entries_in bytes))) ∙ packed-append (before q (entries_in bytes)) (from q (entries_in bytes))
 
-  pub at_behind : (front : List ℕ) × (bytes ≡ front ++ packed (behind q (entries_in count bytes))) × (length (packed (behind q (entries_in count bytes))) ≤ length (packed (from q (entries_in count bytes))))
+  pub at_behind : (front : List ℕ) × (bytes ≡ front ++ packed (behind q (entries_in bytes))) × (length (packed (behind q (entries_in bytes))) ≤ length (packed (from q (entries_in bytes))))
   at_behind =
-      let es : List (List ℕ × List ℕ) = entries_in count bytes in
+      let es : List (List ℕ × List ℕ) = entries_in bytes in
       let one : (one : List (List ℕ × List ℕ)) × (from q es ≡ one ++ behind q es) = from-behind q es in
       let laid : packed (from q es) ≡ packed one.0 ++ packed (behind q es) = ap packed one.1 ∙ packed-append one.0 (behind q es) in (
         packed (before q es) ++ packed one.0,
@@ -279,41 +495,45 @@ module _ (q : List ℕ) (count : ℕ) (bytes : List ℕ) (is_packed : IsPacked c
         omega (arith, ap length laid, length-append (packed one.0) (packed (behind q es))),
       )
 
--- ---- what is packed anew
-
-pub packed_anew : (fs : List (List ℕ × List ℕ)) (count : ℕ) (bytes : List ℕ) → bytes ≡ packed fs → count ≡ length fs → (entries_in count bytes ≡ fs) × IsPacked count bytes
-packed_anew fs count bytes is many =
-    let read : entries_in count bytes ≡ fs = (λ i. entries_in (many i) (is i)) ∙ entries_in-packed fs in
-    (read, ap packed read ∙ sym is)
+-- ---- what is put and cut out
 
 one_more : (there : Bool) (count front back all more : ℕ) → front + cond there 1 0 + back ≡ count → all ≡ front + suc back → more ≡ cond there count (count + 1) → more ≡ all
 one_more true count front back all more counted laid many = omega arith
 one_more false count front back all more counted laid many = omega arith
 
-module _ (q : List ℕ) (count : ℕ) (bytes : List ℕ) (start end : ℕ) (there : Bool) (starts : take start bytes ≡ packed (before q (entries_in count bytes))) (ends : drop end bytes ≡ packed (behind q (entries_in count bytes))) (is_there : there ≡ is_some (value_at q (entries_in count bytes))) where
-  counted : length (before q (entries_in count bytes)) + cond there 1 0 + length (behind q (entries_in count bytes)) ≡ count
-  counted = ap (λ b. length (before q (entries_in count bytes)) + cond b 1 0 + length (behind q (entries_in count bytes))) is_there ∙ length-place q (entries_in count bytes) ∙ length-entries_in count bytes
-
-  pub put_packed : (v : List ℕ) (more : ℕ) (piece new : List ℕ) → piece ≡ packed ((q, v) ∷ []) → new ≡ take start bytes ++ (piece ++ drop end bytes) → more ≡ cond there count (count + 1)
-      → (entries_in more new ≡ put text_cmp q v (entries_in count bytes)) × IsPacked more new
-  put_packed v more piece new entry is many =
-      let es : List (List ℕ × List ℕ) = entries_in count bytes in
+module _ (q bytes : List ℕ) (start end : ℕ) (starts : take start bytes ≡ packed (before q (entries_in bytes))) (ends : drop end bytes ≡ packed (behind q (entries_in bytes))) where
+  pub put_packed : (v piece new : List ℕ) → piece ≡ packed ((q, v) ∷ []) → new ≡ take start bytes ++ (piece ++ drop end bytes)
+      → (entries_in new ≡ put text_cmp q v (entries_in bytes)) × IsPacked new
+  put_packed v piece new entry is =
+      let es : List (List ℕ × List ℕ) = entries_in bytes in
       let fs : List (List ℕ × List ℕ) = before q es ++ (q, v) ∷ behind q es in
       let laid : new ≡ packed fs
       = is ∙ (λ i. starts i ++ (entry i ++ ends i)) ∙ ap (λ l. packed (before q es) ++ l) (sym (packed-append ((q, v) ∷ []) (behind q es))) ∙ sym (packed-append (before q es) ((q, v) ∷ behind q es)) in
-      let count_is : more ≡ length fs = one_more there count (length (before q es)) (length (behind q es)) (length fs) more counted (length-append (before q es) ((q, v) ∷ behind q es)) many in
-      let anew : (entries_in more new ≡ fs) × IsPacked more new = packed_anew fs more new laid count_is in
+      let anew : (entries_in new ≡ fs) × IsPacked new = packed_anew fs new laid in
       (anew.0 ∙ sym (put-place q v es), anew.1)
 
-  pub cut_packed : (left : ℕ) (new : List ℕ) → T (is_sorted text_cmp (entries_in count bytes)) → there ≡ true → new ≡ take start bytes ++ drop end bytes → left ≡ count - 1
-      → (entries_in left new ≡ without q (entries_in count bytes)) × IsPacked left new
-  cut_packed left new h has is many =
-      let es : List (List ℕ × List ℕ) = entries_in count bytes in
+  pub cut_packed : (new : List ℕ) → T (is_sorted text_cmp (entries_in bytes)) → new ≡ take start bytes ++ drop end bytes
+      → (entries_in new ≡ without q (entries_in bytes)) × IsPacked new
+  cut_packed new h is =
+      let es : List (List ℕ × List ℕ) = entries_in bytes in
       let fs : List (List ℕ × List ℕ) = before q es ++ behind q es in
-      let laid : new ≡ packed fs = is ∙ (λ i. starts i ++ ends i) ∙ sym (packed-append (before q es) (behind q es)) in
-      let with_it : length (before q es) + 1 + length (behind q es) ≡ count = ap (λ b. length (before q es) + cond b 1 0 + length (behind q es)) (sym has) ∙ counted in
-      let anew : (entries_in left new ≡ fs) × IsPacked left new = packed_anew fs left new laid (omega (arith, length-append (before q es) (behind q es))) in
+      let anew : (entries_in new ≡ fs) × IsPacked new = packed_anew fs new (is ∙ (λ i. starts i ++ ends i) ∙ sym (packed-append (before q es) (behind q es))) in
       (anew.0 ∙ sym (without-place q es h), anew.1)
+
+-- how many entries there are then
+module _ (q : List ℕ) (es fs : List (List ℕ × List ℕ)) (there : Bool) (is_there : there ≡ is_some (value_at q es)) where
+  counted : length (before q es) + cond there 1 0 + length (behind q es) ≡ length es
+  counted = ap (λ b. length (before q es) + cond b 1 0 + length (behind q es)) is_there ∙ length-place q es
+
+  pub put_count : (v : List ℕ) (count more : ℕ) → fs ≡ put text_cmp q v es → count ≡ length es → more ≡ cond there count (count + 1) → more ≡ length fs
+  put_count v count more is many next =
+      one_more there count (length (before q es)) (length (behind q es)) (length fs) more (counted ∙ sym many)
+      (ap length (is ∙ put-place q v es) ∙ length-append (before q es) ((q, v) ∷ behind q es)) next
+
+  pub cut_count : (count : ℕ) → T (is_sorted text_cmp es) → fs ≡ without q es → count ≡ length es → there ≡ true → count - 1 ≡ length fs
+  cut_count count h is many has =
+      let with_it : length (before q es) + 1 + length (behind q es) ≡ length es = ap (λ b. length (before q es) + cond b 1 0 + length (behind q es)) (sym has) ∙ counted in
+      omega (arith, with_it, ap length (is ∙ without-place q es h), length-append (before q es) (behind q es))
 
 -- ---- how an entry is written
 
@@ -337,17 +557,38 @@ pub short_laid : (n byte : ℕ) (old mid new : List ℕ) → n < 255 → byte �
 short_laid n byte old mid new lt is same written =
     written ∙ (λ i. same i ++ (is i) ∷ []) ∙ ap (λ l. old ++ l) (sym (short_length n lt))
 
--- an entry, written piece by piece
-pub entry_laid : (mark : ℕ) (key value b0 b1 b2 b3 b4 b5 : List ℕ) → b1 ≡ b0 ++ packed_length (length key + 1) → b2 ≡ b1 ++ mark ∷ [] → b3 ≡ b2 ++ key
-    → b4 ≡ b3 ++ packed_length (length value) → b5 ≡ b4 ++ value → b5 ≡ b0 ++ packed ((mark ∷ key, value) ∷ [])
+-- a key of fewer than 255 bytes that isn't a usual one
+pub unusual_packed : (mark byte : ℕ) (key : List ℕ) → None ≡ number_of (mark ∷ key) → length key < 254 → byte ≡ length key + 1 → byte ∷ mark ∷ key ≡ packed_key (mark ∷ key)
 unfolding packed_text
-entry_laid mark key value b0 b1 b2 b3 b4 b5 e1 e2 e3 e4 e5 =
+unusual_packed mark byte key e short is =
+    let count : byte ≡ suc (length key) = omega arith in
+    ap (λ b. b ∷ mark ∷ key) count ∙ ap (λ l. l ++ (mark ∷ key)) (sym (short_length (suc (length key)) (omega arith))) ∙ ap (λ o. packed_as o (mark ∷ key)) e
+
+-- a key, written piece by piece
+pub key_laid : (mark : ℕ) (key b0 b1 b2 b3 : List ℕ) → None ≡ number_of (mark ∷ key) → b1 ≡ b0 ++ packed_length (length key + 1) → b2 ≡ b1 ++ mark ∷ [] → b3 ≡ b2 ++ key → b3 ≡ b0 ++ packed_key (mark ∷ key)
+unfolding packed_text
+key_laid mark key b0 b1 b2 b3 e e1 e2 e3 =
     let one_more : length key + 1 ≡ suc (length key) = omega arith in
     let front : List ℕ = packed_length (suc (length key)) in
-    let value_length : List ℕ = packed_length (length value) in
-    let laid : (((((b0 ++ front) ++ mark ∷ []) ++ key) ++ value_length) ++ value) ≡ b0 ++ ((front ++ (mark ∷ key)) ++ ((value_length ++ value) ++ [])) = simp (append_assoc, append-nil) in
-    e5 ∙ ap (λ l. l ++ value) (e4 ∙ ap (λ l. l ++ value_length) (e3 ∙ ap (λ l. l ++ key) (e2 ∙ ap (λ l. l ++ mark ∷ []) (e1 ∙ ap (λ n. b0 ++ packed_length n) one_more))))
-    ∙ laid
+    let laid : (((b0 ++ front) ++ mark ∷ []) ++ key) ≡ b0 ++ (front ++ (mark ∷ key)) = simp (append_assoc) in
+    e3 ∙ ap (λ l. l ++ key) (e2 ∙ ap (λ l. l ++ mark ∷ []) (e1 ∙ ap (λ n. b0 ++ packed_length n) one_more)) ∙ laid ∙ ap (λ o. b0 ++ packed_as o (mark ∷ key)) e
+
+-- an entry, written piece by piece
+pub entry_laid : (q value b0 b1 b2 b3 : List ℕ) → b1 ≡ b0 ++ packed_key q → b2 ≡ b1 ++ packed_length (length value) → b3 ≡ b2 ++ value → b3 ≡ b0 ++ packed ((q, value) ∷ [])
+unfolding packed_text
+entry_laid q value b0 b1 b2 b3 e1 e2 e3 =
+    let front : List ℕ = packed_key q in
+    let count : List ℕ = packed_length (length value) in
+    let laid : (((b0 ++ front) ++ count) ++ value) ≡ b0 ++ (front ++ ((count ++ value) ++ [])) = simp (append_assoc, append-nil) in
+    e3 ∙ ap (λ l. l ++ value) (e2 ∙ ap (λ l. l ++ count) e1) ∙ laid
+
+pub short_entry_laid : (one two : ℕ) (key value b0 b1 b2 b3 b4 b5 : List ℕ) → b1 ≡ b0 ++ one ∷ [] → b2 ≡ b1 ++ two ∷ [] → b3 ≡ b2 ++ key → b4 ≡ b3 ++ packed_length (length value) → b5 ≡ b4 ++ value
+    → b5 ≡ b0 ++ ((one ∷ two ∷ key) ++ packed_text value)
+unfolding packed_text
+short_entry_laid one two key value b0 b1 b2 b3 b4 b5 e1 e2 e3 e4 e5 =
+    let count : List ℕ = packed_length (length value) in
+    let laid : (((((b0 ++ one ∷ []) ++ two ∷ []) ++ key) ++ count) ++ value) ≡ b0 ++ ((one ∷ two ∷ key) ++ (count ++ value)) = simp (append_assoc) in
+    e5 ∙ ap (λ l. l ++ value) (e4 ∙ ap (λ l. l ++ count) (e3 ∙ ap (λ l. l ++ key) (e2 ∙ ap (λ l. l ++ two ∷ []) e1))) ∙ laid
 
 -- ---- how an entry is written over others
 
@@ -372,11 +613,12 @@ module _ (mark one two start end : ℕ) (key value b0 b1 b2 b3 b4 b5 : List ℕ)
   abbrev past_entry : ℕ
   past_entry = at_value + length value
 
-  pub within_laid : length key + 1 < 255 → length value < 255 → one ≡ length key + 1 → two ≡ length value → past_entry ≤ end → end ≤ length b0
+  pub within_laid : length value < 255 → two ≡ length value → past_entry ≤ end → end ≤ length b0
       → b1 ≡ take start b0 ++ ((one ∷ mark ∷ []) ++ drop at_key b0) → b2 ≡ take at_key b1 ++ (key ++ drop at_length b1)
       → b3 ≡ take at_length b2 ++ ((two ∷ []) ++ drop at_value b2) → b4 ≡ take at_value b3 ++ (value ++ drop past_entry b3)
-      → b5 ≡ take past_entry b4 ++ drop end b4 → b5 ≡ take start b0 ++ (packed ((mark ∷ key, value) ∷ []) ++ drop end b0)
-  within_laid short_key short_value one_is two_is fits in_range e1 e2 e3 e4 e5 =
+      → b5 ≡ take past_entry b4 ++ drop end b4 → b5 ≡ (take start b0 ++ ((one ∷ mark ∷ key) ++ packed_text value)) ++ drop end b0
+  unfolding packed_text
+  within_laid short_value two_is fits in_range e1 e2 e3 e4 e5 =
       let f0 : List ℕ = take start b0 in
       let f1 : List ℕ = f0 ++ (one ∷ mark ∷ []) in
       let f2 : List ℕ = f1 ++ key in
@@ -393,11 +635,10 @@ module _ (mark one two start end : ℕ) (key value b0 b1 b2 b3 b4 b5 : List ℕ)
       let w4 : b4 ≡ f4 ++ drop past_entry b0 = over at_value past_entry value f3 b0 b3 b4 n3 refl w3 e4 in
       let kept : take past_entry b4 ≡ f4 = ap (take past_entry) w4 ∙ take_at f4 (drop past_entry b0) past_entry n4 in
       let rest : drop end b4 ≡ drop end b0 = ap (drop end) w4 ∙ drop-append-drop past_entry b0 f4 end fits n4 in
-      let key_length : one ∷ [] ≡ packed_length (length key + 1) = ap (λ n. n ∷ []) one_is ∙ sym (short_length (length key + 1) short_key) in
       let value_length : two ∷ [] ≡ packed_length (length value) = ap (λ n. n ∷ []) two_is ∙ sym (short_length (length value) short_value) in
-      let front : f1 ≡ (f0 ++ packed_length (length key + 1)) ++ mark ∷ [] = sym (append_assoc f0 (one ∷ []) (mark ∷ [])) ∙ ap (λ l. (f0 ++ l) ++ mark ∷ []) key_length in
-      let entry : f4 ≡ f0 ++ packed ((mark ∷ key, value) ∷ []) = entry_laid mark key value f0 _ f1 f2 f3 f4 refl front refl (ap (λ l. f2 ++ l) value_length) refl in
-      e5 ∙ (λ i. (kept ∙ entry) i ++ rest i) ∙ append_assoc f0 (packed ((mark ∷ key, value) ∷ [])) (drop end b0)
+      let laid : (((f0 ++ (one ∷ mark ∷ [])) ++ key) ++ packed_length (length value)) ++ value ≡ f0 ++ ((one ∷ mark ∷ key) ++ (packed_length (length value) ++ value)) = simp (append_assoc) in
+      let entry : f4 ≡ f0 ++ ((one ∷ mark ∷ key) ++ (packed_length (length value) ++ value)) = ap (λ l. (f2 ++ l) ++ value) value_length ∙ laid in
+      e5 ∙ (λ i. (kept ∙ entry) i ++ rest i)
 
 -- ---- bytes that begin as before
 
@@ -420,18 +661,9 @@ on_err (Err e) p = p
 
 -- ---- the map of packed entries
 
-length-packed_text : (text : List ℕ) → 1 ≤ length (packed_text text)
-unfolding packed_text packed_length
-length-packed_text text = omega (arith, length-append (replicate (length text / 255) 255 ++ (length text % 255) ∷ []) text, length-append (replicate (length text / 255) 255) ((length text % 255) ∷ []))
-
-pub length-packed : (es : List (List ℕ × List ℕ)) → length es ≤ length (packed es)
-length-packed [] = omega arith
-length-packed (e ∷ es) =
-    omega (arith, length-packed es, length-packed_text e.0, length-append (packed_text e.0) (packed_text e.1 ++ packed es), length-append (packed_text e.1) (packed es))
-
 -- there are no more entries than bytes
-pub count_fits : (count : ℕ) (bytes : List ℕ) → IsPacked count bytes → count ≤ length bytes
-count_fits count bytes is_packed = omega (arith, length-entries_in count bytes, length-packed (entries_in count bytes), ap length is_packed)
+pub count_fits : (bytes : List ℕ) → IsPacked bytes → length (entries_in bytes) ≤ length bytes
+count_fits bytes is_packed = omega (arith, length-packed (entries_in bytes), ap length is_packed)
 
 -- a value is got at the place of its key
 pub get-place : (q : List ℕ) (es : List (List ℕ × List ℕ)) → T (is_sorted text_cmp es) → value_at q es ≡ get (from_sorted {R = text_cmp} es) q
@@ -457,6 +689,5 @@ listed f xs ys x rest all e is same so_far =
     ∙ ap (λ y. map f xs ++ y ∷ rest) same ∙ so_far
 
 -- how many entries the map has
-pub len-packed : (count : ℕ) (bytes : List ℕ) (m : FinMap {K = List ℕ} text_cmp (List ℕ)) → T (is_sorted text_cmp (entries_in count bytes)) → from_sorted (entries_in count bytes) ≡ m → count ≡ len m
-len-packed count bytes m h is =
-    sym (length-entries_in count bytes) ∙ ap length (sym (entries-from_sorted text_cmp (entries_in count bytes) h) ∙ ap entries is) ∙ sym (len-entries m)
+pub len-packed : (es : List (List ℕ × List ℕ)) (m : FinMap {K = List ℕ} text_cmp (List ℕ)) → T (is_sorted text_cmp es) → from_sorted es ≡ m → length es ≡ len m
+len-packed es m h is = ap length (sym (entries-from_sorted text_cmp es h) ∙ ap entries is) ∙ sym (len-entries m)

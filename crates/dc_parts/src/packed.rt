@@ -1,9 +1,9 @@
 // Few entries of a map from texts, packed into one piece of memory.
-ghost use Rattle.std.specs.Prelude.{T, ◌≡◌, ◌++◌, ◌∷◌, ◌<◌, ◌≤◌, ◌+◌, ◌-◌, ◌^◌, [], OnOk, OnErr, IfOk, if◌then◌else◌, is_some, not, length, take, drop, map as each};
+ghost use Rattle.std.specs.Prelude.{T, ℕ, List, ◌≡◌, ◌++◌, ◌∷◌, ◌<◌, ◌≤◌, ◌+◌, ◌-◌, ◌^◌, [], OnOk, OnErr, IfOk, if◌then◌else◌, is_some, not, nat_lt, length, take, drop, vec_capacity, map as each};
 ghost use Rattle.std.specs.Option.{option_copied};
 ghost use Rattle.std.specs.FinMap as map;
 ghost use Rattle.dc_text.specs.Maps.{text_cmp};
-ghost use Rattle.dc_parts.specs.Packed.{packed_length, packed_text, packed, length_at, behind_length, text_at, behind_text, HasText, entries_in, IsPacked, IsLast, IsBegunBy, before, from, behind, value_at};
+ghost use Rattle.dc_parts.specs.Packed.{packed_length, packed_text, packed_key, packed, usual_key, number_of, length_at, behind_length, text_at, behind_text, key_at, behind_key, HasText, entries_in, IsPacked, IsPlace, IsBegunBy, before, from, behind, value_at};
 
 use dc_text::Mem;
 use std::alloc::Global;
@@ -67,6 +67,61 @@ fn compare_texts(text: &[u8], other: &[u8]) -> Ordering
     }
 }
 
+// The usual key of a number, with its mark in front.
+fn usual_key(number: u8) -> &'static [u8]
+    ensures { result.now ≡ usual_key number }
+{
+    match number {
+        1 => b"\x00default",
+        2 => b"\x00description",
+        3 => b"\x00extended_description",
+        4 => b"\x00template",
+        5 => b"\x00type",
+        6 => b"\x00value",
+        7 => b"\x02seen",
+        _ => b"",
+    }
+}
+
+// The number of the usual key of this mark, and of this length without it.
+fn number_like(mark: u8, count: usize) -> u8
+    ensures { (key : List ℕ) (number : ℕ) → length key ≡ count → number_of (mark ∷ key) ≡ Some number → result ≡ number }
+{
+    match count {
+        4 => if mark == 2 { 7 } else { 5 },
+        5 => 6,
+        7 => 1,
+        8 => 4,
+        11 => 2,
+        20 => 3,
+        _ => 0,
+    }
+}
+
+// The number of a key, if it is a usual one.
+fn usual_number(mark: u8, key: &[u8]) -> Option<u8>
+    ensures { result ≡ number_of (mark ∷ key.now) }
+{
+    let number = number_like(mark, key.len());
+    if compare(mark, key, usual_key(number)).is_eq() {
+        Some(number)
+    } else {
+        None
+    }
+}
+
+// The key at the front of the bytes, and what stands behind it.
+fn split_key(bytes: &[u8]) -> (&[u8], &[u8])
+    requires { HasText bytes.now }
+    ensures key { result.0.now ≡ key_at bytes.now }
+    ensures rest { result.1.now ≡ behind_key bytes.now }
+{
+    match bytes {
+        [0, number, rest @ ..] => (usual_key(*number), rest),
+        _ => split_text(bytes),
+    }
+}
+
 // The place of a key among packed entries, whether it is there or not.
 #[derive(Clone, Copy)]
 struct Place<'a> {
@@ -78,17 +133,16 @@ struct Place<'a> {
     value: Option<&'a [u8]>,
 }
 
-// The place of the key among so many packed entries.
-fn place_of<'a>(bytes: &'a [u8], count: usize, mark: u8, key: &[u8]) -> Place<'a>
-    requires { IsPacked count bytes.now }
-    ensures from { result.from.now ≡ packed (from (mark ∷ key.now) (entries_in count bytes.now)) }
-    ensures behind { result.behind.now ≡ packed (behind (mark ∷ key.now) (entries_in count bytes.now)) }
-    ensures value { option_copied result.value ≡ value_at (mark ∷ key.now) (entries_in count bytes.now) }
+// The place of the key among packed entries.
+fn place_of<'a>(bytes: &'a [u8], mark: u8, key: &[u8]) -> Place<'a>
+    requires { IsPacked bytes.now }
+    ensures from { result.from.now ≡ packed (from (mark ∷ key.now) (entries_in bytes.now)) }
+    ensures behind { result.behind.now ≡ packed (behind (mark ∷ key.now) (entries_in bytes.now)) }
+    ensures value { option_copied result.value ≡ value_at (mark ∷ key.now) (entries_in bytes.now) }
 {
-    let mut left = count;
     let mut rest = bytes;
-    while 0 < left {
-        let (entry_key, behind_key) = split_text(rest);
+    while !rest.is_empty() {
+        let (entry_key, behind_key) = split_key(rest);
         let (value, behind) = split_text(behind_key);
         match compare(mark, key, entry_key) {
             Ordering::Less => return Place {
@@ -101,10 +155,7 @@ fn place_of<'a>(bytes: &'a [u8], count: usize, mark: u8, key: &[u8]) -> Place<'a
                 behind,
                 value: Some(value),
             },
-            Ordering::Greater => {
-                rest = behind;
-                left -= 1;
-            }
+            Ordering::Greater => rest = behind,
         }
     }
     Place {
@@ -112,6 +163,43 @@ fn place_of<'a>(bytes: &'a [u8], count: usize, mark: u8, key: &[u8]) -> Place<'a
         behind: rest,
         value: None,
     }
+}
+
+// The same, where mostly no entry is.
+fn place_behind<'a>(bytes: &'a [u8], mark: u8, key: &[u8]) -> Place<'a>
+    requires { IsPacked bytes.now }
+    ensures from { result.from.now ≡ packed (from (mark ∷ key.now) (entries_in bytes.now)) }
+    ensures behind { result.behind.now ≡ packed (behind (mark ∷ key.now) (entries_in bytes.now)) }
+    ensures value { option_copied result.value ≡ value_at (mark ∷ key.now) (entries_in bytes.now) }
+{
+    if bytes.is_empty() {
+        return Place {
+            from: bytes,
+            behind: bytes,
+            value: None,
+        };
+    }
+    place_of(bytes, mark, key)
+}
+
+// The same, where an entry begins at the finger, or the end of the bytes is there. Mostly the key comes right behind that entry.
+fn place_near<'a>(bytes: &'a [u8], finger: usize, mark: u8, key: &[u8]) -> Place<'a>
+    requires packed { IsPacked bytes.now }
+    requires sorted { T (map.is_sorted text_cmp (entries_in bytes.now)) }
+    requires finger { IsPlace finger (entries_in bytes.now) }
+    ensures from { result.from.now ≡ packed (from (mark ∷ key.now) (entries_in bytes.now)) }
+    ensures behind { result.behind.now ≡ packed (behind (mark ∷ key.now) (entries_in bytes.now)) }
+    ensures value { option_copied result.value ≡ value_at (mark ∷ key.now) (entries_in bytes.now) }
+{
+    let (_, from_finger) = bytes.split_at(finger);
+    if !from_finger.is_empty() {
+        let (finger_key, behind_key) = split_key(from_finger);
+        if let Ordering::Greater = compare(mark, key, finger_key) {
+            let (_, behind) = split_text(behind_key);
+            return place_behind(behind, mark, key);
+        }
+    }
+    place_of(bytes, mark, key)
 }
 
 // Where the bytes of the entries before a key end, where those of the entries behind it begin, and whether it is there.
@@ -122,45 +210,22 @@ struct Span {
     is_there: bool,
 }
 
-fn span_of(bytes: &[u8], count: usize, mark: u8, key: &[u8]) -> Span
-    requires { IsPacked count bytes.now }
-    ensures start { take result.start bytes.now ≡ packed (before (mark ∷ key.now) (entries_in count bytes.now)) }
-    ensures end { drop result.end bytes.now ≡ packed (behind (mark ∷ key.now) (entries_in count bytes.now)) }
+fn span_of(bytes: &[u8], finger: usize, mark: u8, key: &[u8]) -> Span
+    requires packed { IsPacked bytes.now }
+    requires sorted { T (map.is_sorted text_cmp (entries_in bytes.now)) }
+    requires finger { IsPlace finger (entries_in bytes.now) }
+    ensures start { take result.start bytes.now ≡ packed (before (mark ∷ key.now) (entries_in bytes.now)) }
+    ensures end { drop result.end bytes.now ≡ packed (behind (mark ∷ key.now) (entries_in bytes.now)) }
     ensures ordered { result.start ≤ result.end }
     ensures in_range { result.end ≤ length bytes.now }
-    ensures is_there { result.is_there ≡ is_some (value_at (mark ∷ key.now) (entries_in count bytes.now)) }
+    ensures is_there { result.is_there ≡ is_some (value_at (mark ∷ key.now) (entries_in bytes.now)) }
 {
-    let place = place_of(bytes, count, mark, key);
+    let place = place_near(bytes, finger, mark, key);
     Span {
         start: bytes.len() - place.from.len(),
         end: bytes.len() - place.behind.len(),
         is_there: place.value.is_some(),
     }
-}
-
-// The span of a key to be put. Mostly it is above all others, which the last entry tells, where it is known how many bytes that takes.
-fn span_to_put(bytes: &[u8], count: usize, last: usize, mark: u8, key: &[u8]) -> Span
-    requires packed { IsPacked count bytes.now }
-    requires sorted { T (map.is_sorted text_cmp (entries_in count bytes.now)) }
-    requires last { IsLast last (entries_in count bytes.now) }
-    ensures start { take result.start bytes.now ≡ packed (before (mark ∷ key.now) (entries_in count bytes.now)) }
-    ensures end { drop result.end bytes.now ≡ packed (behind (mark ∷ key.now) (entries_in count bytes.now)) }
-    ensures ordered { result.start ≤ result.end }
-    ensures in_range { result.end ≤ length bytes.now }
-    ensures is_there { result.is_there ≡ is_some (value_at (mark ∷ key.now) (entries_in count bytes.now)) }
-{
-    if 0 < last {
-        let (_, entry) = bytes.split_at(bytes.len() - last);
-        let (last_key, _) = split_text(entry);
-        if let Ordering::Greater = compare(mark, key, last_key) {
-            return Span {
-                start: bytes.len(),
-                end: bytes.len(),
-                is_there: false,
-            };
-        }
-    }
-    span_of(bytes, count, mark, key)
 }
 
 // Puts a length behind the bytes. Where memory runs out, part of it may stand there.
@@ -183,7 +248,9 @@ fn room_for(key: usize, value: usize) -> usize {
 
 // How much room is made behind so many bytes for an entry that takes so many: at first as much as most items take, so that one
 // that grows entry by entry isn't moved for each.
-fn room_behind(count: usize, entry: usize) -> usize {
+fn room_behind(count: usize, entry: usize) -> usize
+    ensures { entry ≤ result }
+{
     if count == 0 {
         entry.max(USUAL_ROOM)
     } else {
@@ -191,41 +258,86 @@ fn room_behind(count: usize, entry: usize) -> usize {
     }
 }
 
+// A key of fewer than 255 bytes as it is packed: its first two bytes, and the rest of them.
+#[derive(Clone, Copy)]
+struct ShortKey<'a> {
+    first: u8,
+    second: u8,
+    rest: &'a [u8],
+}
+
+fn short_key<'a>(mark: u8, key: &'a [u8]) -> ShortKey<'a>
+    requires { length key.now < 254 }
+    ensures packed { result.first ∷ result.second ∷ result.rest.now ≡ packed_key (mark ∷ key.now) }
+    ensures short { length result.rest.now < 254 }
+{
+    match usual_number(mark, key) {
+        Some(number) => ShortKey {
+            first: 0,
+            second: number,
+            rest: b"",
+        },
+        None => ShortKey {
+            first: (key.len() + 1) as u8,
+            second: mark,
+            rest: key,
+        },
+    }
+}
+
+// Puts a text behind the bytes, which have room for it. Often it is empty: what a usual key leaves, or the value of an owner or a flag.
+fn append_reserved(bytes: &mut Vec<u8>, text: &[u8])
+    requires room { length bytes.old.items + length text.now ≤ vec_capacity bytes.old }
+    ensures items { bytes.new.items ≡ bytes.old.items ++ text.now }
+    ensures capacity { vec_capacity bytes.old ≤ vec_capacity bytes.new }
+{
+    if text.is_empty() {
+        return;
+    }
+    match bytes.extend_from_slice(text) {
+        Ok(()) => {}
+        Err(_) => unreachable!(),
+    }
+}
+
+// Puts an entry of which each length takes one byte behind the bytes, as those of most do.
+fn push_short(bytes: &mut Vec<u8>, key: ShortKey, value: &[u8]) -> Mem<()>
+    requires key { length key.rest.now < 254 }
+    requires value { length value.now < 255 }
+    ensures ok { OnOk result (bytes.new.items ≡ bytes.old.items ++ ((key.entry.first ∷ key.entry.second ∷ key.entry.rest.now) ++ packed_text value.now)) }
+    ensures err { OnErr result (bytes.new.items ≡ bytes.old.items) }
+{
+    bytes.reserve(room_behind(bytes.len(), key.rest.len() + value.len() + 3))?;
+    bytes.push_reserved(key.first);
+    bytes.push_reserved(key.second);
+    append_reserved(bytes, key.rest);
+    bytes.push_reserved(value.len() as u8);
+    append_reserved(bytes, value);
+    Ok(())
+}
+
+// Writes a key behind the bytes. Where memory runs out, part of it may stand there.
+fn write_key(bytes: &mut Vec<u8>, mark: u8, key: &[u8]) -> Mem<()>
+    ensures ok { OnOk result (bytes.new.items ≡ bytes.old.items ++ packed_key (mark ∷ key.now)) }
+    ensures err { OnErr result (IsBegunBy bytes.old.items bytes.new.items) }
+{
+    match usual_number(mark, key) {
+        Some(number) => bytes.extend_from_slice(&[0, number])?,
+        None => {
+            push_length(bytes, key.len() + 1)?;
+            bytes.push(mark)?;
+            bytes.extend_from_slice(key)?;
+        }
+    }
+    Ok(())
+}
+
 // Writes an entry behind the bytes. Where memory runs out, part of it may stand there.
 fn write_entry(bytes: &mut Vec<u8>, mark: u8, key: &[u8], value: &[u8]) -> Mem<()>
     ensures ok { OnOk result (bytes.new.items ≡ bytes.old.items ++ packed ((mark ∷ key.now, value.now) ∷ [])) }
     ensures err { OnErr result (IsBegunBy bytes.old.items bytes.new.items) }
 {
-    if key.len() < 254 && value.len() < 255 {
-        write_short_entry(bytes, mark, key, value)
-    } else {
-        write_long_entry(bytes, mark, key, value)
-    }
-}
-
-// Writes an entry of which each length takes one byte, as those of most do.
-fn write_short_entry(bytes: &mut Vec<u8>, mark: u8, key: &[u8], value: &[u8]) -> Mem<()>
-    requires key { length key.now < 254 }
-    requires value { length value.now < 255 }
-    ensures ok { OnOk result (bytes.new.items ≡ bytes.old.items ++ packed ((mark ∷ key.now, value.now) ∷ [])) }
-    ensures err { OnErr result (IsBegunBy bytes.old.items bytes.new.items) }
-{
-    bytes.reserve(key.len() + value.len() + 3)?;
-    bytes.push_reserved((key.len() + 1) as u8);
-    bytes.push_reserved(mark);
-    bytes.extend_from_slice(key)?;
-    bytes.push_reserved(value.len() as u8);
-    bytes.extend_from_slice(value)?;
-    Ok(())
-}
-
-fn write_long_entry(bytes: &mut Vec<u8>, mark: u8, key: &[u8], value: &[u8]) -> Mem<()>
-    ensures ok { OnOk result (bytes.new.items ≡ bytes.old.items ++ packed ((mark ∷ key.now, value.now) ∷ [])) }
-    ensures err { OnErr result (IsBegunBy bytes.old.items bytes.new.items) }
-{
-    push_length(bytes, key.len() + 1)?;
-    bytes.push(mark)?;
-    bytes.extend_from_slice(key)?;
+    write_key(bytes, mark, key)?;
     push_length(bytes, value.len())?;
     bytes.extend_from_slice(value)?;
     Ok(())
@@ -282,18 +394,18 @@ fn write_at(bytes: &mut Vec<u8>, at: usize, text: &[u8])
 
 // Puts an entry of which each length takes one byte in the place of the bytes from the start to the end, which are no fewer than it
 // takes. It takes no memory.
-fn put_within(bytes: &mut Vec<u8>, span: Span, mark: u8, key: &[u8], value: &[u8])
-    requires key { length key.now < 254 }
+fn put_within(bytes: &mut Vec<u8>, span: Span, key: ShortKey, value: &[u8])
     requires value { length value.now < 255 }
-    requires fits { span.start + length key.now + length value.now + 3 ≤ span.end }
+    requires fits { span.start + length key.rest.now + length value.now + 3 ≤ span.end }
     requires in_range { span.end ≤ length bytes.old.items }
-    ensures { bytes.new.items ≡ take span.start bytes.old.items ++ (packed ((mark ∷ key.now, value.now) ∷ []) ++ drop span.end bytes.old.items) }
+    ensures { bytes.new.items ≡ take span.start bytes.old.items ++ ((key.entry.first ∷ key.entry.second ∷ key.entry.rest.now) ++ packed_text value.now) ++ drop span.end bytes.old.items }
 {
-    let at_key = span.start + 2;
-    let at_value = at_key + key.len() + 1;
-    write_at(bytes, span.start, &[(key.len() + 1) as u8, mark]);
-    write_at(bytes, at_key, key);
-    write_at(bytes, at_key + key.len(), &[value.len() as u8]);
+    let at_rest = span.start + 2;
+    let at_length = at_rest + key.rest.len();
+    let at_value = at_length + 1;
+    write_at(bytes, span.start, &[key.first, key.second]);
+    write_at(bytes, at_rest, key.rest);
+    write_at(bytes, at_length, &[value.len() as u8]);
     write_at(bytes, at_value, value);
     cut_out(bytes, at_value + value.len(), span.end);
 }
@@ -308,24 +420,49 @@ fn open_gap(bytes: &mut Vec<u8>, end: usize, more: usize) -> Mem<()>
     ensures err { OnErr result (bytes.new.items ≡ bytes.old.items) }
 {
     let len = bytes.len();
+    if len - end <= more {
+        return repeat_behind(bytes, end, end + more);
+    }
     bytes.resize(len + more, 0)?;
     bytes.copy_within(end..len, end + more);
     Ok(())
 }
 
+// Puts what stands from the end on once more, from a place that is behind all of it.
+fn repeat_behind(bytes: &mut Vec<u8>, end: usize, to: usize) -> Mem<()>
+    requires in_range { end ≤ length bytes.old.items }
+    requires behind { length bytes.old.items ≤ to }
+    requires few { to ≤ length bytes.old.items + 512 }
+    ensures front { OnOk result (take end bytes.new.items ≡ take end bytes.old.items) }
+    ensures rest { OnOk result (drop to bytes.new.items ≡ drop end bytes.old.items) }
+    ensures count { OnOk result (length bytes.new.items + end ≡ length bytes.old.items + to) }
+    ensures err { OnErr result (bytes.new.items ≡ bytes.old.items) }
+{
+    let len = bytes.len();
+    bytes.reserve(to - end)?;
+    match bytes.resize(to, 0) {
+        Ok(()) => {}
+        Err(_) => unreachable!(),
+    }
+    match bytes.extend_from_within(end..len) {
+        Ok(()) => Ok(()),
+        Err(_) => unreachable!(),
+    }
+}
+
 // Puts an entry of which each length takes one byte in the place of the bytes from the start to the end: what stands behind them moves
 // once.
-fn put_short(bytes: &mut Vec<u8>, span: Span, mark: u8, key: &[u8], value: &[u8]) -> Mem<()>
-    requires key { length key.now < 254 }
+fn put_short(bytes: &mut Vec<u8>, span: Span, key: ShortKey, value: &[u8]) -> Mem<()>
+    requires key { length key.rest.now < 254 }
     requires value { length value.now < 255 }
     requires ordered { span.start ≤ span.end }
     requires in_range { span.end ≤ length bytes.old.items }
-    ensures ok { OnOk result (bytes.new.items ≡ take span.start bytes.old.items ++ (packed ((mark ∷ key.now, value.now) ∷ []) ++ drop span.end bytes.old.items)) }
+    ensures ok { OnOk result (bytes.new.items ≡ take span.start bytes.old.items ++ ((key.entry.first ∷ key.entry.second ∷ key.entry.rest.now) ++ packed_text value.now) ++ drop span.end bytes.old.items) }
     ensures err { OnErr result (bytes.new.items ≡ bytes.old.items) }
 {
-    let end = span.start + key.len() + value.len() + 3;
+    let end = span.start + key.rest.len() + value.len() + 3;
     if end <= span.end {
-        put_within(bytes, span, mark, key, value);
+        put_within(bytes, span, key, value);
         return Ok(());
     }
     open_gap(bytes, span.end, end - span.end)?;
@@ -334,7 +471,7 @@ fn put_short(bytes: &mut Vec<u8>, span: Span, mark: u8, key: &[u8], value: &[u8]
         end,
         is_there: span.is_there,
     };
-    put_within(bytes, wider, mark, key, value);
+    put_within(bytes, wider, key, value);
     Ok(())
 }
 
@@ -347,8 +484,13 @@ fn put_between(bytes: &mut Vec<u8>, span: Span, mark: u8, key: &[u8], value: &[u
     ensures err { OnErr result (bytes.new.items ≡ bytes.old.items) }
 {
     let before = bytes.len();
-    if span.start < before && key.len() < 254 && value.len() < 255 {
-        return put_short(bytes, span, mark, key, value);
+    if key.len() < 254 && value.len() < 255 {
+        let key = short_key(mark, key);
+        return if span.start < before {
+            put_short(bytes, span, key, value)
+        } else {
+            push_short(bytes, key, value)
+        };
     }
     let room = room_for(key.len(), value.len()).saturating_add(before - span.end);
     bytes.reserve(room_behind(before, room))?;
@@ -365,62 +507,65 @@ fn put_between(bytes: &mut Vec<u8>, span: Span, mark: u8, key: &[u8], value: &[u
 }
 
 // How many entries there are when one is put, if its key is there or not.
-fn count_with(count: usize, is_there: bool) -> usize
-    requires { count + 1 ≤ 2 ^ 63 }
+fn count_with(count: u8, is_there: bool) -> u8
+    requires { count < 255 }
     ensures { result ≡ (if is_there then count else count + 1) }
 {
     if is_there { count } else { count + 1 }
 }
 
-// How many bytes the last entry takes after a change at the end, which leaves so many there, or before it.
-fn last_with(last: usize, is_at_end: bool, at_end: usize) -> usize
-    ensures { result ≡ (if is_at_end then at_end else last) }
+// A place as a finger: where it doesn't fit, the front.
+fn finger_at(place: usize) -> u32
+    ensures { result ≡ (if nat_lt place (2 ^ 32) then place else 0) }
 {
-    if is_at_end { at_end } else { last }
+    if place < 0x1_0000_0000 {
+        place as u32
+    } else {
+        0
+    }
 }
 
-// So many packed entries as a list.
+// Packed entries, of which there are so many, as a list.
 fn entries_of<'a>(alloc: Global, bytes: &'a [u8], count: usize) -> Mem<Vec<(&'a [u8], &'a [u8])>>
-    requires { IsPacked count bytes.now }
-    ensures { IfOk result (λ es. each (λ e. (e.0.now, e.1.now)) es.items ≡ entries_in count bytes.now) }
+    requires { IsPacked bytes.now }
+    ensures { IfOk result (λ es. each (λ e. (e.0.now, e.1.now)) es.items ≡ entries_in bytes.now) }
 {
     let mut entries = Vec::with_capacity(alloc, count)?;
-    let mut left = count;
     let mut rest = bytes;
-    while 0 < left {
-        let (key, behind_key) = split_text(rest);
+    while !rest.is_empty() {
+        let (key, behind_key) = split_key(rest);
         let (value, behind) = split_text(behind_key);
         entries.push((key, value))?;
         rest = behind;
-        left -= 1;
     }
     Ok(entries)
 }
 
 /// Entries of a map from texts, in byte order of the keys, packed into one piece of memory. To find a key is to go over those
-/// before it, but for one above all others, which is known from the last entry.
+/// before it. To put one above that which was put last is to go on behind that.
 #[derive(Drop)]
 pub(crate) struct Packed {
-    count: usize,
-    // How many bytes the last entry takes, or 0 where that isn't known.
-    last: usize,
+    // There are few entries, so that their count takes little.
+    count: u8,
+    // Where the entry begins that was put last, or 0.
+    finger: u32,
     bytes: Vec<u8>,
 }
 
 impl Model for Packed {
-    ghost use Rattle.std.specs.Prelude.{T, List, ℕ};
+    ghost use Rattle.std.specs.Prelude.{T, List, ℕ, ◌≡◌, length};
     ghost use Rattle.std.specs.FinMap as map;
     ghost use Rattle.std.specs.Coded.{coded_ℕ, coded_list};
     ghost use Rattle.dc_text.specs.Maps.{text_cmp};
-    ghost use Rattle.dc_parts.specs.Packed.{entries_in, IsPacked, IsLast};
+    ghost use Rattle.dc_parts.specs.Packed.{entries_in, IsPacked, IsPlace};
 
     ghost Value = { map.FinMap text_cmp (List ℕ) };
 
     ghost coded = { map.code (coded_list coded_ℕ) (coded_list coded_ℕ) };
 
-    ghost view = { λ p. map.from_sorted (entries_in p.count p.bytes.items) };
+    ghost view = { λ p. map.from_sorted (entries_in p.bytes.items) };
 
-    ghost invariant = { λ p. IsPacked p.count p.bytes.items × T (map.is_sorted text_cmp (entries_in p.count p.bytes.items)) × IsLast p.last (entries_in p.count p.bytes.items) };
+    ghost invariant = { λ p. IsPacked p.bytes.items × T (map.is_sorted text_cmp (entries_in p.bytes.items)) × (p.count ≡ length (entries_in p.bytes.items)) × IsPlace p.finger (entries_in p.bytes.items) };
 }
 
 impl Packed {
@@ -430,7 +575,7 @@ impl Packed {
     {
         Packed {
             count: 0,
-            last: 0,
+            finger: 0,
             bytes: Vec::new(alloc),
         }
     }
@@ -439,35 +584,35 @@ impl Packed {
     pub(crate) fn get(&self, mark: u8, key: &[u8]) -> Option<&[u8]>
         ensures { option_copied result ≡ map.get self.now (mark ∷ key.now) }
     {
-        place_of(&self.bytes, self.count, mark, key).value
+        place_of(&self.bytes, mark, key).value
     }
 
     /// Puts the value at the key, in the place of one that stood there.
     pub(crate) fn insert(&mut self, mark: u8, key: &[u8], value: &[u8]) -> Mem<()>
+        requires { map.len self.old < 255 }
         ensures ok { OnOk result (self.new ≡ map.insert self.old (mark ∷ key.now) value.now) }
         ensures err { OnErr result (self.new ≡ self.old) }
     {
-        let span = span_to_put(&self.bytes, self.count, self.last, mark, key);
-        let is_at_end = span.end == self.bytes.len();
+        let span = span_of(&self.bytes, self.finger as usize, mark, key);
         put_between(&mut self.bytes, span, mark, key, value)?;
-        self.last = last_with(self.last, is_at_end, self.bytes.len() - span.start);
+        self.finger = finger_at(span.start);
         self.count = count_with(self.count, span.is_there);
         Ok(())
     }
 
     /// Puts the value at a key that isn't there, and answers whether it wasn't.
     pub(crate) fn insert_new(&mut self, mark: u8, key: &[u8], value: &[u8]) -> Mem<bool>
+        requires { map.len self.old < 255 }
         ensures new { IfOk result (λ is_new. is_new ≡ not (map.contains_key self.old (mark ∷ key.now))) }
         ensures put { IfOk result (λ is_new. self.new ≡ (if is_new then map.insert self.old (mark ∷ key.now) value.now else self.old)) }
         ensures err { OnErr result (self.new ≡ self.old) }
     {
-        let span = span_to_put(&self.bytes, self.count, self.last, mark, key);
+        let span = span_of(&self.bytes, self.finger as usize, mark, key);
         if span.is_there {
             return Ok(false);
         }
-        let is_at_end = span.end == self.bytes.len();
         put_between(&mut self.bytes, span, mark, key, value)?;
-        self.last = last_with(self.last, is_at_end, self.bytes.len() - span.start);
+        self.finger = finger_at(span.start);
         self.count = count_with(self.count, false);
         Ok(true)
     }
@@ -476,10 +621,10 @@ impl Packed {
     pub(crate) fn remove(&mut self, mark: u8, key: &[u8])
         ensures { self.new ≡ map.remove self.old (mark ∷ key.now) }
     {
-        let span = span_of(&self.bytes, self.count, mark, key);
+        let span = span_of(&self.bytes, self.finger as usize, mark, key);
         if span.is_there {
-            self.last = last_with(self.last, span.end == self.bytes.len(), 0);
             cut_out(&mut self.bytes, span.start, span.end);
+            self.finger = 0;
             self.count -= 1;
         }
     }
@@ -492,7 +637,7 @@ impl Packed {
     {
         let taken = self.copy()?;
         self.count = 0;
-        self.last = 0;
+        self.finger = 0;
         self.bytes.clear();
         Ok(taken)
     }
@@ -501,7 +646,7 @@ impl Packed {
     pub(crate) fn entries(&self) -> Mem<Vec<(&[u8], &[u8])>>
         ensures { IfOk result (λ es. each (λ e. (e.0.now, e.1.now)) es.items ≡ map.entries self.now) }
     {
-        let entries = entries_of(*self.bytes.allocator(), &self.bytes, self.count)?;
+        let entries = entries_of(*self.bytes.allocator(), &self.bytes, self.count as usize)?;
         Ok(entries)
     }
 
@@ -509,7 +654,7 @@ impl Packed {
     pub(crate) fn len(&self) -> usize
         ensures { result ≡ map.len self.now }
     {
-        self.count
+        self.count as usize
     }
 
     /// The allocator of the bytes.
@@ -523,7 +668,7 @@ impl Packed {
     {
         Ok(Packed {
             count: self.count,
-            last: self.last,
+            finger: self.finger,
             bytes: self.bytes.clone()?,
         })
     }

@@ -5,7 +5,7 @@ use Rattle.dc_item.proofs.reader.put_variable.Goals as goal
 
 -- without a backslash the value is settled as it stands
 pub put_new_variable-requires : goal.put_new_variable-requires
-put_new_variable-requires c = ap is_settled (sym (settled-none c.args.value.now c.in-None.ensures)) ∙ is_settled-settled c.args.value.now
+put_new_variable-requires c = ap is_settled (sym (settled-none c.args.value.now (c.requires c.if-is_plain.true))) ∙ is_settled-settled c.args.value.now
 
-pub returns-in-None-clause-put : goal.returns-in-None-clause-put
-returns-in-None-clause-put c = rw (settled-none c.args.value.now c.in-None.ensures) c.put_new_variable.ensures.put
+pub returns-then-is_plain-clause-put : goal.returns-then-is_plain-clause-put
+returns-then-is_plain-clause-put c = rw (settled-none c.args.value.now (c.requires c.if-is_plain.true)) c.put_new_variable.ensures.put

@@ -8,6 +8,6 @@ returns c =
     let b2 = c.write_at-2.new.bytes.items in
     let b3 = c.write_at-3.new.bytes.items in
     let b4 = c.write_at-4.new.bytes.items in
-    within_laid c.args.mark _ _ c.args.span.start c.args.span.end c.args.key.now c.args.value.now c.args.bytes.now.items b1 b2 b3 b4 c.cut_out.new.bytes.items
-    (omega arith) (omega arith) (search rules) (search rules) (omega arith) (omega arith)
+    within_laid c.args.key.second c.args.key.first _ c.args.span.start c.args.span.end c.args.key.rest.now c.args.value.now c.args.bytes.now.items b1 b2 b3 b4 c.cut_out.new.bytes.items
+    (omega arith) (search rules) (omega arith) (omega arith)
     c.write_at.ensures c.write_at-2.ensures c.write_at-3.ensures c.write_at-4.ensures c.cut_out.ensures

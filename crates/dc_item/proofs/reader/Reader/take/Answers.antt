@@ -1,9 +1,11 @@
-use Rattle.std.proofs.Common.{◌≡◌, Some, None, cond, sym, ◌∙◌, subst}
+use Rattle.std.proofs.Common.{◌≡◌, Some, None, cond, sym, ap, ◌∙◌, subst}
 use Rattle.std.specs.Prelude.{IfOk}
-use Rattle.dc_item.proofs.FurtherLines.{indented_goes_on}
+use Rattle.dc_item.specs.Grammar.{line_said}
+use Rattle.dc_item.specs.Reader.{step}
+use Rattle.dc_item.proofs.FurtherLines.{usual_said}
 use Rattle.dc_item.proofs.reader.Reader.take.Goals as goal
 
-pub returns-then-is_indented : goal.returns-then-is_indented
-returns-then-is_indented c =
-    subst (λ s. IfOk c.add_indented.result (λ stands. s ≡ cond stands (Some c.add_indented.new.self) None))
-    (sym (indented_goes_on c.args.self.now c.args.number c.args.line.now (sym c.is_blank.ensures ∙ c.if-is_blank.false) (sym c.is_indented.ensures ∙ c.if-is_indented.true))) c.add_indented.ensures
+pub returns-in-Some : goal.returns-in-Some
+returns-in-Some c =
+    subst (λ said. IfOk c.take_usual.result (λ stands. step c.args.self.now c.args.number said ≡ cond stands (Some c.take_usual.new.self) None))
+    (sym (ap line_said c.in-Some.ensures ∙ usual_said c.in-Some.head c.in-Some.rest.now)) c.take_usual.ensures

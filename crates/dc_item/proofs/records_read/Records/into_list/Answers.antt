@@ -11,11 +11,11 @@ loop-key-init c =
     let entries = c.self.inside.items.entries in
     let all = c.into_iter-key-iterator.ensures.into_iter_gives.0 in
     record {
-      as_many = omega (arith, ap length c.new-list.ensures, ap length all, c.self.invariant.0.as_many, length-seen (λ k. k.items) entries);
-      named = ap (λ es. list_all is_name (names_in (seen (λ k. k.items) es))) all ∙ c.self.invariant.0.named;
-      so_far = (λ i. c.new-list.ensures i ++ with_lines (seen (λ k. k.items) (all i)) (drop (length (c.new-list.ensures i)) c.self.inside.lines.items)) ∙ c.self.view_is;
+      as_many = omega (arith, ap length c.new-list.ensures, ap length all, c.self.invariant.0.as_many, length-seen (λ k. k.text) entries);
+      named = ap (λ es. list_all is_name (names_in (seen (λ k. k.text) es))) all ∙ c.self.invariant.0.named;
+      so_far = (λ i. c.new-list.ensures i ++ with_lines (seen (λ k. k.text) (all i)) (drop (length (c.new-list.ensures i)) c.self.inside.lines.items)) ∙ c.self.view_is;
     }
 
 pub name_of-requires : goal.name_of-requires
 name_of-requires c =
-    ap is_name c.deref.ensures.value ∙ first_named (λ k. k.items) c.loop-key.key-iterator c.next.new.self c.in-Some.key c.in-Some.item c.in-Some.ensures.steps c.loop-key.invariant.named
+    ap is_name c.bytes.ensures ∙ first_named (λ k. k.text) c.loop-key.key-iterator c.next.new.self c.in-Some.key c.in-Some.item c.in-Some.ensures.steps c.loop-key.invariant.named

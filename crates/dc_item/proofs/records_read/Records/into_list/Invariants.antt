@@ -8,6 +8,6 @@ use Rattle.dc_item.proofs.records_read.Records.into_list.Given as goal
 abbrev pub invariant-loop-key : goal.invariant-loop-key
 invariant-loop-key l = record {
   as_many : length l.list + length l.key-iterator ≡ length l.lines.items;
-  named : list_all is_name (names_in (seen (λ k. k.items) l.key-iterator)) ≡ true;
-  so_far : l.list ++ with_lines (seen (λ k. k.items) l.key-iterator) (drop (length l.list) l.lines.items) ≡ l.fn.self;
+  named : list_all is_name (names_in (seen (λ k. k.text) l.key-iterator)) ≡ true;
+  so_far : l.list ++ with_lines (seen (λ k. k.text) l.key-iterator) (drop (length l.list) l.lines.items) ≡ l.fn.self;
 }

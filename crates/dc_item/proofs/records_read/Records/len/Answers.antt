@@ -5,5 +5,5 @@ use Rattle.dc_item.proofs.records_read.Records.len.Goals as goal
 
 pub returns : goal.returns
 returns c =
-    c.len.ensures.len ∙ sym (length-map c.self.inside.items.entries (λ e. (e.0.items, e.1)))
+    c.len.ensures.len ∙ sym (length-map c.self.inside.items.entries (λ e. (e.0.text, e.1)))
     ∙ sym (length-with_lines _ c.self.inside.lines.items c.self.invariant.0.as_many) ∙ ap length c.self.view_is

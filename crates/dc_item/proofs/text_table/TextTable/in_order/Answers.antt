@@ -16,6 +16,6 @@ returns g c =
     let ranks = ranks_by nat_list_cmp_total (λ e. e.0.now) in
     let answers = always_returns_same _ (λ a r. is_lt r ≡ is_lt (text_cmp a.0.now.0.now a.1.0.now.0.now)) _ (λ a r f k. search rules) in
     let listed = sym (append-nil (shown (λ k. k.now) (λ v. v.now) c.loop-key.order.items))
-    ∙ ap (λ l. shown (λ k. k.now) (λ v. v.now) c.loop-key.order.items ++ seen (λ k. k.items) l) (sym c.in-None.ensures.steps.0) ∙ facts.so_far in
-    sorted_entries (λ k. k.items) (λ k. k.now) (λ v. v.now) c.into_iter-key-iterator.result c.loop-key.order.items c.sort_by.new.self.items c.args.self.now listed facts.distinct facts.all
+    ∙ ap (λ l. shown (λ k. k.now) (λ v. v.now) c.loop-key.order.items ++ seen (λ k. k.text) l) (sym c.in-None.ensures.steps.0) ∙ facts.so_far in
+    sorted_entries (λ k. k.text) (λ k. k.now) (λ v. v.now) c.into_iter-key-iterator.result c.loop-key.order.items c.sort_by.new.self.items c.args.self.now listed facts.distinct facts.all
     c.in_ok-sort_by.ensures.permutation (c.in_ok-sort_by.ensures.sorted _ ranks answers) (c.in_ok-sort_by.ensures.stable _ ranks answers)

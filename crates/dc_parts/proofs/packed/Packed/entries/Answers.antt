@@ -6,6 +6,6 @@ use Rattle.dc_parts.proofs.packed.Packed.entries.Goals as goal
 
 pub returns : goal.returns
 returns c =
-    c.in_ok-entries.ensures ∙ ap (entries_in c.self.inside.count) c.deref.ensures.value
-    ∙ sym (map.entries-from_sorted text_cmp (entries_in c.self.inside.count c.self.inside.bytes.items) c.self.invariant.1)
+    c.in_ok-entries.ensures ∙ ap entries_in c.deref.ensures.value
+    ∙ sym (map.entries-from_sorted text_cmp (entries_in c.self.inside.bytes.items) c.self.invariant.1)
     ∙ ap map.entries c.self.view_is
