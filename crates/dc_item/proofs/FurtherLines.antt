@@ -11,6 +11,7 @@ use Rattle.dc_text.specs.Settled.{settled}
 use Rattle.dc_item.specs.Grammar.{pieces, line_said, headed_line, indented_line, name_line, owners_line, flags_line, variables_line, field_line, variable_line}
 use Rattle.dc_item.specs.Heads.{front_of, head_said}
 use Rattle.dc_item.specs.Reader.{added, step, with_current}
+use Rattle.dc_parts.specs.declared.usual.UsualKey.TheVariants as usual
 use Rattle.dc_item.specs.declared.reading.Head.{Head}
 use Rattle.dc_item.specs.declared.reading.Head.TheVariants as head
 use Rattle.dc_item.specs.declared.record_line.RecordLine.{RecordLine}
@@ -81,9 +82,9 @@ usual_said head.Name rest = refl
 usual_said head.Owners rest = refl
 usual_said head.Flags rest = refl
 usual_said head.Variables rest = refl
-usual_said head.TypeField rest = refl
-usual_said head.ValueField rest = refl
-usual_said head.DefaultField rest = refl
-usual_said head.TemplateField rest = refl
-usual_said head.DescriptionField rest = refl
-usual_said head.ExtendedField rest = refl
+usual_said (head.Field usual.Default) rest = refl
+usual_said (head.Field usual.Description) rest = refl
+usual_said (head.Field usual.ExtendedDescription) rest = refl
+usual_said (head.Field usual.Template) rest = refl
+usual_said (head.Field usual.«Type») rest = refl
+usual_said (head.Field usual.Value) rest = refl

@@ -4,6 +4,7 @@ pub mod FirstBad
 pub mod FurtherLines
 pub mod Groups
 pub mod ItemLemmas
+pub mod LineNumberLemmas
 pub mod OpenRecord
 pub mod PartLemmas
 pub mod PieceLemmas
@@ -16,7 +17,6 @@ pub mod ReaderLemmas
 pub mod RecordPrinted
 pub mod RecordsReadLemmas
 pub mod SectionLemmas
-pub mod SortedEntries
 pub mod StepLemmas
 pub mod TextTableLemmas
 pub mod VariableLines

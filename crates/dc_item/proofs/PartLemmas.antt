@@ -12,6 +12,9 @@ use Rattle.dc_text.specs.Maps.{Texts, text_cmp}
 use Rattle.dc_text.specs.Names.{is_name, is_field_key, is_flag_name, is_variable_key}
 use Rattle.dc_text.specs.Settled.{is_settled}
 use Rattle.dc_text.proofs.MapLemmas.{exact_texts}
+use Rattle.dc_parts.specs.Usual.{usual_name}
+use Rattle.dc_parts.specs.declared.usual.UsualKey.{UsualKey}
+use Rattle.dc_parts.specs.declared.usual.UsualKey.TheVariants as usual
 use Rattle.dc_item.specs.After.{map_eq, parts_eq}
 use Rattle.dc_item.specs.Item.{ItemParts, IsItem, no_parts}
 use Rattle.dc_item.specs.Sections.{section, members, parts_in, is_part, IsParts, fields_mark, owners_mark, flags_mark, variables_mark}
@@ -79,6 +82,15 @@ put_new_field false m n k v item seen is = ap parts_in is ∙ seen
 pub with_new_field : (b : Bool) (m n : Texts (List ℕ)) (k v : List ℕ) → IsParts m → n ≡ cond b (insert m (fields_mark ∷ k) v) m → is_field_key k ≡ true → is_settled v ≡ true → IsParts n
 with_new_field true m n k v kept is key value = with_field m n k v kept is key value
 with_new_field false m n k v kept is key value = subst IsParts (sym is) kept
+
+-- a usual key is one
+pub usual_is_key : (key : UsualKey) → is_field_key (usual_name key) ≡ true
+usual_is_key usual.Default = refl
+usual_is_key usual.Description = refl
+usual_is_key usual.ExtendedDescription = refl
+usual_is_key usual.Template = refl
+usual_is_key usual.«Type» = refl
+usual_is_key usual.Value = refl
 
 no_field_in : (m : Texts (List ℕ)) (k : List ℕ) → parts_in (remove m (fields_mark ∷ k)) ≡ record (parts_in m) { fields = remove (section fields_mark m) k }
 no_field_in m k = λ i. record {

@@ -7,16 +7,15 @@ use Rattle.std.specs.Ordering.{eq_by_cmp}
 use Rattle.std.specs.Str.{bytes_eq}
 use Rattle.std.specs.Cmp.Lexicographic.{nat_list_cmp_total}
 use Rattle.std.specs.FinMap.{contains_key, find, from_entries, get-from_entries}
-use Rattle.std.proofs.lemmas.List.{map-append, length-map}
+use Rattle.std.proofs.lemmas.List.{map-append}
 use Rattle.indexmap.specs.IndexMap.{insert_entry}
 use Rattle.dc_text.specs.Maps.{set_of, text_cmp}
 use Rattle.dc_text.specs.Names.{is_name}
-use Rattle.dc_text.proofs.MapLemmas.{seen}
 use Rattle.dc_item.specs.Item.{ItemParts}
 use Rattle.dc_item.specs.RecordsRead.{with_lines, names_in, AreKept}
 use Rattle.dc_item.specs.Table.{contents, names_of, table_of}
 use Rattle.dc_item.proofs.ItemLemmas.{contains_key-set_of, KeepsAll-set_of, list_all-push}
-use Rattle.dc_item.proofs.TextTableLemmas.{lookup-seen, same_test}
+use Rattle.dc_item.proofs.TextTableLemmas.{lookup-find, same_test}
 use Rattle.dc_item.specs.declared.entry.Entry.{Entry}
 
 abbrev Kept : Type 0
@@ -70,32 +69,25 @@ both : (a b : Bool) → (a && b) ≡ true → a ≡ true
 both true b e = refl
 both false b e = absurd (cc)
 
-module _ {Y : Type 0} (f : Y → List ℕ) where
-  pub length-seen : (es : List (Y × ItemParts)) → length (seen f es) ≡ length es
-  length-seen es = length-map es (λ e. (f e.0, e.1))
+pub first_named : (items rest : Kept) (name : List ℕ) (item : ItemParts) → items ≡ (name, item) ∷ rest → list_all is_name (names_in items) ≡ true → is_name name ≡ true
+first_named items rest name item is named = both (is_name name) (list_all is_name (names_in rest)) (ap (λ l. list_all is_name (names_in l)) (sym is) ∙ named)
 
-  pub first_named : (es rest : List (Y × ItemParts)) (y : Y) (item : ItemParts) → es ≡ (y, item) ∷ rest → list_all is_name (names_in (seen f es)) ≡ true → is_name (f y) ≡ true
-  first_named es rest y item is named = both (is_name (f y)) (list_all is_name (names_in (seen f rest))) (ap (λ l. list_all is_name (names_in (seen f l))) (sym is) ∙ named)
+-- a search by the text finds the name
+pub has_name : (name : List ℕ) (items : Kept) → is_some (lookup (bytes_eq name) items) ≡ contains_key (set_of (names_in items)) name
+has_name name items = ap is_some (lookup-find name items) ∙ found-set_of items name
 
-  -- a search by the text finds the name
-  pub has_name : (test : Y → Bool) (q : List ℕ) → ((y : Y) → test y ≡ bytes_eq q (f y)) → (es : List (Y × ItemParts)) → is_some (lookup test es) ≡ contains_key (set_of (names_in (seen f es))) q
-  has_name test q same es = ap is_some (lookup-seen f test q same es) ∙ found-set_of (seen f es) q
+-- a new key goes last
+last : (items : Kept) (name : List ℕ) (item : ItemParts) → list_any (eq_by_cmp text_cmp name) (names_in items) ≡ false → insert_entry bytes_eq items name item ≡ items ++ (name, item) ∷ []
+last [] name item none = refl
+last (kept ∷ items) name item none = by (bytes_eq name kept.0) (eq_by_cmp text_cmp name kept.0) (same_test name kept.0) none (last items name item) where
+  by : (b c : Bool) → b ≡ c → (c || list_any (eq_by_cmp text_cmp name) (names_in items)) ≡ false
+      → (list_any (eq_by_cmp text_cmp name) (names_in items) ≡ false → insert_entry bytes_eq items name item ≡ items ++ (name, item) ∷ []) → cond b ((kept.0, item) ∷ items) (kept ∷ insert_entry bytes_eq items name item) ≡ kept ∷ (items ++ (name, item) ∷ [])
+  by b true is h rest = absurd (cc)
+  by true false is h rest = absurd (cc)
+  by false false is h rest = ap (λ l. kept ∷ l) (rest h)
 
-  -- a new key goes last
-  last : (eq : Y → Y → Bool) → ((a b : Y) → eq a b ≡ bytes_eq (f a) (f b)) → (es : List (Y × ItemParts)) (y : Y) (item : ItemParts) → list_any (eq_by_cmp text_cmp (f y)) (names_in (seen f es)) ≡ false
-      → insert_entry eq es y item ≡ es ++ (y, item) ∷ []
-  last eq same [] y item none = refl
-  last eq same (e ∷ es) y item none = by (eq y e.0) (eq_by_cmp text_cmp (f y) (f e.0)) (same y e.0 ∙ same_test (f y) (f e.0)) none (last eq same es y item) where
-    by : (b c : Bool) → b ≡ c → (c || list_any (eq_by_cmp text_cmp (f y)) (names_in (seen f es))) ≡ false
-        → (list_any (eq_by_cmp text_cmp (f y)) (names_in (seen f es)) ≡ false → insert_entry eq es y item ≡ es ++ (y, item) ∷ []) → cond b ((e.0, item) ∷ es) (e ∷ insert_entry eq es y item) ≡ e ∷ (es ++ (y, item) ∷ [])
-    by b true is h rest = absurd (cc)
-    by true false is h rest = absurd (cc)
-    by false false is h rest = ap (λ l. e ∷ l) (rest h)
-
-  pub insert-new : (eq : Y → Y → Bool) → ((a b : Y) → eq a b ≡ bytes_eq (f a) (f b)) → (es : List (Y × ItemParts)) (y : Y) (item : ItemParts) → contains_key (set_of (names_in (seen f es))) (f y) ≡ false
-      → seen f (insert_entry eq es y item) ≡ seen f es ++ (f y, item) ∷ []
-  insert-new eq same es y item new =
-      ap (seen f) (last eq same es y item (sym (contains_key-set_of (names_in (seen f es)) (f y)) ∙ new)) ∙ map-append (λ e. (f e.0, e.1)) es ((y, item) ∷ [])
+pub insert-new : (items new : Kept) (name : List ℕ) (item : ItemParts) → new ≡ insert_entry bytes_eq items name item → contains_key (set_of (names_in items)) name ≡ false → new ≡ items ++ (name, item) ∷ []
+insert-new items new name item is none = is ∙ last items name item (sym (contains_key-set_of (names_in items) name) ∙ none)
 
 -- ---- one more record
 

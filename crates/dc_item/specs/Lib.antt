@@ -2,6 +2,7 @@ pub mod After
 pub mod Grammar
 pub mod Heads
 pub mod Item
+pub mod LineNumbers
 pub mod Plain
 pub mod Printed
 pub mod Reader
@@ -9,4 +10,3 @@ pub mod Records
 pub mod RecordsRead
 pub mod Sections
 pub mod Table
-pub mod TableLends

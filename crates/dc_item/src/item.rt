@@ -1,14 +1,12 @@
 // Items: the fields, flags, variables and owners of questions and templates.
-ghost use Rattle.std.specs.Prelude.{◌≡◌, IfOk, OnOk, OnErr, true, if◌then◌else◌, not, map as each};
+ghost use Rattle.std.specs.Prelude.{◌≡◌, IfOk, OnOk, OnErr, true, map as each};
 ghost use Rattle.std.specs.FinMap as map;
 ghost use Rattle.std.specs.Option.{option_copied};
 ghost use Rattle.dc_text.specs.Bytes.{is_nil};
-ghost use Rattle.dc_text.specs.Maps.{set_of};
-ghost use Rattle.dc_text.specs.Names.{is_name, is_flag_name, is_field_key};
-ghost use Rattle.dc_text.specs.Settled.{is_settled};
+ghost use Rattle.dc_text.specs.Names.{is_name, is_flag_name};
 ghost use Rattle.dc_item.specs.After.{with_flag, without, parts_eq};
 ghost use Rattle.dc_item.specs.Item.{no_parts, IsItem};
-ghost use Rattle.dc_item.specs.Sections.{under, keys_under, fields_mark, owners_mark, flags_mark, variables_mark};
+ghost use Rattle.dc_item.specs.Sections.{parts_in, IsParts, under, keys_under, fields_mark, owners_mark, flags_mark, variables_mark};
 
 use crate::marks::{FIELDS, FLAGS, OWNERS, VARIABLES};
 use crate::owners::{are_all_named, owners_among};
@@ -48,6 +46,14 @@ impl Item {
             alloc,
             parts: PartMap::new(alloc),
         }
+    }
+
+    // The item of these parts.
+    pub(crate) fn of_parts(alloc: Global, parts: PartMap) -> Self
+        requires { IsParts parts }
+        ensures { result ≡ parts_in parts }
+    {
+        Item { alloc, parts }
     }
 
     /// The value of the field, if the item has it. Keys are in lower case.
@@ -124,19 +130,6 @@ impl Item {
         Ok(item)
     }
 
-    // Hands out all that stands in the item, in memory of just its size, and leaves nothing in it but memory for others.
-    pub(crate) fn take(&mut self) -> Mem<Item>
-        ensures taken { IfOk result (λ taken. taken ≡ self.old) }
-        ensures left { OnOk result (self.new ≡ no_parts) }
-        ensures err { OnErr result (self.new ≡ self.old) }
-    {
-        let parts = self.parts.take(self.alloc)?;
-        Ok(Item {
-            alloc: self.alloc,
-            parts,
-        })
-    }
-
     // Puts the field, in the place of one with its key.
     pub(crate) fn put_field(&mut self, key: &FieldKey, value: &Settled) -> Mem<()>
         ensures ok { OnOk result (self.new ≡ record self.old { fields = map.insert self.old.fields key.now value.now }) }
@@ -153,29 +146,6 @@ impl Item {
     {
         self.parts.insert(VARIABLES, key.bytes(), value.bytes())?;
         Ok(())
-    }
-
-    // Puts the field if the item has none with its key, and answers whether it had none.
-    pub(crate) fn put_new_field(&mut self, key: &[u8], value: &[u8]) -> Mem<bool>
-        requires key { is_field_key key.now ≡ true }
-        requires value { is_settled value.now ≡ true }
-        ensures new { IfOk result (λ is_new. is_new ≡ not (map.contains_key self.old.fields key.now)) }
-        ensures put { IfOk result (λ is_new. self.new ≡ (if is_new then record self.old { fields = map.insert self.old.fields key.now value.now } else self.old)) }
-        ensures err { OnErr result (self.new ≡ self.old) }
-    {
-        let is_new = self.parts.insert_new(FIELDS, key, value)?;
-        Ok(is_new)
-    }
-
-    // Puts the variable if the item has none with its key, and answers whether it had none.
-    pub(crate) fn put_new_variable(&mut self, key: &VarKey, value: &[u8]) -> Mem<bool>
-        requires { is_settled value.now ≡ true }
-        ensures new { IfOk result (λ is_new. is_new ≡ not (map.contains_key self.old.variables key.now)) }
-        ensures put { IfOk result (λ is_new. self.new ≡ (if is_new then record self.old { variables = map.insert self.old.variables key.now value.now } else self.old)) }
-        ensures err { OnErr result (self.new ≡ self.old) }
-    {
-        let is_new = self.parts.insert_new(VARIABLES, key.bytes(), value)?;
-        Ok(is_new)
     }
 
     // Takes the field away, if the item has it.
@@ -206,7 +176,7 @@ impl Item {
     }
 
     // Makes the flag of the name true.
-    pub(crate) fn put_flag(&mut self, flag: &[u8]) -> Mem<()>
+    fn put_flag(&mut self, flag: &[u8]) -> Mem<()>
         requires { is_flag_name flag.now ≡ true }
         ensures ok { OnOk result (self.new ≡ record self.old { flags = map.insert self.old.flags flag.now tt }) }
         ensures err { OnErr result (self.new ≡ self.old) }
@@ -231,7 +201,7 @@ impl Item {
     }
 
     // Adds the owner of the name, if it isn't there.
-    pub(crate) fn put_owner(&mut self, owner: &[u8]) -> Mem<()>
+    fn put_owner(&mut self, owner: &[u8]) -> Mem<()>
         requires { is_name owner.now ≡ true }
         ensures ok { OnOk result (self.new ≡ record self.old { owners = map.insert self.old.owners owner.now tt }) }
         ensures err { OnErr result (self.new ≡ self.old) }
@@ -264,47 +234,5 @@ impl Item {
     {
         let owners = self.owners()?;
         are_all_named(self.alloc, &owners, names)
-    }
-
-    // Makes these the flags that are true, where none is.
-    pub(crate) fn put_flags(&mut self, flags: &List<FlagName>) -> Mem<()>
-        requires { self.old.flags ≡ map.empty }
-        ensures ok { OnOk result (self.new ≡ record self.old { flags = set_of flags.now }) }
-        ensures err { OnErr result (self.new ≡ self.old) }
-    {
-        *self = self.with_flags(flags.as_slice())?;
-        Ok(())
-    }
-
-    fn with_flags(&self, flags: &[FlagName]) -> Mem<Item>
-        requires { self.now.flags ≡ map.empty }
-        ensures { IfOk result (λ item. item ≡ record self.now { flags = set_of flags.now }) }
-    {
-        let mut item = self.copy()?;
-        for flag in flags {
-            item.set_flag(flag, true)?;
-        }
-        Ok(item)
-    }
-
-    // Makes these the owners, where there are none.
-    pub(crate) fn put_owners(&mut self, owners: &List<Name>) -> Mem<()>
-        requires { self.old.owners ≡ map.empty }
-        ensures ok { OnOk result (self.new ≡ record self.old { owners = set_of owners.now }) }
-        ensures err { OnErr result (self.new ≡ self.old) }
-    {
-        *self = self.with_owners(owners.as_slice())?;
-        Ok(())
-    }
-
-    fn with_owners(&self, owners: &[Name]) -> Mem<Item>
-        requires { self.now.owners ≡ map.empty }
-        ensures { IfOk result (λ item. item ≡ record self.now { owners = set_of owners.now }) }
-    {
-        let mut item = self.copy()?;
-        for owner in owners {
-            item.add_owner(owner)?;
-        }
-        Ok(item)
     }
 }

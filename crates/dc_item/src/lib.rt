@@ -4,7 +4,9 @@
 pub mod effect;
 pub mod entry;
 pub mod item;
+mod item_builder;
 pub mod laws;
+mod line_numbers;
 mod marks;
 pub mod op;
 mod owners;
@@ -16,14 +18,13 @@ pub mod records;
 pub mod records_read;
 mod same;
 mod table_key;
-pub mod text_table;
 
 pub use effect::Effect;
 pub use entry::Entry;
 pub use item::Item;
 pub use op::{After, Op};
 pub use owners::in_order;
-pub use printing::{print_record, print_records, print_table};
+pub use printing::{print_record, print_records};
 pub use records::{RecordError, read_records};
 pub use records_read::Records;
-pub use text_table::TextTable;
+pub use table_key::TableKey;

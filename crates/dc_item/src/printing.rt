@@ -13,7 +13,6 @@ ghost use Rattle.dc_item.specs.Table.{names_of, table_of, IsEntry, IsInOrder, Re
 use crate::entry::Entry;
 use crate::item::Item;
 use crate::marks::{FIELDS, FLAGS, OWNERS, VARIABLES, has_mark, unmarked};
-use crate::text_table::TextTable;
 use dc_text::bytes::split_at_byte;
 use dc_text::{List, Mem, Text, show_newlines};
 use std::alloc::Global;
@@ -26,18 +25,6 @@ pub fn print_records(alloc: Global, list: &List<Entry>) -> Mem<Text>
     ensures read_again { IfOk result (λ text. AreDistinct (names_of list.now) → ReadsAs text list.now) }
 {
     let text = print_all(alloc, list.as_slice())?;
-    Ok(text)
-}
-
-/// The printed text of a table: its records in byte order of their names.
-pub fn print_table(alloc: Global, table: &TextTable<Item>) -> Mem<Text>
-    ensures { IfOk result (λ text. text ≡ table_text table.now) }
-{
-    let order = table.in_order()?;
-    let mut text = Text::new(alloc);
-    for (name, item) in order.iter() {
-        print_record(alloc, &mut text, name, item)?;
-    }
     Ok(text)
 }
 

@@ -7,15 +7,17 @@ ghost use Rattle.dc_text.specs.Bytes.{lower};
 ghost use Rattle.dc_text.specs.Maps.{set_of};
 ghost use Rattle.dc_text.specs.Names.{is_name as is_name_of, is_flag_name as is_flag_name_of, is_field_key as is_field_key_of};
 ghost use Rattle.dc_text.specs.Settled.{settled};
+ghost use Rattle.dc_parts.specs.Usual.{usual_name};
 ghost use Rattle.dc_item.specs.Item.{no_parts};
 ghost use Rattle.dc_item.specs.Grammar.{line_said, pieces, headed_line, indented_line, name_line, owners_line, flags_line, variables_line, field_line, variable_line};
 ghost use Rattle.dc_item.specs.Heads.{head_said};
 ghost use Rattle.dc_item.specs.Plain.{PlainIf};
 
-use crate::item::Item;
+use crate::item_builder::ItemBuilder;
 use crate::reading::{Head, flags_in, is_word, names_in, usual_head};
 use crate::record_line::RecordLine;
 use crate::records_read::Records;
+use dc_parts::UsualKey;
 use dc_text::bytes::{is_blank, is_indented, split_at_byte, trim, without_space};
 use dc_text::keys::is_flag_name;
 use dc_text::names::is_name;
@@ -26,7 +28,7 @@ use std::alloc::Global;
 #[derive(Drop)]
 pub struct Open {
     pub name: Name,
-    pub item: Item,
+    pub item: ItemBuilder,
     pub line: u64,
     pub has_owners: bool,
     pub has_flags: bool,
@@ -39,7 +41,7 @@ impl Open {
     ghost use Rattle.dc_item.specs.Reader.{added, begun, IsOpen};
 
     // Begins with an item in which nothing stands.
-    fn new(name: Name, item: Item, line: u64) -> Self
+    fn new(name: Name, item: ItemBuilder, line: u64) -> Self
         requires { item ≡ no_parts }
         ensures { result ≡ begun name line }
     {
@@ -65,12 +67,7 @@ impl Open {
             Head::Owners => self.add_owners(alloc, rest),
             Head::Flags => self.add_flags(alloc, rest),
             Head::Variables => Ok(self.begin_variables(rest)),
-            Head::TypeField => self.add_keyed(alloc, b"type", rest, is_plain),
-            Head::ValueField => self.add_keyed(alloc, b"value", rest, is_plain),
-            Head::DefaultField => self.add_keyed(alloc, b"default", rest, is_plain),
-            Head::TemplateField => self.add_keyed(alloc, b"template", rest, is_plain),
-            Head::DescriptionField => self.add_keyed(alloc, b"description", rest, is_plain),
-            Head::ExtendedField => self.add_keyed(alloc, b"extended_description", rest, is_plain),
+            Head::Field(key) => self.add_usual_field(alloc, key, rest, is_plain),
         }
     }
 
@@ -157,6 +154,24 @@ impl Open {
         Ok(true)
     }
 
+    // Takes a line of the usual field with this key, and answers whether it stands.
+    fn add_usual_field(
+        &mut self,
+        alloc: Global,
+        key: UsualKey,
+        rest: &[u8],
+        is_plain: bool,
+    ) -> Mem<bool>
+        requires { PlainIf is_plain rest.now }
+        ensures { IfOk result (λ stands. added self.old (field_line (usual_name key) rest.now) ≡ (if stands then Some self.new else None)) }
+    {
+        if !put_usual_field(&mut self.item, alloc, key, without_space(rest), is_plain)? {
+            return Ok(false);
+        }
+        self.in_variables = false;
+        Ok(true)
+    }
+
     // Takes a line that is indented, and answers whether it stands.
     fn add_indented(&mut self, alloc: Global, line: &[u8], is_plain: bool) -> Mem<bool>
         requires { PlainIf is_plain line.now }
@@ -185,7 +200,7 @@ impl Open {
 
 // Makes the names between commas the owners of an item that has none, and answers whether all are names. Most lists have one,
 // which is put in as it stands.
-fn put_owners(item: &mut Item, alloc: Global, text: &[u8]) -> Mem<bool>
+fn put_owners(item: &mut ItemBuilder, alloc: Global, text: &[u8]) -> Mem<bool>
     requires { item.old.owners ≡ map.empty }
     ensures good { IfOk result (λ good. good ≡ list_all is_name_of (pieces text.now)) }
     ensures put { IfOk result (λ good. item.new ≡ (if good then record item.old { owners = set_of (pieces text.now) } else item.old)) }
@@ -207,7 +222,7 @@ fn put_owners(item: &mut Item, alloc: Global, text: &[u8]) -> Mem<bool>
 
 // Makes the flags between commas the flags of an item that has none, and answers whether all are names of flags. Most lists
 // have one, which is put in as it stands.
-fn put_flags(item: &mut Item, alloc: Global, text: &[u8]) -> Mem<bool>
+fn put_flags(item: &mut ItemBuilder, alloc: Global, text: &[u8]) -> Mem<bool>
     requires { item.old.flags ≡ map.empty }
     ensures good { IfOk result (λ good. good ≡ list_all is_flag_name_of (pieces text.now)) }
     ensures put { IfOk result (λ good. item.new ≡ (if good then record item.old { flags = set_of (pieces text.now) } else item.old)) }
@@ -229,7 +244,13 @@ fn put_flags(item: &mut Item, alloc: Global, text: &[u8]) -> Mem<bool>
 
 // Puts the field, its value settled, if the item has none with its key, and answers whether it had none. Most values have no
 // backslash, and are settled as they stand.
-fn put_field(item: &mut Item, alloc: Global, key: &[u8], value: &[u8], is_plain: bool) -> Mem<bool>
+fn put_field(
+    item: &mut ItemBuilder,
+    alloc: Global,
+    key: &[u8],
+    value: &[u8],
+    is_plain: bool,
+) -> Mem<bool>
     requires key { is_field_key_of key.now ≡ true }
     requires plain { PlainIf is_plain value.now }
     ensures new { IfOk result (λ is_new. is_new ≡ not (map.contains_key item.old.fields key.now)) }
@@ -241,9 +262,27 @@ fn put_field(item: &mut Item, alloc: Global, key: &[u8], value: &[u8], is_plain:
     item.put_new_field(key, settle(alloc, value)?.bytes())
 }
 
+// Puts the usual field, its value settled, if the item has none with its key, and answers whether it had none.
+fn put_usual_field(
+    item: &mut ItemBuilder,
+    alloc: Global,
+    key: UsualKey,
+    value: &[u8],
+    is_plain: bool,
+) -> Mem<bool>
+    requires { PlainIf is_plain value.now }
+    ensures new { IfOk result (λ is_new. is_new ≡ not (map.contains_key item.old.fields (usual_name key))) }
+    ensures put { IfOk result (λ is_new. item.new ≡ (if is_new then record item.old { fields = map.insert item.old.fields (usual_name key) (settled value.now) } else item.old)) }
+{
+    if is_plain {
+        return item.put_new_usual_field(key, value);
+    }
+    item.put_new_usual_field(key, settle(alloc, value)?.bytes())
+}
+
 // Puts the variable, its value settled, if the item has none with its key, and answers whether it had none.
 fn put_variable(
-    item: &mut Item,
+    item: &mut ItemBuilder,
     alloc: Global,
     key: &VarKey,
     value: &[u8],

@@ -8,6 +8,7 @@ ghost use Rattle.dc_text.specs.Names.{is_name, is_flag_name};
 ghost use Rattle.dc_item.specs.Grammar.{pieces};
 ghost use Rattle.dc_item.specs.Heads.{front_of};
 
+use dc_parts::UsualKey;
 use dc_text::bytes::{split_at_byte, trim};
 use dc_text::{FlagName, List, Name, NameRefused};
 use std::alloc::Global;
@@ -26,12 +27,8 @@ pub enum Head {
     Owners,
     Flags,
     Variables,
-    TypeField,
-    ValueField,
-    DefaultField,
-    TemplateField,
-    DescriptionField,
-    ExtendedField,
+    /// The key of a field, of which the first letter is printed in upper case.
+    Field(UsualKey),
 }
 
 /// The head that the line begins with and what stands behind its colon, if it is one of those that most lines have. What tells
@@ -44,12 +41,16 @@ pub fn usual_head(line: &[u8]) -> Option<(Head, &[u8])>
         [b'O', ..] => behind(line, Head::Owners, b"Owners:"),
         [b'F', ..] => behind(line, Head::Flags, b"Flags:"),
         [b'V', _, b'r', ..] => behind(line, Head::Variables, b"Variables:"),
-        [b'V', ..] => behind(line, Head::ValueField, b"Value:"),
-        [b'T', b'y', ..] => behind(line, Head::TypeField, b"Type:"),
-        [b'T', ..] => behind(line, Head::TemplateField, b"Template:"),
-        [b'D', _, b'f', ..] => behind(line, Head::DefaultField, b"Default:"),
-        [b'D', ..] => behind(line, Head::DescriptionField, b"Description:"),
-        [b'E', ..] => behind(line, Head::ExtendedField, b"Extended_description:"),
+        [b'V', ..] => behind(line, Head::Field(UsualKey::Value), b"Value:"),
+        [b'T', b'y', ..] => behind(line, Head::Field(UsualKey::Type), b"Type:"),
+        [b'T', ..] => behind(line, Head::Field(UsualKey::Template), b"Template:"),
+        [b'D', _, b'f', ..] => behind(line, Head::Field(UsualKey::Default), b"Default:"),
+        [b'D', ..] => behind(line, Head::Field(UsualKey::Description), b"Description:"),
+        [b'E', ..] => behind(
+            line,
+            Head::Field(UsualKey::ExtendedDescription),
+            b"Extended_description:",
+        ),
         _ => None,
     }
 }

@@ -1,17 +1,17 @@
 // The records of a text, as they are read.
-ghost use Rattle.std.specs.Prelude.{◌≡◌, ◌∷◌, ◌++◌, [], IfOk, OnOk, true, false, length, map as each, List as Listed, ℕ};
-ghost use Rattle.std.specs.List.{list_all};
+ghost use Rattle.std.specs.Prelude.{◌≡◌, ◌∷◌, ◌++◌, [], IfOk, OnOk, true, false, length, List as Listed, ℕ};
 ghost use Rattle.std.specs.FinMap as map;
-ghost use Rattle.dc_text.specs.Maps.{set_of};
+ghost use Rattle.dc_text.specs.Maps.{set_of, text_cmp};
 ghost use Rattle.dc_text.specs.Names.{is_name};
 ghost use Rattle.dc_item.specs.Item.{no_parts};
 ghost use Rattle.dc_item.specs.Table.{names_of, table_of};
 
 use crate::entry::Entry;
 use crate::item::Item;
+use crate::item_builder::ItemBuilder;
+use crate::line_numbers::{LineNumbers, split_number};
 use crate::owners::name_of;
 use crate::table_key::TableKey;
-use crate::text_table::TextTable;
 use dc_text::{List, Mem, Name};
 use indexmap::IndexMap;
 use std::alloc::Global;
@@ -22,13 +22,13 @@ use std::marker::Model;
 pub struct Records {
     items: IndexMap<TableKey, Item>,
     // The number of each record's Name line, from 1.
-    lines: Vec<u64>,
+    lines: LineNumbers,
     // An item in which nothing stands, with the memory in which the parts of the last record were put together.
-    spare: Item,
+    spare: ItemBuilder,
 }
 
 impl Model for Records {
-    ghost use Rattle.std.specs.Prelude.{◌≡◌, List, map as each};
+    ghost use Rattle.std.specs.Prelude.{◌≡◌, List};
     ghost use Rattle.std.specs.Coded.{codes};
     ghost use Rattle.dc_item.specs.Item.{no_parts, parts_code};
     ghost use Rattle.dc_item.specs.RecordsRead.{with_lines, AreKept};
@@ -38,9 +38,9 @@ impl Model for Records {
 
     ghost coded = { Prim.hlevel (codes, parts_code) };
 
-    ghost view = { λ r. with_lines (each (λ e. (e.0.text, e.1)) r.items.entries) r.lines.items };
+    ghost view = { λ r. with_lines r.items.entries r.lines };
 
-    ghost invariant = { λ r. AreKept (each (λ e. (e.0.text, e.1)) r.items.entries) r.lines.items × (r.spare ≡ no_parts) };
+    ghost invariant = { λ r. AreKept r.items.entries r.lines × (r.spare ≡ no_parts) };
 }
 
 impl Records {
@@ -50,8 +50,8 @@ impl Records {
     {
         Records {
             items: IndexMap::new(alloc),
-            lines: Vec::new(alloc),
-            spare: Item::new(alloc),
+            lines: LineNumbers::new(alloc),
+            spare: ItemBuilder::new(alloc),
         }
     }
 
@@ -69,39 +69,43 @@ impl Records {
     }
 
     /// An item in which nothing stands. It has the memory in which the last record was put together.
-    pub(crate) fn spare_item(&mut self) -> Item
+    pub(crate) fn spare_item(&mut self) -> ItemBuilder
         ensures item { result ≡ no_parts }
         ensures same { self.new ≡ self.old }
     {
         let alloc = *self.items.allocator();
-        std::mem::replace(&mut self.spare, Item::new(alloc))
+        std::mem::replace(&mut self.spare, ItemBuilder::new(alloc))
     }
 
     /// Puts a record of a new name at the end. The item is copied into memory of just its size.
-    pub(crate) fn push(&mut self, name: Name, item: Item, line: u64) -> Mem<()>
+    pub(crate) fn push(&mut self, name: Name, item: ItemBuilder, line: u64) -> Mem<()>
         requires { map.contains_key (set_of (names_of self.old)) name ≡ false }
         ensures { OnOk result (self.new ≡ self.old ++ record { name = name; item = item; line = line } ∷ []) }
     {
         let mut item = item;
-        let key = TableKey::new(name.into_text());
-        self.lines.reserve(1)?;
-        self.items.insert(key, item.take()?)?;
-        self.lines.push_reserved(line);
+        let key = TableKey::of(name);
+        let taken = item.take()?;
+        self.items.reserve(1)?;
+        self.lines.push(line)?;
+        match self.items.insert(key, taken) {
+            Ok(_) => {}
+            Err(_) => unreachable!(),
+        }
         self.spare = item;
         Ok(())
     }
 
-    /// The table of the records, which aren't copied.
-    pub fn into_table(self) -> TextTable<Item>
-        ensures table { result ≡ table_of self }
-        ensures names { (name : Listed ℕ) → map.contains_key result name ≡ true → is_name name ≡ true }
+    /// The names and items of the records, in their order. They aren't copied.
+    pub fn into_entries(self) -> IndexMap<TableKey, Item>
+        ensures table { map.from_entries result.entries ≡ table_of self }
+        ensures names { (name : Listed ℕ) → map.contains_key {R = text_cmp} (map.from_entries result.entries) name ≡ true → is_name name ≡ true }
     {
         let Records {
             items,
             lines: _,
             spare: _,
         } = self;
-        TextTable::of(items)
+        items
     }
 
     /// The list of the records, in their order.
@@ -114,10 +118,16 @@ impl Records {
             spare: _,
         } = self;
         let mut list = List::new(alloc);
+        let mut last = 0;
+        let mut rest = lines.bytes();
         for (key, item) in items {
             let name = name_of(alloc, key.bytes())?;
-            let line = lines[list.len()];
+            let Some((line, after)) = split_number(last, rest) else {
+                unreachable!();
+            };
             list.push(Entry { name, item, line })?;
+            last = line;
+            rest = after;
         }
         Ok(list)
     }

@@ -1,31 +1,49 @@
-// The keys of maps that have many entries.
-ghost use Rattle.std.specs.Prelude.{◌≡◌};
+// The keys of maps and sets that have many entries.
+ghost use Rattle.std.specs.Prelude.{◌≡◌, true};
 ghost use Rattle.std.proofs.Common.{ap};
-ghost use Rattle.std.specs.Cmp.{on_equiv, on_per, partial_equiv_from_equiv};
+ghost use Rattle.std.specs.Cmp.{partial_equiv_from_equiv};
 ghost use Rattle.std.specs.Cmp.Lexicographic.{bytes_decides, nat_list_eq_equiv};
 ghost use Rattle.std.specs.Hash as fed;
 ghost use Rattle.std.specs.Str.{bytes_eq};
+ghost use Rattle.dc_text.specs.Names.{is_name};
 
-use dc_text::Text;
+use dc_text::{Name, Text};
 use indexmap::Equivalent;
 use std::cmp::Ordering;
 use std::hash::{Hash, Hasher};
+use std::marker::Model;
 
 /// A text as a key, which is looked up by its bytes. As a text does, it keeps few bytes in place.
 #[derive(Drop)]
-pub(crate) struct TableKey {
+pub struct TableKey {
     text: Text,
 }
 
+impl Model for TableKey {
+    ghost use Rattle.std.specs.Prelude.{List, ℕ};
+
+    ghost Value = { List ℕ };
+
+    ghost view = { λ k. k.text };
+}
+
 impl TableKey {
-    pub(crate) fn new(text: Text) -> Self
-        ensures { result.text ≡ text }
+    pub fn new(text: Text) -> Self
+        ensures { result ≡ text }
     {
         TableKey { text }
     }
 
-    pub(crate) fn bytes(&self) -> &[u8]
-        ensures { result.now ≡ self.now.text }
+    /// The name as a key. Its bytes aren't copied.
+    pub fn of(name: Name) -> Self
+        ensures value { result ≡ name }
+        ensures name { is_name name ≡ true }
+    {
+        TableKey::new(name.into_text())
+    }
+
+    pub fn bytes(&self) -> &[u8]
+        ensures { result.now ≡ self.now }
     {
         self.text.bytes()
     }
@@ -39,9 +57,9 @@ fn are_equal(one: &[u8], other: &[u8]) -> bool
 }
 
 impl PartialEq for TableKey {
-    ghost eq = { λ x y. bytes_eq x.text y.text };
+    ghost eq = { bytes_eq };
 
-    ghost laws = { on_per (λ x. x.text) (partial_equiv_from_equiv nat_list_eq_equiv) };
+    ghost laws = { partial_equiv_from_equiv nat_list_eq_equiv };
 
     fn eq(&self, other: &TableKey) -> bool {
         are_equal(self.bytes(), other.bytes())
@@ -49,13 +67,13 @@ impl PartialEq for TableKey {
 }
 
 impl Eq for TableKey {
-    ghost laws = { on_equiv (λ x. x.text) nat_list_eq_equiv };
+    ghost laws = { nat_list_eq_equiv };
 }
 
 impl Hash for TableKey {
-    ghost hash_input = { λ k. fed.slice fed.u8 k.text };
+    ghost hash_input = { λ k. fed.slice fed.u8 k };
 
-    ghost respects_eq = { λ x y h. ap (fed.slice fed.u8) ((bytes_decides x.text y.text).0 h) };
+    ghost respects_eq = { λ x y h. ap (fed.slice fed.u8) ((bytes_decides x y).0 h) };
 
     fn hash<H: Hasher>(&self, state: &mut H) {
         self.bytes().hash(state);
@@ -63,11 +81,11 @@ impl Hash for TableKey {
 }
 
 impl Equivalent<TableKey> for &[u8] {
-    ghost equivalent = { λ q k. bytes_eq q.now k.text };
+    ghost equivalent = { λ q k. bytes_eq q.now k };
 
-    ghost respects_hash = { λ q k h. ap (fed.slice fed.u8) ((bytes_decides q.now k.text).0 h) };
+    ghost respects_hash = { λ q k h. ap (fed.slice fed.u8) ((bytes_decides q.now k).0 h) };
 
-    ghost respects_eq = { λ q x y. nat_list_eq_equiv.congr q.now x.text y.text };
+    ghost respects_eq = { λ q x y. nat_list_eq_equiv.congr q.now x y };
 
     fn equivalent(&self, key: &TableKey) -> bool {
         are_equal(*self, key.bytes())

@@ -1,5 +1,5 @@
 -- The texts of prefixes, which a hash map holds.
-use Rattle.std.proofs.Common.{◌≡◌, ℕ, Bool, true, false, cond, List, [], ◌∷◌, ◌++◌, map as each, Some, None, suc, ◌+◌, ◌<◌, length, take, get_or, refl, sym, ap, ◌∙◌, append_assoc, arith, Vec, Global}
+use Rattle.std.proofs.Common.{◌≡◌, ℕ, Bool, true, false, cond, List, [], ◌∷◌, ◌++◌, map as each, Some, None, suc, ◌+◌, ◌<◌, length, take, get_or, refl, sym, ap, subst, ◌∙◌, append_assoc, arith}
 use Rattle.std.specs.Prelude.{◌||◌, filter, if◌then◌else◌}
 use Rattle.std.specs.List.{flat_map, list_any, IsDistinct, AllByRecursion}
 use Rattle.std.specs.Map.{lookup, set_value}
@@ -17,63 +17,49 @@ use Rattle.dc_item.specs.Printed.{record_lines}
 use Rattle.dc_conf.specs.declared.spec.LayerSpec.{LayerSpec}
 use Rattle.dc_layer.specs.declared.image.Image.{Image}
 use Rattle.dc_layer.specs.Folders.{prefix}
-use Rattle.dc_layer.specs.PrefixTexts.{prefix_texts, empty_texts, with_records}
+use Rattle.dc_layer.specs.PrefixTexts.{empty_texts, with_records}
 use Rattle.dc_layer.specs.State.{Table, touch, firsts, image_in, unless_nil, prefix_image}
 
 -- the prefixes of the names, each where it comes first
-abbrev pub prefixes : List (Vec ℕ Global) → List (List ℕ)
-prefixes names = firsts (each (λ k. prefix k.items) names)
+abbrev pub prefixes : List (List ℕ) → List (List ℕ)
+prefixes names = firsts (each prefix names)
 
 -- a text with the printed record of the entry, if it has its prefix
 abbrev with_record : List ℕ × ItemParts → List ℕ × List ℕ → List ℕ × List ℕ
 with_record entry text = (text.0, if bytes_eq (prefix entry.0) text.0 then text.1 ++ text_of (record_lines entry) else text.1)
 
 -- the files of the texts
-abbrev pub files : LayerSpec → List (Vec ℕ Global × List ℕ) → List Image
-files spec texts = each (λ e. image_in spec e.0.items (unless_nil e.1)) texts
+abbrev pub files : LayerSpec → List (List ℕ × List ℕ) → List Image
+files spec texts = each (λ t. image_in spec t.0 (unless_nil t.1)) texts
 
 -- ---- one empty text for each prefix
 
 -- one more name of a list
-pub taken_more : (names : List (Vec ℕ Global)) (n : ℕ) (name : Vec ℕ Global) → n < length names → name ≡ get_or names n name → take (n + 1) names ≡ take n names ++ name ∷ []
-taken_more names n name within is =
-    let one : n + 1 ≡ suc n = omega arith in
-    ap (λ m. take m names) one ∙ take-suc names n name within ∙ ap (λ x. take n names ++ x ∷ []) (sym is)
+pub taken_more : {X : Type 0} (names : List X) (n : ℕ) (d : X) → n < length names → take (n + 1) names ≡ take n names ++ get_or names n d ∷ []
+taken_more names n d within = let one : n + 1 ≡ suc n = omega arith in ap (λ m. take m names) one ∙ take-suc names n d within
 
-prefixes_next : (names : List (Vec ℕ Global)) (name : Vec ℕ Global) → prefixes (names ++ name ∷ []) ≡ touch (prefixes names) (prefix name.items)
-prefixes_next names name = ap firsts (map-append (λ k. prefix k.items) names (name ∷ [])) ∙ fold-append touch [] (each (λ k. prefix k.items) names) (prefix name.items ∷ [])
+prefixes_next : (names : List (List ℕ)) (name : List ℕ) → prefixes (names ++ name ∷ []) ≡ touch (prefixes names) (prefix name)
+prefixes_next names name = ap firsts (map-append prefix names (name ∷ [])) ∙ fold-append touch [] (each prefix names) (prefix name ∷ [])
 
 onto : (b : Bool) (front : List ℕ) (fronts more : List (List ℕ)) → front ∷ cond b fronts more ≡ cond b (front ∷ fronts) (front ∷ more)
 onto true front fronts more = refl
 onto false front fronts more = refl
 
-first_same : (t u : List ℕ × List ℕ) (ts us : List (List ℕ × List ℕ)) → t ∷ ts ≡ u ∷ us → t ≡ u
-first_same t u ts us e = cc
-
 -- an empty text that is put over an empty one changes nothing
-blank_put : (eq : Vec ℕ Global → Vec ℕ Global → Bool) → ((k j : Vec ℕ Global) → eq k j ≡ bytes_eq k.items j.items) → (k : Vec ℕ Global) (texts : List (Vec ℕ Global × List ℕ)) (fronts : List (List ℕ))
-    → prefix_texts texts ≡ empty_texts fronts → prefix_texts (insert_entry eq texts k []) ≡ empty_texts (touch fronts k.items)
-blank_put eq same k [] [] is = refl
-blank_put eq same k [] (f ∷ fs) is = absurd (cc)
-blank_put eq same k (e ∷ es) [] is = absurd (cc)
-blank_put eq same k (e ∷ es) (f ∷ fs) is =
-    let first = first_same (e.0.items, e.1) (f, []) (prefix_texts es) (empty_texts fs) is in
-    let key : e.0.items ≡ f = ap (λ (t : List ℕ × List ℕ). t.0) first in
-    let none : e.1 ≡ [] = ap (λ (t : List ℕ × List ℕ). t.1) first in
-    let others : prefix_texts es ≡ empty_texts fs = cc in
-    elim (eq k e.0) as (λ b. eq k e.0 ≡ b → prefix_texts (cond b ((e.0, []) ∷ es) (e ∷ insert_entry eq es k [])) ≡ empty_texts (touch (f ∷ fs) k.items)) [
-      | true ↦ λ t. (λ i. (key i, []) ∷ others i)
-          ∙ ap (λ b. empty_texts (cond (b || list_any (bytes_eq k.items) fs) (f ∷ fs) ((f ∷ fs) ++ k.items ∷ []))) (sym (ap (bytes_eq k.items) (sym key) ∙ sym (same k e.0) ∙ t))
-      | false ↦ λ t. (λ i. (key i, none i) ∷ blank_put eq same k es fs others i)
-          ∙ ap empty_texts (onto (list_any (bytes_eq k.items) fs) f fs (fs ++ k.items ∷ []))
-          ∙ ap (λ b. empty_texts (cond (b || list_any (bytes_eq k.items) fs) (f ∷ fs) ((f ∷ fs) ++ k.items ∷ []))) (sym (ap (bytes_eq k.items) (sym key) ∙ sym (same k e.0) ∙ t))
-    ] refl
+blank_put : (k : List ℕ) (fronts : List (List ℕ)) → insert_entry bytes_eq (empty_texts fronts) k [] ≡ empty_texts (touch fronts k)
+blank_put k [] = refl
+blank_put k (f ∷ fs) = elim (bytes_eq k f) as (λ b. bytes_eq k f ≡ b → cond b ((f, []) ∷ empty_texts fs) ((f, []) ∷ insert_entry bytes_eq (empty_texts fs) k []) ≡ empty_texts (touch (f ∷ fs) k)) [
+  | true ↦ λ t. ap (λ b. empty_texts (cond (b || list_any (bytes_eq k) fs) (f ∷ fs) ((f ∷ fs) ++ k ∷ []))) (sym t)
+  | false ↦ λ t. ap (λ l. (f, []) ∷ l) (blank_put k fs)
+      ∙ ap empty_texts (onto (list_any (bytes_eq k) fs) f fs (fs ++ k ∷ []))
+      ∙ ap (λ b. empty_texts (cond (b || list_any (bytes_eq k) fs) (f ∷ fs) ((f ∷ fs) ++ k ∷ []))) (sym t)
+] refl
 
 -- the prefix of one more name
-pub blank_next : (eq : Vec ℕ Global → Vec ℕ Global → Bool) → ((k j : Vec ℕ Global) → eq k j ≡ bytes_eq k.items j.items) → (texts new : List (Vec ℕ Global × List ℕ)) (names : List (Vec ℕ Global)) (name k : Vec ℕ Global) (text : List ℕ)
-    → prefix_texts texts ≡ empty_texts (prefixes names) → text ≡ [] → new ≡ insert_entry eq texts k text → k.items ≡ prefix name.items → prefix_texts new ≡ empty_texts (prefixes (names ++ name ∷ []))
-blank_next eq same texts new names name k text so_far none is key =
-    ap prefix_texts is ∙ ap (λ t. prefix_texts (insert_entry eq texts k t)) none ∙ blank_put eq same k texts (prefixes names) so_far ∙ ap (λ q. empty_texts (touch (prefixes names) q)) key ∙ ap empty_texts (sym (prefixes_next names name))
+pub blank_next : (texts new : List (List ℕ × List ℕ)) (names : List (List ℕ)) (name k text : List ℕ) → texts ≡ empty_texts (prefixes names) → text ≡ [] → new ≡ insert_entry bytes_eq texts k text → k ≡ prefix name
+    → new ≡ empty_texts (prefixes (names ++ name ∷ []))
+blank_next texts new names name k text so_far none is key =
+    is ∙ (λ i. insert_entry bytes_eq (so_far i) (key i) (none i)) ∙ blank_put (prefix name) (prefixes names) ∙ ap empty_texts (sym (prefixes_next names name))
 
 -- ---- a record at the end of the text of its prefix
 
@@ -98,9 +84,8 @@ each_one entry [] = refl
 each_one entry (t ∷ ts) = λ i. (t.0, one_record (bytes_eq (prefix entry.0) t.0) entry t.1 i) ∷ each_one entry ts i
 
 -- one more entry of a walk
-pub filled_next : (entry : List ℕ × ItemParts) (rest : List (List ℕ × ItemParts)) (old new : List (Vec ℕ Global × List ℕ)) → prefix_texts new ≡ each (with_records (entry ∷ [])) (prefix_texts old)
-    → each (with_records rest) (prefix_texts new) ≡ each (with_records (entry ∷ rest)) (prefix_texts old)
-filled_next entry rest old new is = ap (each (with_records rest)) (is ∙ sym (each_one entry (prefix_texts old))) ∙ filled_each entry rest (prefix_texts old)
+pub filled_next : (entry : List ℕ × ItemParts) (rest : List (List ℕ × ItemParts)) (old new : List (List ℕ × List ℕ)) → new ≡ each (with_records (entry ∷ [])) old → each (with_records rest) new ≡ each (with_records (entry ∷ rest)) old
+filled_next entry rest old new is = ap (each (with_records rest)) (is ∙ sym (each_one entry old)) ∙ filled_each entry rest old
 
 -- none is left
 pub filled_all : (texts : List (List ℕ × List ℕ)) → each (with_records []) texts ≡ texts
@@ -110,73 +95,62 @@ filled_all (t ∷ ts) = λ i. (t.0, append-nil t.1 i) ∷ filled_all ts i
 -- ---- the text that is found
 
 -- the texts of other prefixes stay
-other : (entry : List ℕ × ItemParts) (key : Vec ℕ Global) → prefix entry.0 ≡ key.items → (eq : Vec ℕ Global → Vec ℕ Global → Bool) → ((k j : Vec ℕ Global) → eq k j ≡ bytes_eq k.items j.items)
-    → (texts : List (Vec ℕ Global × List ℕ)) → AllByRecursion (λ k. eq key k ≡ false) (each (λ e. e.0) texts) → prefix_texts texts ≡ each (with_record entry) (prefix_texts texts)
-other entry key is eq same [] apart = refl
-other entry key is eq same (e ∷ es) apart = λ i.
-    (e.0.items, cond (sym (ap (λ p. bytes_eq p e.0.items) is ∙ sym (same key e.0) ∙ apart.0) i) (e.1 ++ text_of (record_lines entry)) e.1) ∷ other entry key is eq same es apart.1 i
+other : (entry : List ℕ × ItemParts) (texts : List (List ℕ × List ℕ)) → AllByRecursion (λ k. bytes_eq (prefix entry.0) k ≡ false) (each (λ e. e.0) texts) → texts ≡ each (with_record entry) texts
+other entry [] apart = refl
+other entry (e ∷ es) apart = λ i. (e.0, cond (sym apart.0 i) (e.1 ++ text_of (record_lines entry)) e.1) ∷ other entry es apart.1 i
 
-found_here : (entry : List ℕ × ItemParts) (eq : Vec ℕ Global → Vec ℕ Global → Bool) → ((k j : Vec ℕ Global) → eq k j ≡ bytes_eq k.items j.items)
-    → (test : Vec ℕ Global → Bool) → ((k : Vec ℕ Global) → test k ≡ bytes_eq (prefix entry.0) k.items) → (text new : List ℕ) → new ≡ text ++ text_of (record_lines entry)
-    → (texts : List (Vec ℕ Global × List ℕ)) → IsDistinct eq (each (λ e. e.0) texts) → Some text ≡ lookup test texts → prefix_texts (set_value test texts new) ≡ each (with_record entry) (prefix_texts texts)
+found_here : (entry : List ℕ × ItemParts) (text new : List ℕ) → new ≡ text ++ text_of (record_lines entry) → (texts : List (List ℕ × List ℕ)) → IsDistinct bytes_eq (each (λ e. e.0) texts)
+    → Some text ≡ lookup (bytes_eq (prefix entry.0)) texts → set_value (bytes_eq (prefix entry.0)) texts new ≡ each (with_record entry) texts
 unfolding IsDistinct
-found_here entry eq same test at text new is [] apart has = absurd (cc)
-found_here entry eq same test at text new is (e ∷ es) apart has =
-    elim (test e.0) as (λ b. test e.0 ≡ b → Some text ≡ cond b (Some e.1) (lookup test es) → prefix_texts (cond b ((e.0, new) ∷ es) (e ∷ set_value test es new)) ≡ each (with_record entry) (prefix_texts (e ∷ es))) [
+found_here entry text new is [] apart has = absurd (cc)
+found_here entry text new is (e ∷ es) apart has =
+    let front : List ℕ = prefix entry.0 in
+    elim (bytes_eq front e.0) as (λ b. bytes_eq front e.0 ≡ b → Some text ≡ cond b (Some e.1) (lookup (bytes_eq front) es) → cond b ((e.0, new) ∷ es) (e ∷ set_value (bytes_eq front) es new) ≡ each (with_record entry) (e ∷ es)) [
       | true ↦ λ t here.
-          let hit : true ≡ bytes_eq (prefix entry.0) e.0.items = sym t ∙ at e.0 in
           let held : text ≡ e.1 = cc in
-          (λ i. (e.0.items, (is ∙ ap (λ x. x ++ text_of (record_lines entry)) held) i) ∷ other entry e.0 ((bytes_eq-Decides (prefix entry.0) e.0.items).0 (sym hit)) eq same es apart.0 i)
-          ∙ (λ i. (e.0.items, cond (hit i) (e.1 ++ text_of (record_lines entry)) e.1) ∷ each (with_record entry) (prefix_texts es))
+          let key : e.0 ≡ front = sym ((bytes_eq-Decides front e.0).0 t) in
+          (λ i. (e.0, (is ∙ ap (λ x. x ++ text_of (record_lines entry)) held) i) ∷ other entry es (subst (λ (p : List ℕ). AllByRecursion (λ k. bytes_eq p k ≡ false) (each (λ e. e.0) es)) key apart.0) i)
+          ∙ (λ i. (e.0, cond (sym t i) (e.1 ++ text_of (record_lines entry)) e.1) ∷ each (with_record entry) es)
       | false ↦ λ t there.
-          (λ i. (e.0.items, e.1) ∷ found_here entry eq same test at text new is es apart.1 there i)
-          ∙ (λ i. (e.0.items, cond ((sym t ∙ at e.0) i) (e.1 ++ text_of (record_lines entry)) e.1) ∷ each (with_record entry) (prefix_texts es))
+          (λ i. e ∷ found_here entry text new is es apart.1 there i)
+          ∙ (λ i. (e.0, cond (sym t i) (e.1 ++ text_of (record_lines entry)) e.1) ∷ each (with_record entry) es)
     ] refl has
 
-found_nowhere : (entry : List ℕ × ItemParts) (test : Vec ℕ Global → Bool) → ((k : Vec ℕ Global) → test k ≡ bytes_eq (prefix entry.0) k.items)
-    → (texts : List (Vec ℕ Global × List ℕ)) → None ≡ lookup test texts → prefix_texts texts ≡ each (with_record entry) (prefix_texts texts)
-found_nowhere entry test at [] none = refl
-found_nowhere entry test at (e ∷ es) none =
-    elim (test e.0) as (λ b. test e.0 ≡ b → None ≡ cond b (Some e.1) (lookup test es) → prefix_texts (e ∷ es) ≡ each (with_record entry) (prefix_texts (e ∷ es))) [
+found_nowhere : (entry : List ℕ × ItemParts) (texts : List (List ℕ × List ℕ)) → None ≡ lookup (bytes_eq (prefix entry.0)) texts → texts ≡ each (with_record entry) texts
+found_nowhere entry [] none = refl
+found_nowhere entry (e ∷ es) none =
+    let front : List ℕ = prefix entry.0 in
+    elim (bytes_eq front e.0) as (λ b. bytes_eq front e.0 ≡ b → None ≡ cond b (Some e.1) (lookup (bytes_eq front) es) → e ∷ es ≡ each (with_record entry) (e ∷ es)) [
       | true ↦ λ t here. absurd (cc)
-      | false ↦ λ t there.
-          (λ i. (e.0.items, cond ((sym t ∙ at e.0) i) (e.1 ++ text_of (record_lines entry)) e.1) ∷ found_nowhere entry test at es there i)
+      | false ↦ λ t there. (λ i. (e.0, cond (sym t i) (e.1 ++ text_of (record_lines entry)) e.1) ∷ found_nowhere entry es there i)
     ] refl none
 
 -- the text of the prefix gets the record
-pub found_text : (entry : List ℕ × ItemParts) (eq : Vec ℕ Global → Vec ℕ Global → Bool) → ((k j : Vec ℕ Global) → eq k j ≡ bytes_eq k.items j.items)
-    → (test : Vec ℕ Global → Bool) → ((k : Vec ℕ Global) → test k ≡ bytes_eq (prefix entry.0) k.items) → (text made : List ℕ) → made ≡ text ++ text_of (record_lines entry)
-    → (old new : List (Vec ℕ Global × List ℕ)) → IsDistinct eq (each (λ e. e.0) old) → Some text ≡ lookup test old → new ≡ set_value test old made
-    → prefix_texts new ≡ each (with_records (entry ∷ [])) (prefix_texts old)
-found_text entry eq same test at text made is old new apart has set =
-    ap prefix_texts set ∙ found_here entry eq same test at text made is old apart has ∙ each_one entry (prefix_texts old)
+pub found_text : (entry : List ℕ × ItemParts) (front text made : List ℕ) → front ≡ prefix entry.0 → made ≡ text ++ text_of (record_lines entry) → (old new : List (List ℕ × List ℕ)) → IsDistinct bytes_eq (each (λ e. e.0) old)
+    → Some text ≡ lookup (bytes_eq front) old → new ≡ set_value (bytes_eq front) old made → new ≡ each (with_records (entry ∷ [])) old
+found_text entry front text made at is old new apart has set =
+    set ∙ ap (λ p. set_value (bytes_eq p) old made) at ∙ found_here entry text made is old apart (has ∙ ap (λ p. lookup (bytes_eq p) old) at) ∙ each_one entry old
 
 -- no text has the prefix
-pub no_text : (entry : List ℕ × ItemParts) (test : Vec ℕ Global → Bool) → ((k : Vec ℕ Global) → test k ≡ bytes_eq (prefix entry.0) k.items)
-    → (old : List (Vec ℕ Global × List ℕ)) → None ≡ lookup test old → prefix_texts old ≡ each (with_records (entry ∷ [])) (prefix_texts old)
-no_text entry test at old none = found_nowhere entry test at old none ∙ each_one entry (prefix_texts old)
+pub no_text : (entry : List ℕ × ItemParts) (front : List ℕ) → front ≡ prefix entry.0 → (old : List (List ℕ × List ℕ)) → None ≡ lookup (bytes_eq front) old → old ≡ each (with_records (entry ∷ [])) old
+no_text entry front at old none = found_nowhere entry old (none ∙ ap (λ p. lookup (bytes_eq p) old) at) ∙ each_one entry old
 
 -- ---- the files
 
 -- one more file
-pub files_next : (spec : LayerSpec) (images made : List Image) (image : Image) (text : Vec ℕ Global × List ℕ) (rest all : List (Vec ℕ Global × List ℕ)) → made ≡ images ++ image ∷ []
-    → image ≡ image_in spec text.0.items (unless_nil text.1) → all ≡ text ∷ rest → made ++ files spec rest ≡ images ++ files spec all
+pub files_next : (spec : LayerSpec) (images made : List Image) (image : Image) (text : List ℕ × List ℕ) (rest all : List (List ℕ × List ℕ)) → made ≡ images ++ image ∷ []
+    → image ≡ image_in spec text.0 (unless_nil text.1) → all ≡ text ∷ rest → made ++ files spec rest ≡ images ++ files spec all
 files_next spec images made image text rest all more is next =
     ap (λ l. l ++ files spec rest) more ∙ append_assoc images (image ∷ []) (files spec rest) ∙ ap (λ x. images ++ x ∷ files spec rest) is ∙ ap (λ l. images ++ files spec l) (sym next)
 
-files_shown : (spec : LayerSpec) (texts : List (Vec ℕ Global × List ℕ)) → files spec texts ≡ each (λ t. image_in spec t.0 (unless_nil t.1)) (prefix_texts texts)
-files_shown spec [] = refl
-files_shown spec (e ∷ es) = ap (λ l. image_in spec e.0.items (unless_nil e.1) ∷ l) (files_shown spec es)
-
 files_filled : (spec : LayerSpec) (entries : List (List ℕ × ItemParts)) (fronts : List (List ℕ))
-    → each (λ t. image_in spec t.0 (unless_nil t.1)) (each (with_records entries) (empty_texts fronts))
+    → files spec (each (with_records entries) (empty_texts fronts))
     ≡ each (λ front. image_in spec front (unless_nil (text_of (flat_map record_lines (filter (λ entry. bytes_eq (prefix entry.0) front) entries))))) fronts
 files_filled spec entries [] = refl
 files_filled spec entries (f ∷ fs) =
     ap (λ l. image_in spec f (unless_nil (text_of (flat_map record_lines (filter (λ entry. bytes_eq (prefix entry.0) f) entries)))) ∷ l) (files_filled spec entries fs)
 
 -- the files of the prefixes
-pub prefix_files : (spec : LayerSpec) (table : Table) (fronts : List (List ℕ)) (blank texts : List (Vec ℕ Global × List ℕ)) → prefix_texts blank ≡ empty_texts fronts
-    → prefix_texts texts ≡ each (with_records (map.entries table)) (prefix_texts blank) → files spec texts ≡ each (prefix_image spec table) fronts
-prefix_files spec table fronts blank texts empty is =
-    files_shown spec texts ∙ ap (each (λ t. image_in spec t.0 (unless_nil t.1))) (is ∙ ap (each (with_records (map.entries table))) empty) ∙ files_filled spec (map.entries table) fronts
+pub prefix_files : (spec : LayerSpec) (table : Table) (fronts : List (List ℕ)) (blank texts : List (List ℕ × List ℕ)) → blank ≡ empty_texts fronts → texts ≡ each (with_records (map.entries table)) blank
+    → files spec texts ≡ each (prefix_image spec table) fronts
+prefix_files spec table fronts blank texts empty is = ap (files spec) (is ∙ ap (each (with_records (map.entries table))) empty) ∙ files_filled spec (map.entries table) fronts

@@ -1,16 +1,12 @@
 -- The texts of prefixes, as they are filled record by record. The proofs alone speak of them: what the file of a prefix holds is said by
 -- `prefix_image` of State.
-use Rattle.std.specs.Prelude.{ℕ, List, [], ◌++◌, map as each, filter, Vec}
+use Rattle.std.specs.Prelude.{ℕ, List, [], ◌++◌, map as each, filter}
 use Rattle.std.specs.List.{flat_map}
 use Rattle.std.specs.Str.{bytes_eq}
 use Rattle.dc_text.specs.Lines.{text_of}
 use Rattle.dc_item.specs.Item.{ItemParts}
 use Rattle.dc_item.specs.Printed.{record_lines}
 use Rattle.dc_layer.specs.Folders.{prefix}
-
--- the prefixes of a hash map, each with its text
-abbrev pub prefix_texts : {A : Type 0} → List (Vec ℕ A × List ℕ) → List (List ℕ × List ℕ)
-prefix_texts entries = each (λ e. (e.0.items, e.1)) entries
 
 -- each prefix with an empty text
 abbrev pub empty_texts : List (List ℕ) → List (List ℕ × List ℕ)

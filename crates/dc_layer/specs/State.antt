@@ -1,20 +1,18 @@
 -- What a layer is, what changes make of it, and the files that it asks for.
-use Rattle.std.specs.Prelude.{ℕ, Bool, true, false, not, ◌&&◌, List, [], ◌∷◌, ◌++◌, map as each, filter, fold, Option, Some, None, if◌then◌else◌}
+use Rattle.std.specs.Prelude.{ℕ, Bool, true, false, not, ◌&&◌, List, [], ◌∷◌, map as each, filter, fold, Option, Some, None, if◌then◌else◌}
 use Rattle.std.specs.Option.{option_map, option_map_or}
-use Rattle.std.specs.List.{list_any, flat_map}
+use Rattle.std.specs.List.{flat_map}
 use Rattle.std.specs.Str.{bytes_eq}
 use Rattle.std.specs.FinMap as map
-use Rattle.std.specs.Coded.{Coded, coded_list, coded_ℕ}
 use Rattle.dc_text.specs.Bytes.{is_nil}
 use Rattle.dc_text.specs.Lines.{text_of}
-use Rattle.dc_text.specs.Maps.{Texts}
-use Rattle.dc_item.specs.Item.{ItemParts, parts_code}
+use Rattle.dc_item.specs.Item.{ItemParts}
 use Rattle.dc_item.specs.After.{after_at}
 use Rattle.dc_item.specs.Printed.{record_lines, table_text}
 use Rattle.dc_item.specs.declared.op.Op.{Op}
-use Rattle.dc_item.specs.declared.op.Op.TheVariants.{Put}
 use Rattle.dc_item.specs.declared.op.After.{After}
 use Rattle.dc_item.specs.declared.op.After.TheVariants.{Same, Changed, Gone}
+pub use Rattle.dc_table.specs.Tracked.{Table, is_put, touch, owned_in, owned}
 use Rattle.dc_conf.specs.declared.spec.LayerSort.{LayerSort}
 use Rattle.dc_conf.specs.declared.spec.LayerSort.TheVariants.{File, Tree, Pack}
 use Rattle.dc_conf.specs.declared.spec.LayerSpec.{LayerSpec}
@@ -26,14 +24,6 @@ use Rattle.dc_layer.specs.declared.layer.LayerError.{LayerError}
 use Rattle.dc_layer.specs.declared.layer.LayerError.TheVariants.{ReadOnly, NotHere}
 use Rattle.dc_layer.specs.Rules.{rules_of, accepts}
 use Rattle.dc_layer.specs.Folders.{prefix, has_place_for, path_in}
-
--- a table: a finite map from names to items
-abbrev pub Table : Type 0
-Table = Texts ItemParts
-
--- a table as data
-abbrev pub table_code : Coded Table
-table_code = map.code (coded_list coded_ℕ) parts_code
 
 -- A layer: how it is kept, its spec where it was set up, its table, the names whose items changed since it was loaded or saved
 -- in the order in which they first did, whether it is left out, and the text that its file had.
@@ -68,10 +58,6 @@ is_writable layer = option_map_or (λ spec. not spec.readonly) layer.spec false 
 abbrev pub admits : LayerState → List ℕ → Option Kind → Bool
 admits layer name kind = option_map_or (λ spec. has_place_for layer.sort spec.extension name && accepts (rules_of spec) name kind) layer.spec false
 
-abbrev pub is_put : Op → Bool
-is_put (Put item) = true
-is_put _ = false
-
 -- why the layer takes no operation on the name, if it doesn't
 abbrev pub refusal : LayerState → List ℕ → Op → Option LayerError
 refusal layer name op =
@@ -88,23 +74,11 @@ taken_of Same = taken.Same
 taken_of (Changed item) = taken.Changed
 taken_of Gone = taken.Gone
 
--- the names with this one, last, unless it is among them
-abbrev pub touch : List (List ℕ) → List ℕ → List (List ℕ)
-touch names name = if list_any (bytes_eq name) names then names else names ++ name ∷ []
-
 -- the layer with what became of the item of the name; all other names keep theirs
 abbrev pub with_made : LayerState → List ℕ → After → LayerState
 with_made layer name Same = layer
 with_made layer name (Changed item) = record layer { table = map.insert layer.table name item; touched = touch layer.touched name }
 with_made layer name Gone = record layer { table = map.remove layer.table name; touched = touch layer.touched name }
-
--- the names of the items that have the owner, in byte order
-abbrev pub owned_in : List (List ℕ × ItemParts) → List ℕ → List (List ℕ)
-owned_in [] owner = []
-owned_in (entry ∷ entries) owner = if map.contains_key entry.1.owners owner then entry.0 ∷ owned_in entries owner else owned_in entries owner
-
-abbrev pub owned : Table → List ℕ → List (List ℕ)
-owned table owner = owned_in (map.entries table) owner
 
 -- ---- the files that it asks for
 

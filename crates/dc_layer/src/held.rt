@@ -8,25 +8,23 @@ ghost use Rattle.dc_layer.specs.State.{blank, is_put, images_by, is_file};
 use crate::folders::has_place_for;
 use crate::image::Image;
 use crate::imaging::{file_image, item_images, prefix_images};
-use crate::item_table::ItemTable;
 use crate::layer::{Layer, LayerError, Taken};
 use crate::pattern::PatternError;
 use crate::set_up::SetUp;
 use dc_conf::spec::{LayerSort, LayerSpec};
 use dc_item::{Effect, Item, Op, Records};
+use dc_table::ItemTable;
 use dc_template::Kind;
 use dc_text::{List, Mem, Name, Text};
-use indexmap::IndexSet;
 use std::alloc::Global;
 
-/// What a layer of any sort holds: its items, and which of them were touched since they were loaded or saved.
+/// What a layer of any sort holds: its items, of which the table knows those that were touched since they were loaded or saved.
 #[derive(Drop)]
 pub struct Held {
     alloc: Global,
     sort: LayerSort,
     set_up: Option<SetUp>,
     table: ItemTable,
-    touched: IndexSet<Vec<u8>>,
     left_out: bool,
     old: Option<Text>,
 }
@@ -41,7 +39,6 @@ impl Held {
             sort,
             set_up: None,
             table: ItemTable::new(alloc),
-            touched: IndexSet::new(alloc),
             left_out: false,
             old: None,
         }
@@ -53,13 +50,14 @@ impl Held {
     {
         match self.sort {
             LayerSort::File => self.file_images(spec),
-            LayerSort::Tree => item_images(self.alloc, spec, &self.table, self.touched.as_slice()),
-            LayerSort::Pack => prefix_images(
-                self.alloc,
-                spec,
-                &self.table,
-                self.touched.as_slice(),
-            ),
+            LayerSort::Tree => {
+                let names = self.table.touched()?;
+                item_images(self.alloc, spec, &self.table, names.as_slice())
+            }
+            LayerSort::Pack => {
+                let names = self.table.touched()?;
+                prefix_images(self.alloc, spec, &self.table, names.as_slice())
+            }
         }
     }
 
@@ -68,8 +66,8 @@ impl Held {
         ensures { IfOk result (λ images. images ≡ images_by LayerSort.File spec.now (⟦<Held as Layer>⟧.state self.now)) }
     {
         let mut images = List::new(self.alloc);
-        if !self.touched.is_empty() {
-            images.push(file_image(self.alloc, spec, &self.table, &self.old)?)?;
+        if self.table.is_touched() {
+            images.push(file_image(spec, &self.table, &self.old)?)?;
         }
         Ok(images)
     }
@@ -116,9 +114,7 @@ fn bytes_of(image: Image) -> Option<Text>
 }
 
 impl Layer for Held {
-    ghost use Rattle.std.specs.Prelude.{map as each};
-
-    ghost state = { λ h. record { sort = h.sort; spec = h.set_up; table = h.table; touched = each (λ k. k.items) h.touched.keys; left_out = h.left_out; old = h.old } };
+    ghost state = { λ h. record { sort = h.sort; spec = h.set_up; table = h.table.items; touched = h.table.touched; left_out = h.left_out; old = h.old } };
 
     fn sort(&self) -> LayerSort {
         self.sort
@@ -148,7 +144,6 @@ impl Layer for Held {
 
     fn leave_out(&mut self) {
         self.table = ItemTable::new(self.alloc);
-        self.touched = IndexSet::new(self.alloc);
         self.left_out = true;
     }
 
@@ -182,14 +177,11 @@ impl Layer for Held {
         if !self.writable() {
             return Err(LayerError::ReadOnly);
         }
-        match self.table.work(&mut self.touched, name, op)? {
+        match self.table.change(name, op)? {
             None => Err(LayerError::NotHere),
             Some(Effect::Same) => Ok(Taken::Same),
             Some(Effect::Changed) => Ok(Taken::Changed),
-            Some(Effect::Gone) => {
-                self.table.remove(name.bytes());
-                Ok(Taken::Gone)
-            }
+            Some(Effect::Gone) => Ok(Taken::Gone),
         }
     }
 
@@ -215,6 +207,6 @@ impl Layer for Held {
                 self.old = bytes_of(image);
             }
         }
-        self.touched.clear();
+        self.table.clear_touched();
     }
 }

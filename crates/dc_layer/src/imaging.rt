@@ -5,30 +5,25 @@ ghost use Rattle.std.specs.FinMap as map;
 ghost use Rattle.dc_text.specs.Lines.{text_of};
 ghost use Rattle.dc_item.specs.Printed.{record_lines};
 ghost use Rattle.dc_layer.specs.Folders.{prefix as prefix_of};
-ghost use Rattle.dc_layer.specs.PrefixTexts.{empty_texts as empty_texts_of, prefix_texts, with_records};
+ghost use Rattle.dc_layer.specs.PrefixTexts.{empty_texts as empty_texts_of, with_records};
 ghost use Rattle.dc_layer.specs.State.{image_of, image_in as image_in_of, item_image as item_image_of, prefix_image, firsts, unless_nil};
 
 use crate::folders::{path_in, prefix};
 use crate::image::Image;
-use crate::item_table::ItemTable;
 use dc_conf::spec::LayerSpec;
-use dc_item::{Item, print_record, print_table};
+use dc_item::{Item, TableKey, print_record};
+use dc_table::ItemTable;
 use dc_text::{List, Mem, Text};
 use indexmap::IndexMap;
 use std::alloc::Global;
 
 /// The file of a layer in one file, which holds the printed table.
-pub fn file_image(
-    alloc: Global,
-    spec: &LayerSpec,
-    table: &ItemTable,
-    old: &Option<Text>,
-) -> Mem<Image>
-    ensures { IfOk result (λ image. image ≡ image_of spec.now table.now old.now) }
+pub fn file_image(spec: &LayerSpec, table: &ItemTable, old: &Option<Text>) -> Mem<Image>
+    ensures { IfOk result (λ image. image ≡ image_of spec.now table.now.items old.now) }
 {
     let path = spec.place.copy()?;
     let old = if spec.backup { copy_of(old)? } else { None };
-    let bytes = print_table(alloc, table.items())?;
+    let bytes = table.print()?;
     Ok(image(spec, path, Some(bytes), old))
 }
 
@@ -66,9 +61,9 @@ pub fn item_images(
     alloc: Global,
     spec: &LayerSpec,
     table: &ItemTable,
-    names: &[Vec<u8>],
+    names: &[&[u8]],
 ) -> Mem<List<Image>>
-    ensures { IfOk result (λ images. images ≡ each (λ k. item_image_of spec.now table.now k.items) names.now) }
+    ensures { IfOk result (λ images. images ≡ each (item_image_of spec.now table.now.items) (each (λ name. name.now) names.now)) }
 {
     let mut images = List::new(alloc);
     for name in names {
@@ -78,7 +73,7 @@ pub fn item_images(
 }
 
 fn item_image(alloc: Global, spec: &LayerSpec, table: &ItemTable, name: &[u8]) -> Mem<Image>
-    ensures { IfOk result (λ image. image ≡ item_image_of spec.now table.now name.now) }
+    ensures { IfOk result (λ image. image ≡ item_image_of spec.now table.now.items name.now) }
 {
     let text = record_of(alloc, name, table.get(name))?;
     image_in(alloc, spec, name, text)
@@ -103,9 +98,9 @@ pub fn prefix_images(
     alloc: Global,
     spec: &LayerSpec,
     table: &ItemTable,
-    names: &[Vec<u8>],
+    names: &[&[u8]],
 ) -> Mem<List<Image>>
-    ensures { IfOk result (λ images. images ≡ each (prefix_image spec.now table.now) (firsts (each (λ k. prefix_of k.items) names.now))) }
+    ensures { IfOk result (λ images. images ≡ each (prefix_image spec.now table.now.items) (firsts (each prefix_of (each (λ name. name.now) names.now)))) }
 {
     let mut texts = empty_texts(alloc, names)?;
     fill(alloc, table, &mut texts)?;
@@ -113,22 +108,22 @@ pub fn prefix_images(
 }
 
 // An empty text for the prefix of each name, in the order in which the prefixes first come.
-fn empty_texts(alloc: Global, names: &[Vec<u8>]) -> Mem<IndexMap<Vec<u8>, Text>>
-    ensures { IfOk result (λ texts. prefix_texts texts.entries ≡ empty_texts_of (firsts (each (λ k. prefix_of k.items) names.now))) }
+fn empty_texts(alloc: Global, names: &[&[u8]]) -> Mem<IndexMap<TableKey, Text>>
+    ensures { IfOk result (λ texts. texts.entries ≡ empty_texts_of (firsts (each prefix_of (each (λ name. name.now) names.now)))) }
 {
     let mut texts = IndexMap::new(alloc);
     for name in names {
-        let front = prefix(name).to_vec(alloc)?;
-        texts.insert(front, Text::new(alloc))?;
+        let front = Text::from_bytes(alloc, prefix(name))?;
+        texts.insert(TableKey::new(front), Text::new(alloc))?;
     }
     Ok(texts)
 }
 
 // Puts the printed record of each item at the end of the text of its prefix, by one walk over the table.
-fn fill(alloc: Global, table: &ItemTable, texts: &mut IndexMap<Vec<u8>, Text>) -> Mem<()>
-    ensures { OnOk result (prefix_texts texts.new.entries ≡ each (with_records (map.entries table.now)) (prefix_texts texts.old.entries)) }
+fn fill(alloc: Global, table: &ItemTable, texts: &mut IndexMap<TableKey, Text>) -> Mem<()>
+    ensures { OnOk result (texts.new.entries ≡ each (with_records (map.entries table.now.items)) texts.old.entries) }
 {
-    let order = table.items().in_order()?;
+    let order = table.in_order()?;
     for (name, item) in order.iter() {
         add_record(alloc, texts, name, item)?;
     }
@@ -138,11 +133,11 @@ fn fill(alloc: Global, table: &ItemTable, texts: &mut IndexMap<Vec<u8>, Text>) -
 // Puts the printed record of the item at the end of the text of its prefix, if there is one.
 fn add_record(
     alloc: Global,
-    texts: &mut IndexMap<Vec<u8>, Text>,
+    texts: &mut IndexMap<TableKey, Text>,
     name: &[u8],
     item: &Item,
 ) -> Mem<()>
-    ensures { OnOk result (prefix_texts texts.new.entries ≡ each (with_records ((name.now, item.now) ∷ [])) (prefix_texts texts.old.entries)) }
+    ensures { OnOk result (texts.new.entries ≡ each (with_records ((name.now, item.now) ∷ [])) texts.old.entries) }
 {
     if let Some(text) = texts.get_mut(prefix(name)) {
         print_record(alloc, text, name, item)?;
@@ -151,12 +146,12 @@ fn add_record(
 }
 
 // The file of each prefix, which holds its text. Where that is empty, the file is to go.
-fn images_of(alloc: Global, spec: &LayerSpec, texts: IndexMap<Vec<u8>, Text>) -> Mem<List<Image>>
-    ensures { IfOk result (λ images. images ≡ each (λ e. image_in_of spec.now e.0.items (unless_nil e.1)) texts.entries) }
+fn images_of(alloc: Global, spec: &LayerSpec, texts: IndexMap<TableKey, Text>) -> Mem<List<Image>>
+    ensures { IfOk result (λ images. images ≡ each (λ e. image_in_of spec.now e.0 (unless_nil e.1)) texts.entries) }
 {
     let mut images = List::new(alloc);
     for (front, text) in texts {
-        images.push(image_in(alloc, spec, &front, unless_empty(text))?)?;
+        images.push(image_in(alloc, spec, front.bytes(), unless_empty(text))?)?;
     }
     Ok(images)
 }

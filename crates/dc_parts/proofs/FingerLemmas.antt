@@ -1,16 +1,17 @@
 -- A search from a finger: a key above that of the entry there has its place behind that entry.
-use Rattle.std.proofs.Common.{◌≡◌, ℕ, cond, true, false, ◌<◌, ◌≤◌, List, [], ◌∷◌, ◌++◌, length, take, drop, Some, None, refl, sym, ap, subst, ◌∙◌, arith, length-append}
-use Rattle.std.specs.Prelude.{T, nat_lt, ◌^◌}
-use Rattle.std.proofs.Math.Seq.{drop-append_seam}
-use Rattle.std.proofs.lemmas.List.{length-take}
-use Rattle.std.specs.Ordering.{is_lt, ordering_reverse}
+use Rattle.std.proofs.Common.{◌≡◌, ℕ, true, false, ◌<◌, ◌≤◌, List, [], ◌∷◌, ◌++◌, length, take, drop, Some, None, refl, sym, ap, subst, ◌∙◌, arith, length-append}
+use Rattle.std.specs.Prelude.{T, is_some}
+use Rattle.std.proofs.Math.Seq.{drop-append_seam, take-length, drop-length}
+use Rattle.std.proofs.lemmas.List.{append-nil, length-take, nil_from_length}
+use Rattle.std.specs.Ordering.{is_lt, is_gt, ordering_reverse}
 use Rattle.std.specs.Cmp.Lexicographic.{nat_list_cmp_total}
 use Rattle.std.specs.FinMap.{put, is_sorted}
 use Rattle.std.specs.FinMap.Entries.{by_order, below_all}
-use Rattle.std.specs.declared.cmp.Ordering.TheVariants.{Less, Greater}
+use Rattle.std.specs.declared.cmp.Ordering.{Ordering}
+use Rattle.std.specs.declared.cmp.Ordering.TheVariants.{Less, Equal, Greater}
 use Rattle.dc_text.specs.Maps.{text_cmp}
-use Rattle.dc_parts.specs.Packed.{packed, text_at, behind_text, key_at, behind_key, entries_in, IsPacked, IsPlace, before, from, behind, value_at}
-use Rattle.dc_parts.proofs.PackedLemmas.{packed-append, packed_anew, opened, put-place}
+use Rattle.dc_parts.specs.Packed.{packed_text, packed_key, packed, text_at, behind_text, key_at, behind_key, entries_in, IsPacked, IsPlace, IsBehind, before, from, behind, value_at}
+use Rattle.dc_parts.proofs.PackedLemmas.{none_in, packed-append, packed_anew, opened, before-from, put-place, put_packed}
 use Rattle.dc_parts.proofs.PlaceLemmas.{first, second, less}
 
 higher : (q k l : List ℕ) → text_cmp q k ≡ Greater → text_cmp l k ≡ Less → text_cmp q l ≡ Greater
@@ -73,8 +74,52 @@ pub no_place : (es : List (List ℕ × List ℕ)) → IsPlace 0 es
 no_place es = ([], es, refl, refl)
 
 -- where an entry is put, the entries before it end
-pub put_place : (q v bytes : List ℕ) (start finger : ℕ) (es fs : List (List ℕ × List ℕ)) → take start bytes ≡ packed (before q es) → start ≤ length bytes → fs ≡ put text_cmp q v es
-    → finger ≡ cond (nat_lt start (2 ^ 32)) start 0 → IsPlace finger fs
-put_place q v bytes start finger es fs starts fits is at =
-    let there : IsPlace start fs = (before q es, (q, v) ∷ behind q es, is ∙ put-place q v es, omega (arith, ap length starts, length-take start bytes)) in
-    subst (λ n. IsPlace n fs) (sym at) (elim (nat_lt start (2 ^ 32)) as (λ b. IsPlace (cond b start 0) fs) [ true ↦ there | false ↦ no_place fs ])
+pub put_place : (q v bytes : List ℕ) (start : ℕ) (es fs : List (List ℕ × List ℕ)) → take start bytes ≡ packed (before q es) → start ≤ length bytes → fs ≡ put text_cmp q v es → IsPlace start fs
+put_place q v bytes start es fs starts fits is = (before q es, (q, v) ∷ behind q es, is ∙ put-place q v es, omega (arith, ap length starts, length-take start bytes))
+
+-- ---- usual keys behind all others
+
+none_behind : (q rest : List ℕ) (es : List (List ℕ × List ℕ)) → rest ≡ []
+    → (from q (entries_in rest) ≡ from q es) × (behind q (entries_in rest) ≡ behind q es) × (value_at q (entries_in rest) ≡ value_at q es) → IsBehind q es
+none_behind q rest es none same =
+    let nothing : entries_in rest ≡ [] = ap entries_in none in
+    let from_none : [] ≡ from q es = ap (from q) (sym nothing) ∙ same.0 in (
+      sym (append-nil (before q es)) ∙ ap (λ l. before q es ++ l) from_none ∙ before-from q es,
+      sym same.1 ∙ ap (behind q) nothing,
+      sym same.2 ∙ ap (value_at q) nothing,
+    )
+
+pub behind_none : (q bytes : List ℕ) → length bytes ≡ 0 → IsBehind q (entries_in bytes)
+behind_none q bytes none = subst (IsBehind q) (sym (none_in bytes none)) (refl, refl, refl)
+
+-- a key comes behind all entries if it is above that of the entry at the finger, and nothing stands behind that
+pub behind_last : (q bytes tail rest : List ℕ) (finger : ℕ) (is_packed : IsPacked bytes) (is_place : IsPlace finger (entries_in bytes)) → tail ≡ drop finger bytes → T (is_sorted text_cmp (entries_in bytes))
+    → 0 < length tail → rest ≡ behind_text (behind_key tail) → length rest ≡ 0 → text_cmp q (key_at tail) ≡ Greater → IsBehind q (entries_in bytes)
+behind_last q bytes tail rest finger is_packed is_place at h some past none above =
+    none_behind q rest (entries_in bytes) (nil_from_length rest none) (past_finger finger bytes is_packed is_place tail at q (key_at tail) rest h some refl past above)
+
+module _ (q bytes : List ℕ) (is_packed : IsPacked bytes) (last : IsBehind q (entries_in bytes)) where
+  all_before : take (length bytes) bytes ≡ packed (before q (entries_in bytes))
+  all_before = take-length bytes ∙ sym is_packed ∙ ap packed (sym last.0)
+
+  none_after : drop (length bytes) bytes ≡ packed (behind q (entries_in bytes))
+  none_after = drop-length bytes ∙ ap packed (sym last.1)
+
+  pub not_there : false ≡ is_some (value_at q (entries_in bytes))
+  not_there = ap is_some (sym last.2)
+
+  -- what an entry does that is put behind all others
+  pub pushed : (v key new : List ℕ) → key ≡ packed_key q → new ≡ bytes ++ (key ++ packed_text v)
+      → (entries_in new ≡ put text_cmp q v (entries_in bytes)) × IsPacked new × IsPlace (length bytes) (entries_in new)
+  pushed v key new key_is is =
+      let piece : List ℕ = key ++ packed_text v in
+      let entry : piece ≡ packed ((q, v) ∷ []) = (λ i. key_is i ++ (sym (append-nil (packed_text v))) i) in
+      let laid : new ≡ take (length bytes) bytes ++ (piece ++ drop (length bytes) bytes)
+      = is ∙ (λ i. (sym (take-length bytes)) i ++ (sym (append-nil piece)) i) ∙ ap (λ l. take (length bytes) bytes ++ (piece ++ l)) (sym (drop-length bytes)) in
+      let made : (entries_in new ≡ put text_cmp q v (entries_in bytes)) × IsPacked new = put_packed q bytes (length bytes) (length bytes) all_before none_after v piece new entry laid in
+      (made.0, made.1, put_place q v bytes (length bytes) (entries_in bytes) (entries_in new) all_before (omega arith) made.0)
+
+pub is_above : (o : Ordering) → is_gt o ≡ true → o ≡ Greater
+is_above Less e = absurd (cc)
+is_above Equal e = absurd (cc)
+is_above Greater e = refl

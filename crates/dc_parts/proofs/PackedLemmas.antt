@@ -97,7 +97,7 @@ numbered m q (k ∷ ks) n e =
     ] refl e
 
 -- the number of a key leads to it
-usual_of : (q : List ℕ) (n : ℕ) → number_of q ≡ Some n → (usual_key n ≡ q) × (n < 8)
+pub usual_of : (q : List ℕ) (n : ℕ) → number_of q ≡ Some n → (usual_key n ≡ q) × (n < 8)
 usual_of q n e =
     let found : (i : ℕ) × (n ≡ 0 + i) × (get_or usual_keys i [] ≡ q) × (i < 8) = numbered 0 q usual_keys n e in
     let same : n ≡ found.0 = omega (arith, found.1) in
@@ -231,6 +231,21 @@ HasText-key q rest = (key_read q rest (number_of q) refl).2
 length-packed_key : (q : List ℕ) → 1 ≤ length (packed_key q)
 length-packed_key q = (key_read q [] (number_of q) refl).3
 
+first_byte : (a b : ℕ) (xs ys : List ℕ) → a ∷ xs ≡ b ∷ ys → a ≡ b
+first_byte a b xs ys e = cc
+
+second_byte : (a b c d : ℕ) (xs ys : List ℕ) → a ∷ b ∷ xs ≡ c ∷ d ∷ ys → b ≡ d
+second_byte a b c d xs ys e = cc
+
+-- a byte behind one of 0 is the number of a usual key
+key_number : (q rest : List ℕ) (o : Option ℕ) (n : ℕ) (more : List ℕ) → number_of q ≡ o → packed_as o q ++ rest ≡ 0 ∷ n ∷ more → n < 8
+key_number [] rest None n more e is = absurd (cc)
+key_number (m ∷ q) rest None n more e is =
+    let front : (b : ℕ) × (after : List ℕ) × (packed_length (suc (length q)) ++ ((m ∷ q) ++ rest) ≡ b ∷ after) × (0 < b) = text_front (suc (length q)) ((m ∷ q) ++ rest) (omega arith) in
+    let none : front.0 ≡ 0 = first_byte front.0 0 front.1 (n ∷ more) (sym (with_length (m ∷ q) rest ∙ front.2) ∙ is) in
+    absurd (omega (arith, none, front.3))
+key_number q rest (Some k) n more e is = subst (λ j. j < 8) (second_byte 0 k 0 n rest more is) (usual_of q k e).1
+
 -- ---- entries are read again
 
 -- there are no more entries than bytes
@@ -345,6 +360,9 @@ module _ (bytes : List ℕ) (some : 0 < length bytes) (is_packed : IsPacked byte
 
   pub has_value : HasText (behind_key bytes)
   has_value = subst HasText (sym past_key) (HasText-packed _ _)
+
+  pub few_numbers : (n : ℕ) (more : List ℕ) → bytes ≡ 0 ∷ n ∷ more → n < 8
+  few_numbers n more is = key_number split.0.0 (packed_text split.0.1 ++ packed split.1) (number_of split.0.0) n more refl (sym split.2 ∙ is)
 
   pub later_packed : IsPacked (behind_text (behind_key bytes))
   later_packed = (packed_anew split.1 _ past_value).1

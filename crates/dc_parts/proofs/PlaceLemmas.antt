@@ -30,7 +30,7 @@ less Equal p = absurd p
 less Greater p = absurd p
 
 -- the other way round
-above : (p q : List ℕ) → text_cmp p q ≡ Less → text_cmp q p ≡ Greater
+pub above : (p q : List ℕ) → text_cmp p q ≡ Less → text_cmp q p ≡ Greater
 above p q h = nat_list_cmp_total.antisymm q p ∙ ap ordering_reverse h
 
 below : (p q : List ℕ) → text_cmp p q ≡ Greater → text_cmp q p ≡ Less

@@ -1,3 +1,4 @@
 pub mod Packed
 pub mod PartMap
 pub mod Places
+pub mod Usual

@@ -1,4 +1,4 @@
--- Texts packed into bytes: each is its length, and then its bytes.
+-- Texts packed into bytes: each is its length, and then its bytes. A usual key is its number.
 use Rattle.std.specs.Prelude.{◌≡◌, ℕ, zero, suc, ◌+◌, ◌/◌, ◌%◌, ◌≤◌, ◌==◌, List, [], ◌∷◌, ◌++◌, length, take, drop, replicate, slice_index_or, codes, Option, Some, None, if◌then◌else◌}
 use Rattle.std.specs.Ordering.{is_eq}
 use Rattle.std.specs.FinMap.Entries.{by_order}
@@ -129,3 +129,7 @@ behind key (entry ∷ entries) = by_order (text_cmp key entry.0) (entry ∷ entr
 abbrev pub value_at : List ℕ → List (List ℕ × List ℕ) → Option (List ℕ)
 value_at key [] = None
 value_at key (entry ∷ entries) = by_order (text_cmp key entry.0) None (Some entry.1) (value_at key entries)
+
+-- no entry has the key or a higher one
+abbrev pub IsBehind : List ℕ → List (List ℕ × List ℕ) → Type 0
+IsBehind key entries = (before key entries ≡ entries) × (behind key entries ≡ []) × (value_at key entries ≡ None)

@@ -205,11 +205,16 @@ impl Many {
         }
     }
 
-    /// Gives back the memory that no entry takes.
-    pub(crate) fn shrink(&mut self)
-        ensures { self.new ≡ self.old }
+    /// Hands out the entries in memory of just their size, and forgets them.
+    pub(crate) fn take(&mut self) -> Self
+        ensures taken { result ≡ self.old }
+        ensures left { self.new ≡ map.empty }
     {
         self.pairs.shrink_to_fit();
+        let fresh = Vec::new(*self.pairs.allocator());
+        Many {
+            pairs: std::mem::replace(&mut self.pairs, fresh),
+        }
     }
 
     /// The entries, in byte order of their keys.

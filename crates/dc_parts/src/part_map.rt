@@ -1,5 +1,5 @@
 // Texts at keys, as the parts of an item.
-ghost use Rattle.std.specs.Prelude.{◌≡◌, ◌∷◌, OnOk, OnErr, IfOk, if◌then◌else◌, not, map as each};
+ghost use Rattle.std.specs.Prelude.{◌≡◌, ◌∷◌, OnOk, OnErr, IfOk, map as each};
 ghost use Rattle.std.specs.Option.{option_copied};
 ghost use Rattle.std.specs.FinMap as map;
 ghost use Rattle.dc_parts.specs.PartMap.{map_in};
@@ -9,9 +9,6 @@ use crate::packed::Packed;
 use dc_text::Mem;
 use std::alloc::Global;
 use std::marker::Model;
-
-/// How many entries are packed at most: to find a key there is to go over those before it.
-const FEW: usize = 24;
 
 // Where the entries are.
 enum Kept {
@@ -50,7 +47,7 @@ impl Model for PartMap {
 }
 
 // The packed entries in a sorted vector.
-fn spread(few: &Packed) -> Mem<Many>
+pub(crate) fn spread(few: &Packed) -> Mem<Many>
     ensures { IfOk result (λ many. many ≡ few.now) }
 {
     let entries = few.entries()?;
@@ -65,6 +62,24 @@ impl PartMap {
     {
         PartMap {
             kept: Kept::Few(Packed::new(alloc)),
+        }
+    }
+
+    // The map of packed entries.
+    pub(crate) fn of_few(few: Packed) -> Self
+        ensures { result ≡ few }
+    {
+        PartMap {
+            kept: Kept::Few(few),
+        }
+    }
+
+    // The map of entries in a sorted vector.
+    pub(crate) fn of_many(many: Many) -> Self
+        ensures { result ≡ many }
+    {
+        PartMap {
+            kept: Kept::Many(many),
         }
     }
 
@@ -93,9 +108,8 @@ impl PartMap {
         match &mut self.kept {
             Kept::Many(many) => many.insert(mark, key, value)?,
             Kept::Few(few) => {
-                if few.len() < FEW {
-                    few.insert(mark, key, value)?;
-                } else {
+                let is_put = few.insert(mark, key, value)?;
+                if !is_put {
                     let mut many = spread(few)?;
                     many.insert(mark, key, value)?;
                     self.kept = Kept::Many(many);
@@ -105,28 +119,6 @@ impl PartMap {
         Ok(())
     }
 
-    /// Puts the value at a key that isn't there, and answers whether it wasn't.
-    pub fn insert_new(&mut self, mark: u8, key: &[u8], value: &[u8]) -> Mem<bool>
-        ensures new { IfOk result (λ is_new. is_new ≡ not (map.contains_key self.old (mark ∷ key.now))) }
-        ensures put { IfOk result (λ is_new. self.new ≡ (if is_new then map.insert self.old (mark ∷ key.now) value.now else self.old)) }
-        ensures err { OnErr result (self.new ≡ self.old) }
-    {
-        match &mut self.kept {
-            Kept::Many(many) => return many.insert_new(mark, key, value),
-            Kept::Few(few) => {
-                if few.len() < FEW {
-                    let is_new = few.insert_new(mark, key, value)?;
-                    return Ok(is_new);
-                }
-            }
-        }
-        if self.contains(mark, key) {
-            return Ok(false);
-        }
-        self.insert(mark, key, value)?;
-        Ok(true)
-    }
-
     /// Takes the key and its value away, if they are there. It takes no memory.
     pub fn remove(&mut self, mark: u8, key: &[u8])
         ensures { self.new ≡ map.remove self.old (mark ∷ key.now) }
@@ -134,27 +126,6 @@ impl PartMap {
         match &mut self.kept {
             Kept::Few(few) => few.remove(mark, key),
             Kept::Many(many) => many.remove(mark, key),
-        }
-    }
-
-    /// Hands out the entries, and forgets them. Few of them are handed out in memory of just their size, and the memory in which
-    /// they stood stays for others.
-    pub fn take(&mut self, alloc: Global) -> Mem<PartMap>
-        ensures taken { IfOk result (λ taken. taken ≡ self.old) }
-        ensures left { OnOk result (self.new ≡ map.empty) }
-        ensures err { OnErr result (self.new ≡ self.old) }
-    {
-        match &mut self.kept {
-            Kept::Few(few) => {
-                let taken = few.take()?;
-                Ok(PartMap {
-                    kept: Kept::Few(taken),
-                })
-            }
-            Kept::Many(many) => {
-                many.shrink();
-                Ok(std::mem::replace(self, PartMap::new(alloc)))
-            }
         }
     }
 

@@ -15,6 +15,9 @@ use std::alloc::Global;
 /// From so many bytes of input on, no more is read.
 pub const MAX_INPUT: u64 = 1 << 40;
 
+// So many bytes are read at most at a time. A script hands out one line.
+const PIECE: usize = 8_192;
+
 // Sends a reply, in one write.
 fn send<L: Link, B: Drop>(io: &mut L, code: u8, text: &Text, last_code: &mut u8) -> Served<B>
     ensures sends { Sends result (L.talk io.old) (L.talk io.new) code text.now last_code.old last_code.new }
@@ -185,10 +188,10 @@ fn converse<L: Link, H: Heeds>(
 }
 
 fn buffer(alloc: Global) -> Mem<Vec<u8>>
-    ensures { IfOk result (λ buf. length buf.items ≡ MAX_PIECE) }
+    ensures { IfOk result (λ buf. length buf.items ≡ PIECE) }
 {
     let mut buf = Vec::new(alloc);
-    buf.resize(MAX_PIECE, 0)?;
+    buf.resize(PIECE, 0)?;
     Ok(buf)
 }
 

@@ -1,6 +1,0 @@
-use Rattle.std.proofs.Common.{◌≡◌, take}
-use Rattle.dc_text.specs.Maps.{set_of}
-use Rattle.dc_item.proofs.item.Item.with_flags.Given as goal
-
-abbrev pub invariant-loop-flag : goal.invariant-loop-flag
-invariant-loop-flag l = l.item ≡ record l.self { flags = set_of (take l.flag-index l.flags) }

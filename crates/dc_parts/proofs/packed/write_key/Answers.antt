@@ -1,8 +1,0 @@
-use Rattle.dc_parts.proofs.PackedLemmas.{key_laid}
-use Rattle.dc_parts.proofs.packed.write_key.Goals as goal
-
--- the key isn't a usual one
-pub returns-in_ok-extend_from_slice-in-None-clause-ok : goal.returns-in_ok-extend_from_slice-in-None-clause-ok
-returns-in_ok-extend_from_slice-in-None-clause-ok c =
-    key_laid c.args.mark c.args.key.now c.args.bytes.now.items c.push_length.new.bytes.items c.push.new.self.items c.extend_from_slice-in-None.new.self.items
-    c.in-None.ensures c.in_ok-push_length-in-None.ensures.ok c.in_ok-push-in-None.ensures.items c.in_ok-extend_from_slice-in-None.ensures.items

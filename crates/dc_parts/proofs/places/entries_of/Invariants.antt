@@ -1,0 +1,12 @@
+use Rattle.std.proofs.Common.{◌≡◌, ◌++◌, map, length}
+use Rattle.dc_parts.specs.Packed.{entries_in, IsPacked}
+use Rattle.dc_parts.proofs.places.entries_of.Given as goal
+
+abbrev pub invariant-loop-rest : goal.invariant-loop-rest
+invariant-loop-rest l = record {
+  is_packed : IsPacked l.rest;
+  so_far : map (λ e. (e.0.now, e.1.now)) l.entries.items ++ entries_in l.rest ≡ entries_in l.bytes;
+}
+
+abbrev pub decreases-loop-rest : goal.decreases-loop-rest
+decreases-loop-rest l = length l.rest

@@ -1,0 +1,5 @@
+pub mod MarkLemmas
+pub mod PlaceLemmas
+pub mod SortedEntries
+pub mod TableLemmas
+pub mod TouchedLemmas
