@@ -1,22 +1,19 @@
 -- A hash map of the library's, whose keys are texts, as a finite map from texts.
-use borrow.Follows.Closed.{read_of}
-use Rattle.std.proofs.Common.{◌≡◌, ℕ, Bool, true, false, cond, List, [], ◌∷◌, Some, None, Option, refl, sym, ap, ◌∙◌, inl, inr, MutBor}
-use Rattle.std.specs.Prelude.{is_some, map}
+use Rattle.std.proofs.Common.{◌≡◌, ℕ, Bool, true, false, cond, List, [], ◌∷◌, Some, None, Option, refl, sym, ap, ◌∙◌}
+use Rattle.std.specs.Prelude.{map}
 use Rattle.std.specs.Str.{bytes_eq}
 use Rattle.std.specs.declared.cmp.Ordering.{Ordering}
 use Rattle.std.specs.declared.cmp.Ordering.TheVariants.{Less, Equal, Greater}
-use Rattle.std.specs.Option.{ghost_name_of, option_copied_mut}
 use Rattle.std.specs.Ordering.{eq_by_cmp, is_eq}
 use Rattle.std.specs.Cmp.{eq_by_cmp_equiv}
 use Rattle.std.specs.Cmp.Lexicographic.{nat_list_cmp_total}
-use Rattle.std.specs.BTreeMap.{is_at}
-use Rattle.std.specs.Map.{lookup, set_value}
-use Rattle.std.specs.FinMap.{get, insert, remove, from_entries, find, get-from_entries, get-insert, get-remove, same_map}
+use Rattle.std.specs.Map.{lookup}
+use Rattle.std.specs.FinMap.{insert, remove, from_entries, find, get-from_entries, get-insert, get-remove, same_map}
 use Rattle.std.proofs.lemmas.Cmp.{tied_itself}
 use Rattle.std.proofs.lemmas.Slice.Eq.{bytes_eq-Decides}
 use Rattle.indexmap.specs.IndexMap.{insert_entry}
 use Rattle.dc_text.specs.Maps.{text_cmp}
-use Rattle.dc_text.proofs.MapLemmas.{exact_texts, seen, map-set_value}
+use Rattle.dc_text.proofs.MapLemmas.{exact_texts, seen}
 
 is_equal : (o : Ordering) → is_eq o ≡ true → o ≡ Equal
 is_equal Less e = absurd (cc)
@@ -91,32 +88,8 @@ module _ {X : Type 0} where
       ∙ ap (cond (eq_by_cmp text_cmp q k) None) (sym (get-from_entries nat_list_cmp_total es q))
       ∙ sym (get-remove nat_list_cmp_total (from_entries es) k q))
 
-  -- ---- a value written over
-
-  set_value-same : (k : List ℕ) (es : List (List ℕ × X)) (v : X) → set_value (bytes_eq k) es v ≡ set_value (is_at (text_cmp k)) es v
-  set_value-same k [] v = refl
-  set_value-same k (e ∷ es) v = λ i. cond (same_test k e.0 i) ((e.0, v) ∷ es) (e ∷ set_value-same k es v i)
-
-  as_seen : (es : List (List ℕ × X)) → seen (λ k. k) es ≡ es
-  as_seen [] = refl
-  as_seen (e ∷ es) = ap (λ l. e ∷ l) (as_seen es)
-
-  pub table-set_value : (es fs : List (List ℕ × X)) (k : List ℕ) (v : X) → fs ≡ set_value (bytes_eq k) es v → is_some (get (from_entries {R = text_cmp} es) k) ≡ true
-      → from_entries {R = text_cmp} fs ≡ insert (from_entries es) k v
-  table-set_value es fs k v is there =
-      ap (λ l. from_entries l) (sym (as_seen fs))
-      ∙ map-set_value (λ k. k) es fs k v (is ∙ set_value-same k es v) (ap (λ l. is_some (get (from_entries {R = text_cmp} l) k)) (as_seen es) ∙ there)
-      ∙ ap (λ l. insert (from_entries l) k v) (as_seen es)
-
 -- ---- entries whose values are seen too
 
 module _ {Y X Z : Type 0} (f : Y → List ℕ) (h : X → Z) where
   abbrev pub shown : List (Y × X) → List (List ℕ × Z)
   shown es = map (λ e. (f e.0, h e.1)) es
-
--- ---- a value that is lent
-
--- what a loan may leave is the same as another, where it is with whatever stands behind the loan, and with no loan
-pub same_lent : {X R : Type 0} (o : Option (MutBor X)) (f g : X → R) (v w : R) → (is_some (option_copied_mut o) ≡ true → (x : X) → f x ≡ g x) → v ≡ w → read_of (ghost_name_of o) f v ≡ read_of (ghost_name_of o) g w
-same_lent (Some r) f g v w at none = λ i. inl (r.ghost_name, λ x. at refl x i)
-same_lent None f g v w at none = λ i. inr (none i)

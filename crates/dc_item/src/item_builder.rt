@@ -3,14 +3,15 @@ ghost use Rattle.std.specs.Prelude.{◌≡◌, IfOk, OnOk, OnErr, true, if◌the
 ghost use Rattle.std.specs.FinMap as map;
 ghost use Rattle.dc_text.specs.Maps.{set_of};
 ghost use Rattle.dc_text.specs.Names.{is_name, is_flag_name, is_field_key};
-ghost use Rattle.dc_text.specs.Settled.{is_settled};
+ghost use Rattle.dc_text.specs.Settled.{settled, is_settled};
 ghost use Rattle.dc_parts.specs.Usual.{usual_name};
 ghost use Rattle.dc_item.specs.Item.{no_parts};
 
 use crate::item::Item;
 use crate::marks::{FIELDS, FLAGS, OWNERS, VARIABLES};
 use dc_parts::{PartMapBuilder, UsualKey};
-use dc_text::{FlagName, List, Mem, Name, VarKey};
+use dc_text::bytes::split_at_byte;
+use dc_text::{FlagName, List, Mem, Name, VarKey, settle};
 use std::alloc::Global;
 use std::marker::Model;
 
@@ -55,6 +56,22 @@ impl ItemBuilder {
     {
         let is_new = self.parts.insert_new(FIELDS, key, value)?;
         Ok(is_new)
+    }
+
+    /// Puts the field of a value as it is written, which is settled, if the item has none with its key, and answers whether it had none.
+    pub fn put_written_field(&mut self, key: &[u8], written: &[u8]) -> Mem<bool>
+        requires { is_field_key key.now ≡ true }
+        ensures new { IfOk result (λ is_new. is_new ≡ not (map.contains_key self.old.fields key.now)) }
+        ensures put { IfOk result (λ is_new. self.new ≡ (if is_new then record self.old { fields = map.insert self.old.fields key.now (settled written.now) } else self.old)) }
+        ensures err { OnErr result (self.new ≡ self.old) }
+    {
+        match split_at_byte(written, b'\\') {
+            None => self.put_new_field(key, written),
+            Some(_) => {
+                let value = settle(self.alloc, written)?;
+                self.put_new_field(key, value.bytes())
+            }
+        }
     }
 
     /// Puts the usual field if the item has none with its key, and answers whether it had none.

@@ -22,6 +22,7 @@ mod table_key;
 pub use effect::Effect;
 pub use entry::Entry;
 pub use item::Item;
+pub use item_builder::ItemBuilder;
 pub use op::{After, Op};
 pub use owners::in_order;
 pub use printing::{print_record, print_records};

@@ -19,6 +19,7 @@ Table = Texts ItemParts
 abbrev pub table_code : Coded Table
 table_code = map.code (coded_list coded_ℕ) parts_code
 
+-- the operation makes an item where there is none
 abbrev pub is_put : Op → Bool
 is_put (Put item) = true
 is_put _ = false
