@@ -1,18 +1,13 @@
 -- What the reader sees of the lines so far, and the fault that it finds.
 use Rattle.std.proofs.Common.{◌≡◌, ℕ, Bool, true, false, cond, not, ◌&&◌, List, [], ◌∷◌, ◌++◌, Some, None, Option, Ok, Err, refl, sym, ap, ◌∙◌, subst}
-use Rattle.std.specs.Prelude.{◌||◌, is_some, MatchResult}
+use Rattle.std.specs.Prelude.{◌||◌, MatchResult}
 use Rattle.std.specs.List.{list_any, list_all, filter_map}
 use Rattle.std.specs.Str.{bytes_eq}
-use Rattle.std.specs.Ordering.{eq_by_cmp}
-use Rattle.std.specs.FinMap as map
 use Rattle.std.proofs.lemmas.List.{append-nil, map-append}
 use Rattle.std.proofs.lemmas.List.Elements.{filter_map-append}
-use Rattle.std.proofs.lemmas.Map.Text.{is_eq-slice_cmp}
 use Rattle.dc_text.specs.Bytes.{is_nil}
 use Rattle.dc_text.specs.Faults.{AllStand, IsFirstFault, run}
-use Rattle.dc_text.specs.Maps.{text_cmp, set_of}
 use Rattle.dc_text.proofs.FaultLemmas.{run_finds}
-use Rattle.dc_text.proofs.MapLemmas.{get-set_of, set_of-push}
 use Rattle.dc_template.specs.Forms.{forms}
 use Rattle.dc_text.proofs.FirstLemmas.{after_last-cons}
 use Rattle.dc_template.specs.TemplateFaults.{is_blank_form, since_blank, begins_stanza, name_in, key_in, is_indented_form, sets_description, ends_in_description, has_bad_type, until_blank, sets_type, fault, Stands, HasFault}
@@ -25,19 +20,6 @@ use Rattle.dc_template.specs.declared.forms.Line.{Line}
 use Rattle.dc_template.specs.declared.checking.Seen.{Seen}
 use Rattle.dc_template.specs.declared.faults.TemplateKind.{TemplateKind}
 use Rattle.dc_template.specs.declared.faults.TemplateKind.TheVariants.{NoTemplate, BadName, NoType, BadType, Twice, StrayIndent}
-
--- ---- a set's test
-
-is_some-cond : {X : Type 0} (b : Bool) (x : X) → is_some (cond b (Some x) None) ≡ b
-is_some-cond true x = refl
-is_some-cond false x = refl
-
-same_any : (q : List ℕ) (ts : List (List ℕ)) → list_any (eq_by_cmp text_cmp q) ts ≡ list_any (bytes_eq q) ts
-same_any q [] = refl
-same_any q (t ∷ ts) = λ i. is_eq-slice_cmp q t i || same_any q ts i
-
-pub contains-set_of : (ts : List (List ℕ)) (q : List ℕ) → map.contains_key (set_of ts) q ≡ list_any (bytes_eq q) ts
-contains-set_of ts q = ap is_some (get-set_of ts q) ∙ is_some-cond (list_any (eq_by_cmp text_cmp q) ts) tt ∙ same_any q ts
 
 -- ---- one more line
 
@@ -81,8 +63,8 @@ ends-indented (f ∷ fs) row =
 -- ---- what was seen of some lines
 
 pub record Sees (before : List Form) (s : Seen) : Type 0 where
-  pub names : s.names ≡ set_of (filter_map name_in before)
-  pub keys : s.keys ≡ set_of (filter_map key_in (since_blank before))
+  pub names : s.names ≡ filter_map name_in before
+  pub keys : s.keys ≡ filter_map key_in (since_blank before)
   pub opened : s.is_open ≡ not (begins_stanza before)
   pub describes : s.describes ≡ ends_in_description (since_blank before)
 
@@ -115,12 +97,10 @@ fault_same before s Colonless after h = refl
 fault_same before s Unkeyed after h = refl
 fault_same before s Unnamed after h = fault-unnamed (begins_stanza before)
 fault_same before s (Heads name) after h =
-    (λ i. cond (h.opened i) (Some Twice) (cond (not (list_any sets_type (until_blank after))) (Some NoType) (cond (map.contains_key (h.names i) name) (Some Twice) None)))
-    ∙ ap (λ t. cond (not (begins_stanza before)) (Some Twice) (cond (not (list_any sets_type (until_blank after))) (Some NoType) (cond t (Some Twice) None))) (contains-set_of (filter_map name_in before) name)
+    (λ i. cond (h.opened i) (Some Twice) (cond (not (list_any sets_type (until_blank after))) (Some NoType) (cond (list_any (bytes_eq name) (h.names i)) (Some Twice) None)))
     ∙ fault-heads (begins_stanza before) (list_any sets_type (until_blank after)) (list_any (bytes_eq name) (filter_map name_in before))
 fault_same before s (Sets key value) after h =
-    (λ i. cond (not (h.opened i)) (Some NoTemplate) (cond (has_bad_type (Sets key value)) (Some BadType) (cond (map.contains_key (h.keys i) key) (Some Twice) None)))
-    ∙ ap (λ t. cond (not (not (begins_stanza before))) (Some NoTemplate) (cond (has_bad_type (Sets key value)) (Some BadType) (cond t (Some Twice) None))) (contains-set_of (filter_map key_in (since_blank before)) key)
+    (λ i. cond (not (h.opened i)) (Some NoTemplate) (cond (has_bad_type (Sets key value)) (Some BadType) (cond (list_any (bytes_eq key) (h.keys i)) (Some Twice) None)))
     ∙ fault-sets (begins_stanza before) (has_bad_type (Sets key value)) (list_any (bytes_eq key) (filter_map key_in (since_blank before)))
 
 -- a line that belongs to a stanza which was begun
@@ -128,13 +108,13 @@ is_opened : {X : Type 0} (b : Bool) (x : X) (rest : Option X) → cond (not b) (
 is_opened true x rest e = refl
 is_opened false x rest e = absurd (cc)
 
-pushed-same : (before : List Form) (x : Form) → name_in x ≡ None → set_of (filter_map name_in (before ++ x ∷ [])) ≡ set_of (filter_map name_in before)
-pushed-same before x e = ap set_of (filter_map-append name_in before (x ∷ []) ∙ ap (λ (o : Option (List ℕ)). filter_map name_in before ++ Rattle.std.specs.List.cons_option o []) e ∙ append-nil (filter_map name_in before))
+pushed-same : (before : List Form) (x : Form) → name_in x ≡ None → filter_map name_in (before ++ x ∷ []) ≡ filter_map name_in before
+pushed-same before x e = filter_map-append name_in before (x ∷ []) ∙ ap (λ (o : Option (List ℕ)). filter_map name_in before ++ Rattle.std.specs.List.cons_option o []) e ∙ append-nil (filter_map name_in before)
 
-keys-same : (before : List Form) (x : Form) → is_blank_form x ≡ false → key_in x ≡ None → set_of (filter_map key_in (since_blank (before ++ x ∷ []))) ≡ set_of (filter_map key_in (since_blank before))
+keys-same : (before : List Form) (x : Form) → is_blank_form x ≡ false → key_in x ≡ None → filter_map key_in (since_blank (before ++ x ∷ [])) ≡ filter_map key_in (since_blank before)
 keys-same before x unblank e =
-    ap (λ g. set_of (filter_map key_in g)) (since_blank-push before x unblank)
-    ∙ ap set_of (filter_map-append key_in (since_blank before) (x ∷ []) ∙ ap (λ (o : Option (List ℕ)). filter_map key_in (since_blank before) ++ Rattle.std.specs.List.cons_option o []) e ∙ append-nil (filter_map key_in (since_blank before)))
+    ap (filter_map key_in) (since_blank-push before x unblank)
+    ∙ filter_map-append key_in (since_blank before) (x ∷ []) ∙ ap (λ (o : Option (List ℕ)). filter_map key_in (since_blank before) ++ Rattle.std.specs.List.cons_option o []) e ∙ append-nil (filter_map key_in (since_blank before))
 
 opened-push : (before : List Form) (x : Form) → is_blank_form x ≡ false → true ≡ not (begins_stanza (before ++ x ∷ []))
 opened-push before x e = sym (ap (λ g. not (is_nil g)) (since_blank-push before x e) ∙ ap not (not_nil (since_blank before) x))
@@ -142,7 +122,7 @@ opened-push before x e = sym (ap (λ g. not (is_nil g)) (since_blank-push before
 pub noted_sees : (before : List Form) (s : Seen) (line : Form) (after : List Form) → Sees before s → fault_seen s line after ≡ None → Sees (before ++ line ∷ []) (noted s line)
 noted_sees before s Blank after h e = record {
   names = h.names ∙ sym (pushed-same before Blank refl);
-  keys = ap (λ g. set_of (filter_map key_in g)) (sym (since_blank-blank before));
+  keys = ap (filter_map key_in) (sym (since_blank-blank before));
   opened = ap (λ g. not (is_nil g)) (sym (since_blank-blank before));
   describes = ap ends_in_description (sym (since_blank-blank before));
 }
@@ -156,17 +136,16 @@ noted_sees before s Colonless after h e = absurd (cc)
 noted_sees before s Unkeyed after h e = absurd (cc)
 noted_sees before s Unnamed after h e = absurd (cc)
 noted_sees before s (Heads name) after h e = record {
-  names = ap (λ m. map.insert m name tt) h.names ∙ sym (ap set_of (filter_map-append name_in before (Heads name ∷ [])) ∙ set_of-push (filter_map name_in before) name);
+  names = ap (λ ns. ns ++ name ∷ []) h.names ∙ sym (filter_map-append name_in before (Heads name ∷ []));
   keys = h.keys ∙ sym (keys-same before (Heads name) refl refl);
   opened = opened-push before (Heads name) refl;
   describes = sym (ap ends_in_description (since_blank-push before (Heads name) refl) ∙ ends-other (since_blank before) (Heads name) refl);
 }
 noted_sees before s (Sets key value) after h e = record {
   names = h.names ∙ sym (pushed-same before (Sets key value) refl);
-  keys = ap (λ m. map.insert m key tt) h.keys
-      ∙ sym (ap (λ g. set_of (filter_map key_in g)) (since_blank-push before (Sets key value) refl)
-      ∙ ap set_of (filter_map-append key_in (since_blank before) (Sets key value ∷ [])) ∙ set_of-push (filter_map key_in (since_blank before)) key);
-  opened = is_opened s.is_open NoTemplate (cond (has_bad_type (Sets key value)) (Some BadType) (cond (map.contains_key s.keys key) (Some Twice) None)) e ∙ opened-push before (Sets key value) refl;
+  keys = ap (λ ks. ks ++ key ∷ []) h.keys
+      ∙ sym (ap (filter_map key_in) (since_blank-push before (Sets key value) refl) ∙ filter_map-append key_in (since_blank before) (Sets key value ∷ []));
+  opened = is_opened s.is_open NoTemplate (cond (has_bad_type (Sets key value)) (Some BadType) (cond (list_any (bytes_eq key) s.keys) (Some Twice) None)) e ∙ opened-push before (Sets key value) refl;
   describes = sym (ap ends_in_description (since_blank-push before (Sets key value) refl) ∙ ends-other (since_blank before) (Sets key value) refl);
 }
 

@@ -1,5 +1,5 @@
 -- Fields as entries, and as a map.
-use Rattle.std.proofs.Common.{◌≡◌, ℕ, Bool, true, false, cond, ◌&&◌, List, [], ◌∷◌, ◌++◌, map as each, Some, refl, sym, ap, ◌∙◌, subst}
+use Rattle.std.proofs.Common.{◌≡◌, ℕ, Bool, true, false, cond, ◌&&◌, List, [], ◌∷◌, ◌++◌, Some, refl, sym, ap, ◌∙◌, subst}
 use Rattle.std.specs.Prelude.{T}
 use Rattle.std.specs.List.{AllByRecursion}
 use Rattle.std.specs.declared.cmp.Ordering.{Ordering}
@@ -11,10 +11,7 @@ use Rattle.std.specs.FinMap.{find, is_sorted}
 use Rattle.std.specs.FinMap.Entries.{below_all}
 use Rattle.std.proofs.lemmas.Map.Text.{is_eq-slice_cmp}
 use Rattle.std.proofs.lemmas.Slice.Eq.{bytes_eq-Decides}
-use Rattle.dc_text.specs.Names.{is_field_key}
-use Rattle.dc_template.specs.Stanzas.{Stanza, fields_of, stanza, IsFieldAmong, field_map, IsTemplate}
-use Rattle.dc_template.specs.declared.kinds.Kind.{Kind}
-use Rattle.dc_template.specs.declared.forms.Form.{Form}
+use Rattle.dc_template.specs.Stanzas.{Stanza, IsFieldAmong, field_map, IsTemplate}
 use Rattle.dc_text.specs.Maps.{Texts, text_cmp}
 
 -- the entries put into a map, the last one first
@@ -76,16 +73,6 @@ each_field t h = subst (AllByRecursion (λ e. IsFieldAmong (field_map t) e.0 e.1
   sound : (es : List (List ℕ × List ℕ)) → AllByRecursion (λ e. map.get (field_map t) e.0 ≡ Some e.1) es → AllByRecursion (λ e. IsFieldAmong (field_map t) e.0 e.1) es
   sound [] g = tt
   sound (e ∷ es) g = (h.sound e.0 e.1 g.0, sound es g.1)
-
-keys_fit : (m : Texts (List ℕ)) (es : List (List ℕ × List ℕ)) → AllByRecursion (λ e. IsFieldAmong m e.0 e.1) es → AllByRecursion (λ k. is_field_key k ≡ true) (each (λ e. e.0) es)
-keys_fit m [] h = tt
-keys_fit m (e ∷ es) h = (h.0.is_key, keys_fit m es h.1)
-
--- the keys of a stanza's fields
-pub stanza_keys : (name : List ℕ) (kind : Kind) (lines : List Form) (m : Texts (List ℕ)) → m ≡ fields_of lines → IsTemplate (stanza name kind lines) → AllByRecursion (λ k. is_field_key k ≡ true) (map.keys m)
-stanza_keys name kind lines m is h =
-    subst (λ n. AllByRecursion (λ k. is_field_key k ≡ true) (map.keys n)) (sym is)
-    (keys_fit (field_map (stanza name kind lines)) (map.entries (fields_of lines)) (each_field (stanza name kind lines) h))
 
 -- an entry that was popped goes into the map
 pub pop_turn : (list new : List (List ℕ × List ℕ)) (key value : List ℕ) (m n all : Texts (List ℕ)) → list ≡ new ++ (key, value) ∷ [] → n ≡ map.insert m key value → put_back list m ≡ all → put_back new n ≡ all

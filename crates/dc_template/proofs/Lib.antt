@@ -1,3 +1,4 @@
+pub mod ApartLemmas
 pub mod CheckLemmas
 pub mod ExpansionLemmas
 pub mod FaultLaws
@@ -11,6 +12,8 @@ pub mod PrintedForms
 pub mod PrintedLines
 pub mod ReadAgain
 pub mod RowLemmas
+pub mod SeenLemmas
+pub mod SortedFields
 pub mod SoundLemmas
 pub mod StanzaLemmas
 pub mod TestLemmas

@@ -38,7 +38,7 @@ use Rattle.dc_template.specs.declared.faults.TemplateKind.{TemplateKind}
 -- ---- indented lines stand under descriptions
 
 -- each indented line goes on the line of a description; where `describes` is true the line before is one
-abbrev IsUnder : Bool → List Form → Type 0
+abbrev pub IsUnder : Bool → List Form → Type 0
 IsUnder describes [] = Unit {0}
 IsUnder describes (Indented row ∷ lines) = (describes ≡ true) × IsUnder describes lines
 IsUnder describes (Sets key value ∷ lines) = IsUnder (is_description key) lines
@@ -49,7 +49,7 @@ goes_ok (Ok s) f t e = (s, refl, e)
 goes_ok (Err x) f t e = absurd (cc)
 
 -- a line that is taken, and the lines after it
-run_cons : (l : Line) (lines : List Line) (s t : Seen) → run step (l ∷ lines) s ≡ Ok t → (fault_seen s l.form (forms lines) ≡ None) × (run step lines (noted s l.form) ≡ Ok t)
+pub run_cons : (l : Line) (lines : List Line) (s t : Seen) → run step (l ∷ lines) s ≡ Ok t → (fault_seen s l.form (forms lines) ≡ None) × (run step lines (noted s l.form) ≡ Ok t)
 run_cons l lines s t e =
     let g : (u : Seen) × (step s l lines ≡ Ok u) × (run step lines u ≡ Ok t) = goes_ok (step s l lines) (λ u. run step lines u) t e in
     let f : (fault_seen s l.form (forms lines) ≡ None) × (noted s l.form ≡ g.0) = step_ok (fault_seen s l.form (forms lines)) s g.0 l g.1 in
@@ -69,12 +69,12 @@ under_line Unnamed lines s e h = absurd (cc)
 under_line (Heads name) lines s e h = h
 under_line (Sets key value) lines s e h = h
 
-run_under : (lines : List Line) (s t : Seen) → run step lines s ≡ Ok t → IsUnder s.describes (forms lines)
+pub run_under : (lines : List Line) (s t : Seen) → run step lines s ≡ Ok t → IsUnder s.describes (forms lines)
 run_under [] s t e = tt
 run_under (l ∷ lines) s t e = let f : (fault_seen s l.form (forms lines) ≡ None) × (run step lines (noted s l.form) ≡ Ok t) = run_cons l lines s t e in
     under_line l.form (forms lines) s f.0 (run_under lines (noted s l.form) t f.1)
 
-until_under : (describes : Bool) (lines : List Form) → IsUnder describes lines → IsUnder describes (until_blank lines)
+pub until_under : (describes : Bool) (lines : List Form) → IsUnder describes lines → IsUnder describes (until_blank lines)
 until_under d [] h = tt
 until_under d (Blank ∷ lines) h = tt
 until_under d (Indented row ∷ lines) h = subst (IsUnder d) (sym (before_first-later is_blank_form (Indented row) lines refl)) (h.0, until_under d lines h.1)
@@ -84,7 +84,7 @@ until_under d (Unnamed ∷ lines) h = subst (IsUnder d) (sym (before_first-later
 until_under d (Heads name ∷ lines) h = subst (IsUnder d) (sym (before_first-later is_blank_form (Heads name) lines refl)) (until_under false lines h)
 until_under d (Sets key value ∷ lines) h = subst (IsUnder d) (sym (before_first-later is_blank_form (Sets key value) lines refl)) (until_under (is_description key) lines h)
 
-until_sound : (lines : List Form) → AllByRecursion IsSoundForm lines → AllByRecursion IsSoundForm (until_blank lines)
+pub until_sound : (lines : List Form) → AllByRecursion IsSoundForm lines → AllByRecursion IsSoundForm (until_blank lines)
 until_sound [] h = tt
 until_sound (f ∷ lines) h =
     subst (AllByRecursion IsSoundForm) (sym (before_first-cons is_blank_form f lines))
@@ -99,7 +99,7 @@ pub key_same : (a b : List ℕ) → same_key a b ≡ true → a ≡ b
 key_same a b e = same_text a b (sym (sym (is_eq-slice_cmp a b) ∙ e))
 
 -- the key of an extended text is longer by nine bytes, and none of the others is one
-line_key : (key : List ℕ) → is_line_key key ≡ true → (is_field_key key ≡ true) × (is_extended key ≡ false) × ((is_description key && nat_lt 55 (length key)) ≡ false)
+pub line_key : (key : List ℕ) → is_line_key key ≡ true → (is_field_key key ≡ true) × (is_extended key ≡ false) × ((is_description key && nat_lt 55 (length key)) ≡ false)
 line_key key e =
     let f : (is_field_key key ≡ true) × (not (is_extended key || (is_description key && nat_lt 55 (length key))) ≡ true) = both _ _ e in
     let g : (is_extended key ≡ false) × ((is_description key && nat_lt 55 (length key)) ≡ false) = neither _ _ (not_true _ f.1) in
@@ -113,7 +113,7 @@ second true b p e = e
 second false b p e = absurd (cc)
 
 -- the key of a description, which leaves room, as the key of its extended text
-extended_is_key : (key : List ℕ) → is_line_key key ≡ true → is_description key ≡ true → is_field_key (extended_key key) ≡ true
+pub extended_is_key : (key : List ℕ) → is_line_key key ≡ true → is_description key ≡ true → is_field_key (extended_key key) ≡ true
 extended_is_key key e d =
     let f : (is_field_key key ≡ true) × (is_extended key ≡ false) × ((is_description key && nat_lt 55 (length key)) ≡ false) = line_key key e in
     let is : IsKey key = key_is key f.0 in
@@ -121,7 +121,7 @@ extended_is_key key e d =
     let sized : has_length 64 (extended_key key) ≡ true = ap (λ n. nat_le 1 n && nat_le n 64) size ∙ short_enough (length key) (second (is_description key) (nat_lt 55 (length key)) d f.2) in
     both_hold _ _ (both_hold _ _ sized is.bytes) refl
 
-extended_is : (key : List ℕ) → is_description key ≡ true → is_extended (extended_key key) ≡ true
+pub extended_is : (key : List ℕ) → is_description key ≡ true → is_extended (extended_key key) ≡ true
 extended_is key e = e
 
 -- ---- the fields of some lines
@@ -184,11 +184,11 @@ field_at : (es : List (List ℕ × List ℕ)) (key k value v : List ℕ) → Fou
 field_at es key k value v f g = subst (λ x. FieldIn es x value) (sym f.key_is) (subst (λ x. FieldIn es k x) f.value_is g)
 
 -- the first of the rows stands under a description
-abbrev AreDescribed : Bool → List Row → Type 0
+abbrev pub AreDescribed : Bool → List Row → Type 0
 AreDescribed describes [] = Unit {0}
 AreDescribed describes (row ∷ rows) = describes ≡ true
 
-first_described : (describes : Bool) (lines : List Form) → IsUnder describes lines → AreDescribed describes (rows_first lines)
+pub first_described : (describes : Bool) (lines : List Form) → IsUnder describes lines → AreDescribed describes (rows_first lines)
 first_described d [] h = tt
 first_described d (Blank ∷ lines) h = tt
 first_described d (Indented row ∷ lines) h = h.0

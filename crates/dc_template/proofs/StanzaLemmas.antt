@@ -1,8 +1,9 @@
 -- The lines of a stanza, one after another.
-use Rattle.std.proofs.Common.{◌≡◌, ℕ, ◌-◌, ◌≤◌, false, cond, List, [], ◌∷◌, ◌++◌, length, get_or, take, drop, refl, sym, ap, ◌∙◌, arith, append_assoc}
+use Rattle.std.proofs.Common.{◌≡◌, ℕ, ◌-◌, ◌≤◌, false, cond, List, [], ◌∷◌, ◌++◌, length, get_or, take, drop, refl, sym, ap, ◌∙◌, arith, append_assoc, subst}
 use Rattle.std.specs.Prelude.{◌||◌}
 use Rattle.std.specs.List.{list_any}
 use Rattle.dc_template.specs.Kinds.{kind_of}
+use Rattle.dc_template.specs.Fields.{HaveKeys}
 use Rattle.dc_template.specs.Forms.{forms}
 use Rattle.dc_template.specs.Stanzas.{as_field, extended_key, extended_text, rows_first, fields_at, fields_in, kind_in}
 use Rattle.dc_text.proofs.FirstLemmas.{before_first-later}
@@ -79,3 +80,14 @@ fields_turn fields new all rest tail l whole solid is so_far =
     ∙ ap (λ ls. fields ++ fields_in ls) (sym (before_first-later is_blank_form l.form (forms tail) solid))
     ∙ ap (λ ls. fields ++ fields_in (until_blank (forms ls))) (sym whole)
     ∙ so_far
+
+fields_keyed : (xs ys : List (List ℕ × List ℕ)) → HaveKeys (xs ++ ys) → HaveKeys xs × HaveKeys ys
+fields_keyed [] ys h = (tt, h)
+fields_keyed (x ∷ xs) ys h = let f : HaveKeys xs × HaveKeys ys = fields_keyed xs ys h.1 in ((h.0, f.0), f.1)
+
+-- the keys of the first line's fields, and of those of the other lines
+pub keys_turn : (rest tail : List Line) (l : Line) → rest ≡ l ∷ tail → is_blank_form l.form ≡ false → HaveKeys (fields_in (until_blank (forms rest)))
+    → HaveKeys (fields_at l.form (forms tail)) × HaveKeys (fields_in (until_blank (forms tail)))
+keys_turn rest tail l whole solid h =
+    fields_keyed (fields_at l.form (forms tail)) (fields_in (until_blank (forms tail)))
+    (subst HaveKeys (ap fields_in (until_first rest tail l whole solid) ∙ ap (λ es. es ++ fields_in (until_blank (forms tail))) (fields-until l.form (forms tail))) h)

@@ -1,4 +1,5 @@
 pub mod Expansion
+pub mod Fields
 pub mod Forms
 pub mod Kinds
 pub mod Languages

@@ -1,8 +1,7 @@
 -- What the reader does with one line, as a function. The proofs alone speak of it.
-use Rattle.std.specs.Prelude.{◌≡◌, true, false, not, ◌&&◌, List, Option, Some, None, is_none, Result, Ok, Err, if◌then◌else◌}
+use Rattle.std.specs.Prelude.{◌≡◌, true, false, not, ◌&&◌, List, [], ◌∷◌, ◌++◌, Option, Some, None, is_none, Result, Ok, Err, if◌then◌else◌}
 use Rattle.std.specs.List.{list_any}
 use Rattle.std.specs.Str.{bytes_eq}
-use Rattle.std.specs.FinMap as map
 use Rattle.dc_template.specs.Kinds.{kind_of}
 use Rattle.dc_template.specs.Forms.{type_word, is_description, forms}
 use Rattle.dc_template.specs.TemplateFaults.{until_blank, sets_type}
@@ -24,22 +23,22 @@ fault_seen s Unnamed after = Some BadName
 fault_seen s (Heads name) after =
     if s.is_open then Some Twice
     else if not (list_any sets_type (until_blank after)) then Some NoType
-    else if map.contains_key s.names name then Some Twice
+    else if list_any (bytes_eq name) s.names then Some Twice
     else None
 fault_seen s (Sets key value) after =
     if not s.is_open then Some NoTemplate
     else if bytes_eq key type_word && is_none (kind_of value) then Some BadType
-    else if map.contains_key s.keys key then Some Twice
+    else if list_any (bytes_eq key) s.keys then Some Twice
     else None
 
 abbrev pub noted : Seen → Form → Seen
-noted s Blank = record s { keys = map.empty; is_open = false; describes = false }
-noted s (Heads name) = record s { names = map.insert s.names name tt; is_open = true; describes = false }
-noted s (Sets key value) = record s { keys = map.insert s.keys key tt; describes = is_description key }
+noted s Blank = record s { keys = []; is_open = false; describes = false }
+noted s (Heads name) = record s { names = s.names ++ name ∷ []; is_open = true; describes = false }
+noted s (Sets key value) = record s { keys = s.keys ++ key ∷ []; describes = is_description key }
 noted s _ = s
 
 abbrev pub at_start : Seen
-at_start = record { names = map.empty; keys = map.empty; is_open = false; describes = false }
+at_start = record { names = []; keys = []; is_open = false; describes = false }
 
 abbrev pub step_by : Option TemplateKind → Seen → Line → Result Seen (Line × TemplateKind)
 step_by None s line = Ok (noted s line.form)

@@ -1,110 +1,117 @@
 // Which line of a template file has the first fault.
-ghost use Rattle.std.specs.Prelude.{◌≡◌, ◌&&◌, OnOk, MatchResult, is_none, Ok};
+ghost use Rattle.std.specs.Prelude.{◌≡◌, ◌&&◌, IfOk, MatchResult, List as Listed, is_none, None, Ok};
 ghost use Rattle.std.specs.List.{list_any};
 ghost use Rattle.std.specs.Str.{bytes_eq};
 ghost use Rattle.dc_text.specs.Faults.{run};
 ghost use Rattle.dc_template.specs.Kinds.{kind_of};
 ghost use Rattle.dc_template.specs.Forms.{forms, type_word};
+ghost use Rattle.dc_template.specs.declared.forms.Form.{Form as FormOf};
+ghost use Rattle.dc_template.specs.declared.forms.Row.{Row as RowOf};
 ghost use Rattle.dc_template.specs.TemplateFaults.{until_blank, sets_type as sets_type_of, is_blank_form};
 
 use crate::faults::{TemplateError, TemplateKind};
 use crate::forms::{Form, Line, is_description};
 use crate::kinds::Kind;
-use dc_text::{FieldKey, Mem, Text, TextMap};
+use crate::seen::{FewSeen, ManySeen};
+use dc_text::{FieldKey, Mem, Name, Text};
 use std::alloc::Global;
 
 /// What was seen of the lines so far.
 #[derive(Drop)]
-pub struct Seen {
+pub struct Seen<'a> {
     /// The names of the Template lines.
-    pub names: TextMap<()>,
+    pub names: ManySeen<'a>,
     /// The keys in the stanza.
-    pub keys: TextMap<()>,
+    pub keys: FewSeen<'a>,
     /// Whether a line of the stanza was seen.
     pub is_open: bool,
     /// Whether an indented line would belong to a description.
     pub describes: bool,
 }
 
-impl Seen {
+impl<'a> Seen<'a> {
     ghost use Rattle.dc_template.specs.Machine.{at_start, fault_seen, noted};
 
     fn new(alloc: Global) -> Self
         ensures { result ≡ at_start }
     {
         Seen {
-            names: TextMap::new(alloc),
-            keys: TextMap::new(alloc),
+            names: ManySeen::new(alloc),
+            keys: FewSeen::new(alloc),
             is_open: false,
             describes: false,
         }
     }
 
-    // The fault of a line before these lines, if it has one.
-    fn fault(&self, form: &Form, after: &[Line]) -> Option<TemplateKind>
-        ensures { result ≡ fault_seen self.now form.now (forms after.now) }
-    {
-        match form {
-            Form::Blank => None,
-            Form::Indented(_) => {
-                if !self.is_open {
-                    Some(TemplateKind::NoTemplate)
-                } else if self.describes {
-                    None
-                } else {
-                    Some(TemplateKind::StrayIndent)
-                }
-            }
-            Form::Colonless => Some(TemplateKind::NoColon),
-            Form::Unkeyed => Some(TemplateKind::BadKey),
-            Form::Unnamed => Some(TemplateKind::BadName),
-            Form::Heads(name) => {
-                if self.is_open {
-                    Some(TemplateKind::Twice)
-                } else if !has_type(after) {
-                    Some(TemplateKind::NoType)
-                } else if self.names.contains(name.bytes()) {
-                    Some(TemplateKind::Twice)
-                } else {
-                    None
-                }
-            }
-            Form::Sets(key, value) => {
-                if !self.is_open {
-                    Some(TemplateKind::NoTemplate)
-                } else if is_bad_type(key, value) {
-                    Some(TemplateKind::BadType)
-                } else if self.keys.contains(key.bytes()) {
-                    Some(TemplateKind::Twice)
-                } else {
-                    None
-                }
-            }
-        }
-    }
-
-    // Takes a line without a fault.
-    fn note(&mut self, alloc: Global, form: &Form) -> Mem<()>
-        ensures { OnOk result (self.new ≡ noted self.old form.now) }
+    // Takes a line before these lines, unless it has a fault.
+    fn take(&mut self, form: &'a Form, after: &[Line]) -> Mem<Option<TemplateKind>>
+        ensures fault { IfOk result (λ fault. fault ≡ fault_seen self.old form.now (forms after.now)) }
+        ensures noted { IfOk result (λ fault. fault ≡ None → self.new ≡ noted self.old form.now) }
     {
         match form {
             Form::Blank => {
-                self.keys = TextMap::new(alloc);
+                self.keys.clear();
                 self.is_open = false;
                 self.describes = false;
+                Ok(None)
             }
-            Form::Heads(name) => {
-                self.names.insert(name.copy()?.into_text(), ())?;
-                self.is_open = true;
-                self.describes = false;
-            }
-            Form::Sets(key, _) => {
-                self.keys.insert(key.copy()?.into_text(), ())?;
-                self.describes = is_description(key.bytes());
-            }
-            Form::Indented(_) | Form::Colonless | Form::Unkeyed | Form::Unnamed => {}
+            Form::Indented(_) => Ok(self.fault_of_indented()),
+            Form::Colonless => Ok(Some(TemplateKind::NoColon)),
+            Form::Unkeyed => Ok(Some(TemplateKind::BadKey)),
+            Form::Unnamed => Ok(Some(TemplateKind::BadName)),
+            Form::Heads(name) => self.take_name(name, after),
+            Form::Sets(key, value) => self.take_key(key, value),
         }
-        Ok(())
+    }
+
+    // The fault of an indented line, if it has one.
+    fn fault_of_indented(&self) -> Option<TemplateKind>
+        ensures { (row : RowOf) (after : Listed FormOf) → result ≡ fault_seen self.now (Form.Indented row) after }
+    {
+        if !self.is_open {
+            Some(TemplateKind::NoTemplate)
+        } else if self.describes {
+            None
+        } else {
+            Some(TemplateKind::StrayIndent)
+        }
+    }
+
+    // Takes a Template line before these lines, unless it has a fault.
+    fn take_name(&mut self, name: &'a Name, after: &[Line]) -> Mem<Option<TemplateKind>>
+        ensures fault { IfOk result (λ fault. fault ≡ fault_seen self.old (Form.Heads name.now) (forms after.now)) }
+        ensures noted { IfOk result (λ fault. fault ≡ None → self.new ≡ noted self.old (Form.Heads name.now)) }
+    {
+        if self.is_open {
+            return Ok(Some(TemplateKind::Twice));
+        }
+        if !has_type(after) {
+            return Ok(Some(TemplateKind::NoType));
+        }
+        if !self.names.add(name.bytes())? {
+            return Ok(Some(TemplateKind::Twice));
+        }
+        self.is_open = true;
+        self.describes = false;
+        Ok(None)
+    }
+
+    // Takes a line that sets a field, unless it has a fault.
+    fn take_key(&mut self, key: &'a FieldKey, value: &Text) -> Mem<Option<TemplateKind>>
+        ensures fault { (after : Listed FormOf) → IfOk result (λ fault. fault ≡ fault_seen self.old (Form.Sets key.now value.now) after) }
+        ensures noted { IfOk result (λ fault. fault ≡ None → self.new ≡ noted self.old (Form.Sets key.now value.now)) }
+    {
+        if !self.is_open {
+            return Ok(Some(TemplateKind::NoTemplate));
+        }
+        if is_bad_type(key, value) {
+            return Ok(Some(TemplateKind::BadType));
+        }
+        if !self.keys.add(key.bytes())? {
+            return Ok(Some(TemplateKind::Twice));
+        }
+        self.describes = is_description(key.bytes());
+        Ok(None)
     }
 }
 
@@ -148,7 +155,7 @@ fn sets_type(form: &Form) -> bool
 pub fn is_type(key: &FieldKey) -> bool
     ensures { result ≡ bytes_eq key.now type_word }
 {
-    key.bytes() == b"type".as_slice()
+    matches!(key.bytes(), b"type")
 }
 
 fn is_bad_type(key: &FieldKey, value: &Text) -> bool
@@ -161,7 +168,7 @@ ghost use Rattle.dc_template.specs.Machine.{step, at_start, Fails};
 ghost use Rattle.dc_template.specs.declared.checking.Seen.{Seen as SeenSoFar};
 
 /// Whether each line stands where it does. Otherwise the error is the first fault.
-pub fn check(alloc: Global, lines: &[Line]) -> Result<(), TemplateError>
+pub fn check<'a>(alloc: Global, lines: &'a [Line]) -> Result<(), TemplateError>
     ensures { MatchResult result
         (λ _. (seen : SeenSoFar) × (run step lines.now at_start ≡ Ok seen))
         (λ error. Fails error (run step lines.now at_start)) }
@@ -169,13 +176,12 @@ pub fn check(alloc: Global, lines: &[Line]) -> Result<(), TemplateError>
     let mut seen = Seen::new(alloc);
     let mut rest = lines;
     while let [line, after @ ..] = rest {
-        if let Some(kind) = seen.fault(&line.form, after) {
+        if let Some(kind) = seen.take(&line.form, after)? {
             return Err(TemplateError::Bad {
                 line: line.number,
                 kind,
             });
         }
-        seen.note(alloc, &line.form)?;
         rest = after;
     }
     Ok(())

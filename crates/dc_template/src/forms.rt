@@ -1,8 +1,10 @@
 // What the lines of a template file say.
-ghost use Rattle.std.specs.Prelude.{◌≡◌, ◌∷◌, ◌++◌, ◌+◌, ◌≤◌, [], length, map, IfOk, OnOk, true};
+ghost use Rattle.std.specs.Prelude.{◌≡◌, ◌∷◌, ◌++◌, ◌+◌, ◌≤◌, ℕ, [], List as Listed, length, map, IfOk, MatchOption, OnOk, codes, true};
 ghost use Rattle.std.specs.List.{take_while};
+ghost use Rattle.std.specs.Str.{bytes_eq};
 ghost use Rattle.dc_text.specs.Bytes.{lower, is_indented as is_indented_of};
 ghost use Rattle.dc_text.specs.Lines.{lines_of};
+ghost use Rattle.dc_text.specs.Names.{is_field_key};
 
 use dc_text::bytes::{is_blank, is_indented, split_at_byte, split_line, trim, trim_end};
 use dc_text::{FieldKey, List, Mem, Name, NameRefused, OutOfMemory, Text};
@@ -42,7 +44,7 @@ pub struct Line {
     pub form: Form,
 }
 
-ghost use Rattle.dc_template.specs.Forms.{form_of, headed, row_of, row_text, is_description as is_description_of, is_extended as is_extended_of, is_line_key as is_line_key_of, is_comment as is_comment_of, line_at, lines_in, lines_from};
+ghost use Rattle.dc_template.specs.Forms.{form_of, headed, template_word, row_of, row_text, is_description as is_description_of, is_extended as is_extended_of, is_line_key as is_line_key_of, is_comment as is_comment_of, line_at, lines_in, lines_from};
 
 /// The lines of a text, without comments.
 pub fn read_lines(alloc: Global, text: &[u8]) -> Mem<List<Line>>
@@ -101,7 +103,7 @@ fn read_row(alloc: Global, line: &[u8]) -> Mem<Row>
     if is_indented(&line[1..]) {
         return Ok(Row::Kept(row_text_of(alloc, line)?));
     }
-    if trim(line) == b".".as_slice() {
+    if matches!(trim(line), b".") {
         return Ok(Row::Empty);
     }
     Ok(Row::Flowing(row_text_of(alloc, line)?))
@@ -118,6 +120,53 @@ fn row_text_of(alloc: Global, line: &[u8]) -> Mem<Text>
 fn read_headed(alloc: Global, word: &[u8], value: &[u8]) -> Mem<Form>
     ensures { IfOk result (λ form. form ≡ headed (map lower word.now) value.now) }
 {
+    if is_template_word(word) {
+        return read_heading(alloc, value);
+    }
+    match usual_key(word) {
+        Some(key) => Ok(Form::Sets(
+            FieldKey::known(alloc, key)?,
+            Text::from_bytes(alloc, value)?,
+        )),
+        None => read_other(alloc, word, value),
+    }
+}
+
+// Whether the word heads a template, where it is spelled as most do.
+fn is_template_word(word: &[u8]) -> bool
+    ensures { result ≡ bytes_eq word.now (codes "Template") }
+{
+    matches!(word, b"Template")
+}
+
+// The key that most templates have, where it is spelled as they do.
+fn usual_key(word: &[u8]) -> Option<&'static [u8]>
+    ensures { MatchOption result (Unit {0}) (λ key. (key.now ≡ map lower word.now) × (is_field_key key.now ≡ true) × ((value : Listed ℕ) → headed key.now value ≡ Form.Sets key.now value)) }
+{
+    match word {
+        b"Type" => Some(b"type"),
+        b"Default" => Some(b"default"),
+        b"Choices" => Some(b"choices"),
+        b"Description" => Some(b"description"),
+        _ => None,
+    }
+}
+
+// A Template line.
+fn read_heading(alloc: Global, value: &[u8]) -> Mem<Form>
+    ensures { IfOk result (λ form. form ≡ headed template_word value.now) }
+{
+    match Name::read(alloc, value) {
+        Ok(name) => Ok(Form::Heads(name)),
+        Err(NameRefused::Bad) => Ok(Form::Unnamed),
+        Err(NameRefused::OutOfMemory) => Err(OutOfMemory),
+    }
+}
+
+// A line whose word is spelled in any way.
+fn read_other(alloc: Global, word: &[u8], value: &[u8]) -> Mem<Form>
+    ensures { IfOk result (λ form. form ≡ headed (map lower word.now) value.now) }
+{
     match FieldKey::read(alloc, word) {
         Ok(key) => read_keyed(alloc, key, value),
         Err(NameRefused::Bad) => Ok(Form::Unkeyed),
@@ -129,11 +178,7 @@ fn read_keyed(alloc: Global, key: FieldKey, value: &[u8]) -> Mem<Form>
     ensures { IfOk result (λ form. form ≡ headed key value.now) }
 {
     if key.bytes() == b"template".as_slice() {
-        return match Name::read(alloc, value) {
-            Ok(name) => Ok(Form::Heads(name)),
-            Err(NameRefused::Bad) => Ok(Form::Unnamed),
-            Err(NameRefused::OutOfMemory) => Err(OutOfMemory),
-        };
+        return read_heading(alloc, value);
     }
     if !is_line_key(&key) {
         return Ok(Form::Unkeyed);
@@ -154,7 +199,14 @@ fn is_line_key(key: &FieldKey) -> bool
 pub fn is_description(key: &[u8]) -> bool
     ensures { result ≡ is_description_of key.now }
 {
-    key == b"description".as_slice() || key.starts_with(b"description-")
+    is_plain_description(key) || key.starts_with(b"description-")
+}
+
+/// Whether the key is that of a description, in no language of its own.
+pub(crate) fn is_plain_description(key: &[u8]) -> bool
+    ensures { result ≡ bytes_eq key.now (codes "description") }
+{
+    matches!(key, b"description")
 }
 
 /// Whether the key is that of an extended description, in any language.

@@ -15,18 +15,6 @@ pub enum Kind {
     Title,
 }
 
-const KINDS: [Kind; 9] = [
-    Kind::Str,
-    Kind::Bool,
-    Kind::Select,
-    Kind::Multiselect,
-    Kind::Password,
-    Kind::Note,
-    Kind::Txt,
-    Kind::Error,
-    Kind::Title,
-];
-
 impl Kind {
     ghost use Rattle.dc_template.specs.Kinds.{kind_of, kind_word};
 
@@ -34,7 +22,18 @@ impl Kind {
     pub fn read(word: &[u8]) -> Option<Self>
         ensures { result ≡ kind_of word.now }
     {
-        KINDS.iter().copied().find(|kind| kind.word() == word)
+        match word {
+            b"string" => Some(Kind::Str),
+            b"boolean" => Some(Kind::Bool),
+            b"select" => Some(Kind::Select),
+            b"multiselect" => Some(Kind::Multiselect),
+            b"password" => Some(Kind::Password),
+            b"note" => Some(Kind::Note),
+            b"text" => Some(Kind::Txt),
+            b"error" => Some(Kind::Error),
+            b"title" => Some(Kind::Title),
+            _ => None,
+        }
     }
 
     /// The word for the kind, as `string`.

@@ -11,6 +11,7 @@ pub mod languages;
 pub mod laws;
 pub mod printing;
 pub mod reading;
+mod seen;
 pub mod template;
 
 pub use expansion::{Variables, expand};

@@ -1,22 +1,25 @@
 // The templates of a file.
-ghost use Rattle.std.specs.Prelude.{◌≡◌, true, false, IfOk, MatchOption, OnOk, [], ◌∷◌, ◌++◌, ◌<◌, length, List as Listed, map as each};
+ghost use Rattle.std.specs.Prelude.{◌≡◌, true, false, IfOk, MatchOption, OnOk, [], ◌∷◌, ◌++◌, ◌<◌, length, List as Listed};
 ghost use Rattle.std.specs.List.{AllByRecursion};
 ghost use Rattle.std.specs.FinMap as map;
+ghost use Rattle.dc_text.specs.Maps.{text_cmp};
 ghost use Rattle.dc_text.specs.Names.{is_field_key};
 ghost use Rattle.dc_template.specs.Forms.{forms};
 ghost use Rattle.dc_template.specs.Kinds.{kind_of};
 ghost use Rattle.dc_template.specs.TemplateFaults.{until_blank, sets_type};
 ghost use Rattle.dc_template.specs.declared.forms.Form.{Form as FormOf};
 ghost use Rattle.dc_template.specs.Stanzas.{stanza, IsTemplate, kind_in as kind_in_of, fields_in, fields_at, extended_key as extended_key_of, extended_text as extended_text_of, rows_first, shown as shown_of, parting as parting_of};
+ghost use Rattle.dc_template.specs.Fields.{HaveKeys, AreApart, AreFit, StanzasAreFit};
 ghost use Rattle.dc_template.specs.Reading.{IsAnswer, AreSound, template_at, templates_in};
 
 use crate::checking::{check, is_blank, is_type};
 use crate::faults::TemplateError;
-use crate::forms::{Form, Line, Row, read_lines};
+use crate::forms::{Form, Line, Row, is_plain_description, read_lines};
 use crate::kinds::Kind;
 use crate::template::Template;
 use dc_text::{FieldKey, List, Mem, Name, NameRefused, OutOfMemory, Text, TextMap};
 use std::alloc::Global;
+use std::cmp::Ordering;
 
 /// The templates of a file, in order. Where a line has a fault, the error is the first such line, and at that line the
 /// first of its faults in the order of `TemplateKind`.
@@ -31,7 +34,8 @@ pub fn read_templates(alloc: Global, bytes: &[u8]) -> Result<List<Template>, Tem
 
 // The templates of lines that stand where they do.
 fn build(alloc: Global, lines: &[Line]) -> Mem<List<Template>>
-    requires { AreSound (forms lines.now) }
+    requires sound { AreSound (forms lines.now) }
+    requires fit { StanzasAreFit (forms lines.now) }
     ensures { IfOk result (λ templates. templates ≡ templates_in (forms lines.now)) }
 {
     let mut templates = List::new(alloc);
@@ -52,7 +56,8 @@ fn add_template(
     name: &Name,
     after: &[Line],
 ) -> Mem<()>
-    requires { AllByRecursion IsTemplate (template_at name.now (forms after.now)) }
+    requires sound { AllByRecursion IsTemplate (template_at name.now (forms after.now)) }
+    requires fit { AreFit (fields_in (until_blank (forms after.now))) }
     ensures { OnOk result (templates.new ≡ templates.old ++ template_at name.now (forms after.now)) }
 {
     match kind_in(after) {
@@ -89,19 +94,20 @@ fn type_set(form: &Form) -> Option<&Text>
 }
 
 fn read_template(alloc: Global, name: &Name, kind: Kind, after: &[Line]) -> Mem<Template>
-    requires { IsTemplate (stanza name.now kind (until_blank (forms after.now))) }
+    requires sound { IsTemplate (stanza name.now kind (until_blank (forms after.now))) }
+    requires fit { AreFit (fields_in (until_blank (forms after.now))) }
     ensures { IfOk result (λ template. template ≡ stanza name.now kind (until_blank (forms after.now))) }
 {
-    let fields = map_of(alloc, read_fields(alloc, after)?)?;
-    let fields = listed(alloc, &fields)?;
+    let fields = in_order(alloc, read_fields(alloc, after)?)?;
     Ok(Template::new(name.copy()?, kind, fields))
 }
 
 // The fields of the stanza that these lines go on, in the order of the lines.
-fn read_fields(alloc: Global, lines: &[Line]) -> Mem<List<(Text, Text)>>
-    ensures { IfOk result (λ fields. fields ≡ fields_in (until_blank (forms lines.now))) }
+fn read_fields(alloc: Global, lines: &[Line]) -> Mem<Vec<(FieldKey, Text)>>
+    requires { HaveKeys (fields_in (until_blank (forms lines.now))) }
+    ensures { IfOk result (λ fields. fields.items ≡ fields_in (until_blank (forms lines.now))) }
 {
-    let mut fields = List::new(alloc);
+    let mut fields = Vec::new(alloc);
     let mut rest = lines;
     while let [line, tail @ ..] = rest {
         if is_blank(&line.form) {
@@ -116,19 +122,31 @@ fn read_fields(alloc: Global, lines: &[Line]) -> Mem<List<(Text, Text)>>
 // Adds the field of a line, and that of the indented lines that follow it.
 fn add_fields(
     alloc: Global,
-    fields: &mut List<(Text, Text)>,
+    fields: &mut Vec<(FieldKey, Text)>,
     form: &Form,
     after: &[Line],
 ) -> Mem<()>
-    ensures { OnOk result (fields.new ≡ fields.old ++ fields_at form.now (forms after.now)) }
+    requires { HaveKeys (fields_at form.now (forms after.now)) }
+    ensures { OnOk result (fields.new.items ≡ fields.old.items ++ fields_at form.now (forms after.now)) }
 {
     if let Form::Sets(key, value) = form {
-        fields.push((key.copy()?.into_text(), value.copy()?))?;
+        fields.push((key.copy()?, value.copy()?))?;
         if let Some(text) = extended_text(alloc, after)? {
-            fields.push((extended_key(alloc, key)?, text))?;
+            fields.push((known_extended_key(alloc, key)?, text))?;
         }
     }
     Ok(())
+}
+
+// The key of a description's extended text, where that is a key.
+fn known_extended_key(alloc: Global, key: &FieldKey) -> Mem<FieldKey>
+    requires { is_field_key (extended_key_of key.now) ≡ true }
+    ensures { IfOk result (λ extended. extended ≡ extended_key_of key.now) }
+{
+    if is_plain_description(key.bytes()) {
+        return FieldKey::known(alloc, b"extended_description");
+    }
+    FieldKey::known(alloc, extended_key(alloc, key)?.bytes())
 }
 
 // The key of a description's extended text.
@@ -138,6 +156,24 @@ pub(crate) fn extended_key(alloc: Global, key: &FieldKey) -> Mem<Text>
     let mut extended = Text::from_bytes(alloc, b"extended_")?;
     extended.append(key.bytes())?;
     Ok(extended)
+}
+
+// The fields in byte order of their keys, of which no two are the same.
+fn in_order(alloc: Global, fields: Vec<(FieldKey, Text)>) -> Mem<List<(FieldKey, Text)>>
+    requires { AreApart fields.items }
+    ensures { IfOk result (λ list. list ≡ map.entries (map.from_entries {R = text_cmp} fields.items)) }
+{
+    let mut fields = fields;
+    fields.sort_by(
+        |one: &(FieldKey, Text), other: &(FieldKey, Text)| -> Ordering
+            ensures { result ≡ text_cmp one.now.0 other.now.0 }
+        { one.0.bytes().cmp(other.0.bytes()) },
+    )?;
+    let mut list = List::new(alloc);
+    for field in fields {
+        list.push(field)?;
+    }
+    Ok(list)
 }
 
 // The text of the indented lines that come first, if there are some.
@@ -201,16 +237,4 @@ pub(crate) fn map_of(alloc: Global, entries: List<(Text, Text)>) -> Mem<TextMap<
         fields.insert(key, value)?;
     }
     Ok(fields)
-}
-
-// The entries of the map, with typed keys.
-fn listed(alloc: Global, fields: &TextMap<Text>) -> Mem<List<(FieldKey, Text)>>
-    requires { AllByRecursion (λ k. is_field_key k ≡ true) (map.keys fields.now) }
-    ensures { IfOk result (λ list. list ≡ map.entries fields.now) }
-{
-    let mut list = List::new(alloc);
-    for (key, value) in fields.iter() {
-        list.push((FieldKey::known(alloc, key)?, value.copy()?))?;
-    }
-    Ok(list)
 }

@@ -6,6 +6,7 @@ use Rattle.dc_template.specs.Forms.{forms, lines_in}
 use Rattle.dc_template.specs.TemplateFaults.{Stands}
 use Rattle.dc_template.specs.Reading.{templates_in}
 use Rattle.dc_template.specs.Machine.{at_start}
+use Rattle.dc_template.proofs.ApartLemmas.{run_fit}
 use Rattle.dc_template.proofs.FaultLaws.{all_stand, error_is}
 use Rattle.dc_template.proofs.FormLemmas.{IsSoundForm, lines_sound}
 use Rattle.dc_template.proofs.SoundLemmas.{run_sound}
@@ -17,12 +18,20 @@ returns-in_err-check c =
     let p = err_from_is_err_and c.from_residual-in_err-check.result c.from_residual-in_err-check.ensures.1 in
     rw (p.1, p.2) (error_is c.args.bytes.now c.as_slice.result.now c.in_err-check.field-0.0 (c.as_slice.ensures ∙ c.in_ok-lines.ensures) c.in_err-check.ensures)
 
-pub build-requires : goal.build-requires
-build-requires c =
+pub build-requires-clause-sound : goal.build-requires-clause-sound
+build-requires-clause-sound c =
     let lines : c.as_slice-2.result.now ≡ c.as_slice.result.now = c.as_slice-2.ensures ∙ sym c.as_slice.ensures in
     let whole : c.as_slice.result.now ≡ lines_in c.args.bytes.now = c.as_slice.ensures ∙ c.in_ok-lines.ensures in
     rw lines
     (run_sound c.as_slice.result.now at_start c.in_ok-check.ensures.0 c.in_ok-check.ensures.1
+    (subst (λ (ls : List Line). AllByRecursion IsSoundForm (forms ls)) (sym whole) (lines_sound c.args.bytes.now)))
+
+pub build-requires-clause-fit : goal.build-requires-clause-fit
+build-requires-clause-fit c =
+    let lines : c.as_slice-2.result.now ≡ c.as_slice.result.now = c.as_slice-2.ensures ∙ sym c.as_slice.ensures in
+    let whole : c.as_slice.result.now ≡ lines_in c.args.bytes.now = c.as_slice.ensures ∙ c.in_ok-lines.ensures in
+    rw lines
+    (run_fit c.as_slice.result.now at_start c.in_ok-check.ensures.0 c.in_ok-check.ensures.1
     (subst (λ (ls : List Line). AllByRecursion IsSoundForm (forms ls)) (sym whole) (lines_sound c.args.bytes.now)))
 
 pub returns : goal.returns
