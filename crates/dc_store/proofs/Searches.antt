@@ -1,24 +1,26 @@
 -- What the searches find.
-use Rattle.std.proofs.Common.{◌≡◌, ℕ, zero, suc, ◌<◌, ◌≤◌, ◌+◌, Bool, true, false, cond, not, ◌&&◌, ◌||◌, List, [], ◌∷◌, Option, Some, None, is_some, refl, sym, ap, subst, ◌∙◌, add-one, arith}
+use Rattle.std.proofs.Common.{◌≡◌, ℕ, zero, suc, ◌<◌, ◌≤◌, ◌+◌, Bool, true, false, cond, not, ◌&&◌, ◌||◌, nat_eq, List, [], ◌∷◌, Option, Some, None, is_some, refl, sym, ap, subst, ◌∙◌, add-one, arith}
 use Rattle.std.specs.Prelude.{slice_get, option_and_then, if◌then◌else◌}
 use Rattle.std.specs.Option.{option_or, option_map_or}
 use Rattle.std.specs.List.{All, find, list_any, before_first, after_first, prefix_len}
 use Rattle.std.proofs.Math.ListN.{drop, get_or, length}
 use Rattle.std.proofs.Math.Seq.{drop-cons}
+use Rattle.std.proofs.lemmas.Bool.{eq-eqb, eqb-true}
 use Rattle.std.proofs.lemmas.List.Elements.{All-head, All-tail, All-take}
 use Rattle.std.proofs.lemmas.List.Sums.{take_while-cons}
 use Rattle.std.specs.FinMap as map
 use Rattle.dc_item.specs.Item.{ItemParts}
 use Rattle.dc_item.specs.declared.op.Op.{Op}
-use Rattle.dc_item.specs.declared.op.Op.TheVariants.{Put}
+use Rattle.dc_item.specs.declared.op.Op.TheVariants.{Put, SetField, DropField, SetFlag, SetVar, AddOwner, DropOwners}
 use Rattle.dc_item.specs.declared.op.After.{After}
 use Rattle.dc_item.specs.declared.op.After.TheVariants.{Same, Changed, Gone}
-use Rattle.dc_item.specs.After.{after_at}
+use Rattle.dc_item.specs.declared.effect.Effect.TheVariants as effect
+use Rattle.dc_item.specs.After.{after_at, after_none, effect_of}
 use Rattle.dc_template.specs.declared.kinds.Kind.{Kind}
 use Rattle.dc_layer.specs.State.{LayerState, is_writable, admits, with_made, made_at, refusal, is_put}
 use Rattle.dc_layer.specs.declared.layer.LayerError.TheVariants.{ReadOnly, NotHere}
 use Rattle.dc_store.specs.Holders.{item_at, has_at, holder_of, look_of, has_below_of}
-use Rattle.dc_store.specs.Writes.{is_writable_at, takes_at, open_holder, home, change_at, put_at, put_up, by_case, write_of}
+use Rattle.dc_store.specs.Writes.{is_writable_at, takes_at, open_holder, home, change_at, put_at, put_up, by_case, write_of, can_change_of}
 
 -- ---- the first of a list
 
@@ -131,6 +133,37 @@ below_past ls ps n i h has =
     ∙ ap (λ b. cond b (list_any (has_at ls n) (drop (suc i) ps)) (has_below_of ls (drop (suc i) ps) n)) has
     ∙ ap (λ j. has_below_of ls (drop j ps) n) (sym (add-one i))
 
+-- ---- a search for the home, where the holder is known
+
+pub is_holder : (ls : List LayerState) (ps n : List ℕ) (i : ℕ) (o : Option ℕ) → o ≡ holder_of ls (drop i ps) n → option_map_or (nat_eq (get_or ps i 0)) o false ≡ true → has_at ls n (get_or ps i 0) ≡ true
+is_holder ls ps n i None h at = absurd (cc)
+is_holder ls ps n i (Some p) h at = ap (has_at ls n) (eqb-true (get_or ps i 0) p at) ∙ find_passes (has_at ls n) (drop i ps) p (sym h)
+
+other_holder : (q : ℕ) (b : Bool) (o rest : Option ℕ) → o ≡ cond b (Some q) rest → option_map_or (nat_eq q) o false ≡ false → (b ≡ false) × (o ≡ rest)
+other_holder q false o rest h at = (refl, h)
+other_holder q true o rest h at = absurd (let same : option_map_or (nat_eq q) o false ≡ true = ap (λ o. option_map_or (nat_eq q) o false) h ∙ eq-eqb q q refl in cc)
+
+-- the holder isn't this one, so it is found behind it
+pub holder_behind : (ls : List LayerState) (ps n : List ℕ) (i : ℕ) (o : Option ℕ) → i < length ps → o ≡ holder_of ls (drop i ps) n → option_map_or (nat_eq (get_or ps i 0)) o false ≡ false
+    → (has_at ls n (get_or ps i 0) ≡ false) × (o ≡ holder_of ls (drop (i + 1) ps) n)
+holder_behind ls ps n i o h is at =
+    let found = other_holder (get_or ps i 0) (has_at ls n (get_or ps i 0)) o (holder_of ls (drop (suc i) ps) n) (is ∙ ap (λ qs. holder_of ls qs n) (drop-cons ps i 0 h)) at in
+    (found.0, found.1 ∙ ap (λ j. holder_of ls (drop j ps) n) (sym (add-one i)))
+
+-- ---- what the holder tells
+
+pub held_open : (ls : List LayerState) (ps n : List ℕ) (p : ℕ) → Some p ≡ holder_of ls ps n → is_writable_at ls p ≡ true → Some p ≡ open_holder ls ps n
+held_open ls ps n p h w = sym (ap (option_and_then (λ q. if is_writable_at ls q then Some q else None)) (sym h) ∙ ap (λ b. if b then Some p else None) w)
+
+pub held_closed : (ls : List LayerState) (ps n : List ℕ) (p : ℕ) → Some p ≡ holder_of ls ps n → is_writable_at ls p ≡ false → None ≡ open_holder ls ps n
+held_closed ls ps n p h w = sym (ap (option_and_then (λ q. if is_writable_at ls q then Some q else None)) (sym h) ∙ ap (λ b. if b then Some p else None) w)
+
+pub none_open : (ls : List LayerState) (ps n : List ℕ) → None ≡ holder_of ls ps n → None ≡ open_holder ls ps n
+none_open ls ps n h = ap (option_and_then (λ q. if is_writable_at ls q then Some q else None)) h
+
+pub none_seen : (ls : List LayerState) (ps n : List ℕ) → None ≡ holder_of ls ps n → None ≡ look_of ls ps n
+none_seen ls ps n h = ap (option_and_then (λ q. item_at ls q n)) h
+
 -- ---- where a change is taken
 
 pub holder_look : (ls : List LayerState) (ps n : List ℕ) (p : ℕ) → holder_of ls ps n ≡ Some p → item_at ls p n ≡ look_of ls ps n
@@ -210,19 +243,14 @@ write_held ls new ps n k p op h is =
     ∙ written_held ls p (home ls ps n k) n (after_at op (look_of ls ps n))
     ∙ ap Some (sym (held_made ls p n op (look_of ls ps n) (holder_look ls ps n p found.0)) ∙ sym is)
 
-pub write_same : (ls : List LayerState) (ps n : List ℕ) (k : Option Kind) (op : Op) → Same ≡ after_at op (look_of ls ps n) → write_of ls ps n k op ≡ Some ls
-write_same ls ps n k op m = ap (λ x. by_case ls (open_holder ls ps n) (home ls ps n k) n x) (sym m)
+-- ---- a write that no holder takes
 
-pub write_up : (ls : List LayerState) (ps n : List ℕ) (k : Option Kind) (op : Op) (item : ItemParts) (o : Option (List LayerState)) → None ≡ open_holder ls ps n → Changed item ≡ after_at op (look_of ls ps n) → put_up ls (home ls ps n k) n item ≡ o → write_of ls ps n k op ≡ o
-write_up ls ps n k op item o h m is =
-    ap (λ o. by_case ls o (home ls ps n k) n (after_at op (look_of ls ps n))) (sym h)
-    ∙ ap (λ x. by_case ls None (home ls ps n k) n x) (sym m)
-    ∙ is
+pub write_above : (ls : List LayerState) (ps n : List ℕ) (k : Option Kind) (op : Op) (o : Option ItemParts) → None ≡ open_holder ls ps n → o ≡ look_of ls ps n
+    → by_case ls None (home ls ps n k) n (after_at op o) ≡ write_of ls ps n k op
+write_above ls ps n k op o h is = λ i. by_case ls (h i) (home ls ps n k) n (after_at op (is i))
 
-pub write_gone : (ls : List LayerState) (ps n : List ℕ) (k : Option Kind) (op : Op) → None ≡ open_holder ls ps n → Gone ≡ after_at op (look_of ls ps n) → write_of ls ps n k op ≡ None
-write_gone ls ps n k op h m =
-    ap (λ o. by_case ls o (home ls ps n k) n (after_at op (look_of ls ps n))) (sym h)
-    ∙ ap (λ x. by_case ls None (home ls ps n k) n x) (sym m)
+pub write_new : (ls : List LayerState) (ps n : List ℕ) (k : Option Kind) (op : Op) → None ≡ holder_of ls ps n → by_case ls None (home ls ps n k) n (after_none op) ≡ write_of ls ps n k op
+write_new ls ps n k op h = write_above ls ps n k op None (none_open ls ps n h) (none_seen ls ps n h)
 
 -- ---- an item put up
 
@@ -235,6 +263,81 @@ home_taken ls ps n k p item h = put_taken ls p n k item (find_passes (takes_at l
 pub put_up_done : (ls new : List LayerState) (ps n : List ℕ) (k : Option Kind) (p : ℕ) (item : ItemParts) → Some p ≡ home ls ps n k → new ≡ change_at ls p (λ layer. with_made layer n (made_at layer n (Put item))) → put_up ls (home ls ps n k) n item ≡ Some new
 put_up_done ls new ps n k p item h is =
     ap (λ o. put_up ls o n item) (sym h) ∙ ap Some (sym (home_made ls p n item (above_fails (takes_at ls n k) (has_at ls n) ps p (sym h))) ∙ sym is)
+
+-- ---- an operation that makes an item, and one that makes none
+
+pub put_is : (op : Op) → is_put op ≡ true → (item : ItemParts) × (op ≡ Put item)
+put_is (Put item) is = (item, refl)
+put_is (SetField key value) is = absurd (cc)
+put_is (DropField key) is = absurd (cc)
+put_is (SetFlag flag is_set) is = absurd (cc)
+put_is (SetVar key value) is = absurd (cc)
+put_is (AddOwner owner) is = absurd (cc)
+put_is (DropOwners owners) is = absurd (cc)
+
+pub makes_none : (op : Op) → is_put op ≡ false → Same ≡ after_none op
+makes_none (Put item) is = absurd (cc)
+makes_none (SetField key value) is = refl
+makes_none (DropField key) is = refl
+makes_none (SetFlag flag is_set) is = refl
+makes_none (SetVar key value) is = refl
+makes_none (AddOwner owner) is = refl
+makes_none (DropOwners owners) is = refl
+
+pub made_taken : (ls : List LayerState) (ps n : List ℕ) (k : Option Kind) (p : ℕ) (op : Op) → is_put op ≡ true → Some p ≡ home ls ps n k → (layer : LayerState) → slice_get ls p ≡ Some layer → refusal layer n op ≡ None
+made_taken ls ps n k p op is h =
+    let put = put_is op is in subst (λ o. (layer : LayerState) → slice_get ls p ≡ Some layer → refusal layer n o ≡ None) (sym put.1) (home_taken ls ps n k p put.0 h)
+
+pub made_done : (ls new : List LayerState) (ps n : List ℕ) (k : Option Kind) (p : ℕ) (op : Op) → is_put op ≡ true → Some p ≡ home ls ps n k → new ≡ change_at ls p (λ layer. with_made layer n (made_at layer n op))
+    → by_case ls None (home ls ps n k) n (after_none op) ≡ Some new
+made_done ls new ps n k p op is h made =
+    let put = put_is op is in
+    ap (λ o. by_case ls None (home ls ps n k) n (after_none o)) put.1
+    ∙ put_up_done ls new ps n k p put.0 h (made ∙ ap (λ o. change_at ls p (λ layer. with_made layer n (made_at layer n o))) put.1)
+
+pub made_refused : (ls : List LayerState) (ps n : List ℕ) (k : Option Kind) (op : Op) → is_put op ≡ true → None ≡ home ls ps n k → by_case ls None (home ls ps n k) n (after_none op) ≡ None
+made_refused ls ps n k op is h = let put = put_is op is in λ i. by_case ls None (sym h i) n (after_none (put.1 i))
+
+-- ---- what would be taken
+
+pub open_takes : (ls : List LayerState) (ps n : List ℕ) (k : Option Kind) (op : Op) (p : ℕ) → Some p ≡ open_holder ls ps n → true ≡ is_some (write_of ls ps n k op)
+open_takes ls ps n k op p h =
+    let made = after_at op (look_of ls ps n) in
+    sym (ap (λ o. is_some (by_case ls o (home ls ps n k) n made)) (sym h) ∙ ap is_some (written_held ls p (home ls ps n k) n made))
+
+put_up_takes : (ls : List LayerState) (up : Option ℕ) (n : List ℕ) (item : ItemParts) → is_some up ≡ is_some (put_up ls up n item)
+put_up_takes ls None n item = refl
+put_up_takes ls (Some p) n item = refl
+
+pub made_takes : (ls : List LayerState) (up : Option ℕ) (n : List ℕ) (op : Op) → is_put op ≡ true → is_some up ≡ is_some (by_case ls None up n (after_none op))
+made_takes ls up n op is = let put = put_is op is in put_up_takes ls up n put.0 ∙ ap (λ o. is_some (by_case ls None up n (after_none o))) (sym put.1)
+
+pub none_takes : (ls : List LayerState) (up : Option ℕ) (n : List ℕ) (op : Op) → is_put op ≡ false → true ≡ is_some (by_case ls None up n (after_none op))
+none_takes ls up n op is = ap (λ made. is_some (by_case ls None up n made)) (makes_none op is)
+
+pub same_takes : (ls : List LayerState) (up : Option ℕ) (n : List ℕ) (made : After) → effect.Same ≡ effect_of made → true ≡ is_some (by_case ls None up n made)
+same_takes ls up n Same is = refl
+same_takes ls up n (Changed item) is = absurd (cc)
+same_takes ls up n Gone is = absurd (cc)
+
+pub changed_takes : (ls : List LayerState) (up : Option ℕ) (n : List ℕ) (made : After) → effect.Changed ≡ effect_of made → is_some up ≡ is_some (by_case ls None up n made)
+changed_takes ls up n Same is = absurd (cc)
+changed_takes ls up n (Changed item) is = put_up_takes ls up n item
+changed_takes ls up n Gone is = absurd (cc)
+
+pub gone_takes : (ls : List LayerState) (up : Option ℕ) (n : List ℕ) (made : After) → effect.Gone ≡ effect_of made → false ≡ is_some (by_case ls None up n made)
+gone_takes ls up n Same is = absurd (cc)
+gone_takes ls up n (Changed item) is = absurd (cc)
+gone_takes ls up n Gone is = refl
+
+pub none_changes : (ls : List LayerState) (ps n : List ℕ) (k : Option Kind) → None ≡ holder_of ls ps n → false ≡ can_change_of ls ps n k
+none_changes ls ps n k h = ap (λ o. is_some o && (is_some (open_holder ls ps n) || is_some (home ls ps n k))) h
+
+pub open_changes : (ls : List LayerState) (ps n : List ℕ) (k : Option Kind) (p : ℕ) → Some p ≡ holder_of ls ps n → is_writable_at ls p ≡ true → true ≡ can_change_of ls ps n k
+open_changes ls ps n k p h w = λ i. is_some (h i) && (is_some (held_open ls ps n p h w i) || is_some (home ls ps n k))
+
+pub closed_changes : (ls : List LayerState) (ps n : List ℕ) (k : Option Kind) (p : ℕ) → Some p ≡ holder_of ls ps n → is_writable_at ls p ≡ false → is_some (home ls ps n k) ≡ can_change_of ls ps n k
+closed_changes ls ps n k p h w = λ i. is_some (h i) && (is_some (held_closed ls ps n p h w i) || is_some (home ls ps n k))
 
 -- ---- a write on the topmost place
 

@@ -10,6 +10,7 @@ pub mod rows;
 mod search;
 pub mod store;
 mod telling;
+mod testing;
 mod writing;
 
 pub use bases::places;

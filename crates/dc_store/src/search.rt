@@ -1,28 +1,42 @@
 // Searches down the places of a base.
-ghost use Rattle.std.specs.Prelude.{◌≡◌, IfOk, length, map as each};
-ghost use Rattle.std.specs.Option.{option_copied};
+ghost use Rattle.std.specs.Prelude.{◌≡◌, IfOk, false, length, nat_eq, map as each};
+ghost use Rattle.std.specs.Option.{option_copied, option_map, option_map_or};
 ghost use Rattle.std.specs.List.{list_any};
 ghost use Rattle.dc_store.specs.Holders.{holder_of, look_of, look_below_of, has_below_of, has_at as has_of};
 ghost use Rattle.dc_conf.specs.Plans.{AreWithin};
-ghost use Rattle.dc_store.specs.Writes.{home, open_holder};
+ghost use Rattle.dc_store.specs.Writes.{home};
 
-use crate::boxes::{has_at, is_open_at, item_at, takes_at};
+use crate::boxes::{has_at, item_at, takes_at};
 use dc_item::Item;
 use dc_layer::Layer;
 use dc_template::Kind;
 use dc_text::{Mem, Name};
+
+/// The topmost place that has the item, and the item. The bytes needn't be a name.
+pub fn find_in<'a>(
+    layers: &'a [Box<dyn Layer>],
+    places: &[usize],
+    name: &[u8],
+) -> Option<(usize, &'a Item)>
+    requires { AreWithin places.now (length layers.now) }
+    ensures place { option_map (λ found. found.0) result ≡ holder_of (each state layers.now) places.now name.now }
+    ensures item { option_map (λ found. found.1.now) result ≡ look_of (each state layers.now) places.now name.now }
+{
+    for place in places {
+        if let Some(item) = item_at(layers, *place, name) {
+            return Some((*place, item));
+        }
+    }
+    None
+}
 
 /// The topmost place that has the item.
 pub fn holder_in(layers: &[Box<dyn Layer>], places: &[usize], name: &Name) -> Option<usize>
     requires { AreWithin places.now (length layers.now) }
     ensures { result ≡ holder_of (each state layers.now) places.now name.now }
 {
-    for place in places {
-        if has_at(layers, *place, name) {
-            return Some(*place);
-        }
-    }
-    None
+    let (place, _) = find_in(layers, places, name.bytes())?;
+    Some(place)
 }
 
 /// The item at the topmost place that has it.
@@ -38,12 +52,8 @@ pub fn seek_in<'a>(layers: &'a [Box<dyn Layer>], places: &[usize], name: &[u8]) 
     requires { AreWithin places.now (length layers.now) }
     ensures { option_copied result ≡ look_of (each state layers.now) places.now name.now }
 {
-    for place in places {
-        if let Some(item) = item_at(layers, *place, name) {
-            return Some(item);
-        }
-    }
-    None
+    let (_, item) = find_in(layers, places, name)?;
+    Some(item)
 }
 
 /// The item that is seen below the topmost place that has it.
@@ -84,18 +94,20 @@ fn has_any_in(layers: &[Box<dyn Layer>], places: &[usize], name: &Name) -> bool
     holder_in(layers, places, name).is_some()
 }
 
-/// The topmost place that takes a new item, above the one that has it.
+/// The topmost place that takes a new item, above the one that has it. No layer is searched for the item, since its holder is known.
 pub fn home_in(
     layers: &[Box<dyn Layer>],
     places: &[usize],
     name: &Name,
     kind: Option<Kind>,
+    holder: Option<usize>,
 ) -> Mem<Option<usize>>
-    requires { AreWithin places.now (length layers.now) }
+    requires within { AreWithin places.now (length layers.now) }
+    requires holder { holder ≡ holder_of (each state layers.now) places.now name.now }
     ensures { IfOk result (λ place. place ≡ home (each state layers.now) places.now name.now kind) }
 {
     for place in places {
-        if has_at(layers, *place, name) {
+        if is_at(holder, *place) {
             return Ok(None);
         }
         if takes_at(layers, *place, name, kind)? {
@@ -105,15 +117,11 @@ pub fn home_in(
     Ok(None)
 }
 
-/// The topmost place that has the item, where its layer is writable.
-pub fn open_holder_in(layers: &[Box<dyn Layer>], places: &[usize], name: &Name) -> Option<usize>
-    requires { AreWithin places.now (length layers.now) }
-    ensures { result ≡ open_holder (each state layers.now) places.now name.now }
+fn is_at(holder: Option<usize>, place: usize) -> bool
+    ensures { result ≡ option_map_or (nat_eq place) holder false }
 {
-    let place = holder_in(layers, places, name)?;
-    if is_open_at(layers, place) {
-        Some(place)
-    } else {
-        None
+    match holder {
+        Some(holder) => place == holder,
+        None => false,
     }
 }

@@ -11,13 +11,12 @@ ghost use Rattle.dc_template.specs.declared.kinds.Kind.{Kind as KindOf};
 use crate::backup::back_up_in;
 use crate::bases::places;
 use crate::listing::{names_in, owned_in, owned_names_in};
-use crate::search::{
-    has_below_in, holder_in, home_in, look_below_in, look_in, open_holder_in, seek_in,
-};
+use crate::search::{has_below_in, holder_in, look_below_in, look_in, seek_in};
 use crate::telling::tell;
+use crate::testing::{can_change_in, would_take_in};
 use crate::writing::{write_in, write_on_top};
 use dc_conf::plans::{Base, Plan};
-use dc_item::{Effect, Item, Op, in_order};
+use dc_item::{Item, Op, in_order};
 use dc_layer::Layer;
 use dc_template::Kind;
 use dc_text::{List, Mem, Name, OutOfMemory, Text};
@@ -109,15 +108,7 @@ impl Store {
         requires { IsOver plan.now (length self.now.layers.items) }
         ensures { IfOk result (λ is. is ≡ can_change (each state self.now.layers.items) plan.now name.now kind) }
     {
-        let places = places(&plan.base);
-        let layers = self.layers.as_slice();
-        if holder_in(layers, places, name).is_none() {
-            return Ok(false);
-        }
-        if open_holder_in(layers, places, name).is_some() {
-            return Ok(true);
-        }
-        Ok(home_in(layers, places, name, kind)?.is_some())
+        can_change_in(self.layers.as_slice(), places(&plan.base), name, kind)
     }
 
     /// Whether a write would be taken.
@@ -125,19 +116,7 @@ impl Store {
         requires { IsOver plan.now (length self.now.layers.items) }
         ensures { IfOk result (λ is. is ≡ would_take (each state self.now.layers.items) plan.now name.now kind op.now) }
     {
-        let places = places(&plan.base);
-        let layers = self.layers.as_slice();
-        let effect = op.effect(look_in(layers, places, name))?;
-        if let Effect::Same = effect {
-            return Ok(true);
-        }
-        if open_holder_in(layers, places, name).is_some() {
-            return Ok(true);
-        }
-        match effect {
-            Effect::Changed => Ok(home_in(layers, places, name, kind)?.is_some()),
-            _ => Ok(false),
-        }
+        would_take_in(self.layers.as_slice(), places(&plan.base), name, kind, op)
     }
 
     /// Does an operation on the item of a name, of which the kind may be known: on the base by the cases of a write, then on

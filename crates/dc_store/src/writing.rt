@@ -1,60 +1,87 @@
 // Writes to the layers of a base.
 ghost use Rattle.std.specs.Prelude.{◌≡◌, Some, None, Ok, Err, Option, OnOk, OnErr, is_some, length, true, false, map as each};
 ghost use Rattle.dc_conf.specs.Plans.{AreWithin};
-ghost use Rattle.dc_item.specs.After.{after_at};
+ghost use Rattle.dc_item.specs.After.{after_none};
 ghost use Rattle.dc_layer.specs.State.{is_put};
-ghost use Rattle.dc_store.specs.Holders.{look_of};
+ghost use Rattle.dc_store.specs.Holders.{holder_of, look_of};
 ghost use Rattle.dc_store.specs.StoreLaws.{AreSameBut};
-ghost use Rattle.dc_store.specs.Writes.{by_case, home, put_up, write_of};
+ghost use Rattle.dc_store.specs.Writes.{by_case, home, write_of};
 ghost use Rattle.dc_template.specs.declared.kinds.Kind.{Kind as KindOf};
 
-use crate::boxes::{change_in, try_change_in};
-use crate::search::{home_in, look_in, open_holder_in};
+use crate::boxes::{change_in, is_open_at, try_change_in};
+use crate::search::{find_in, home_in};
 use crate::store::StoreError;
-use dc_item::{After, Item, Op};
+use dc_item::{After, Op};
 use dc_layer::Layer;
 use dc_template::Kind;
 use dc_text::{Mem, Name};
 
-// Puts an item to where a new one goes.
+// Does the operation where a new item goes, which it makes.
 fn put_up_in(
     layers: &mut [Box<dyn Layer>],
     places: &[usize],
     name: &Name,
     kind: Option<Kind>,
-    item: Item,
+    holder: Option<usize>,
+    put: &Op,
 ) -> Result<(), StoreError>
-    requires { AreWithin places.now (length layers.old) }
-    ensures ok { OnOk result (put_up (each state layers.old) (home (each state layers.old) places.now name.now kind) name.now item ≡ Some (each state layers.new)) }
-    ensures refused { result ≡ Err StoreError.Refused → put_up (each state layers.old) (home (each state layers.old) places.now name.now kind) name.now item ≡ None }
+    requires within { AreWithin places.now (length layers.old) }
+    requires holder { holder ≡ holder_of (each state layers.old) places.now name.now }
+    requires put { is_put put.now ≡ true }
+    ensures ok { OnOk result (by_case (each state layers.old) None (home (each state layers.old) places.now name.now kind) name.now (after_none put.now) ≡ Some (each state layers.new)) }
+    ensures refused { result ≡ Err StoreError.Refused → by_case (each state layers.old) None (home (each state layers.old) places.now name.now kind) name.now (after_none put.now) ≡ None }
     ensures unchanged { OnErr result (each state layers.new ≡ each state layers.old) }
 {
-    match home_in(layers, places, name, kind)? {
+    match home_in(layers, places, name, kind, holder)? {
         Some(place) => {
-            let put = Op::Put(item);
-            change_in(layers, place, name, &put)?;
+            change_in(layers, place, name, put)?;
             Ok(())
         }
         None => Err(StoreError::Refused),
     }
 }
 
-// Writes where no layer that is writable holds the item: what the operation makes of it goes to where a new one goes.
-fn write_above_in(
+// Writes where no layer has an item: only an operation that makes one changes something.
+fn write_new_in(
     layers: &mut [Box<dyn Layer>],
     places: &[usize],
     name: &Name,
     kind: Option<Kind>,
     op: &Op,
 ) -> Result<(), StoreError>
-    requires { AreWithin places.now (length layers.old) }
-    ensures ok { OnOk result (by_case (each state layers.old) None (home (each state layers.old) places.now name.now kind) name.now (after_at op.now (look_of (each state layers.old) places.now name.now)) ≡ Some (each state layers.new)) }
-    ensures refused { result ≡ Err StoreError.Refused → by_case (each state layers.old) None (home (each state layers.old) places.now name.now kind) name.now (after_at op.now (look_of (each state layers.old) places.now name.now)) ≡ None }
+    requires within { AreWithin places.now (length layers.old) }
+    requires none { None ≡ holder_of (each state layers.old) places.now name.now }
+    ensures ok { OnOk result (by_case (each state layers.old) None (home (each state layers.old) places.now name.now kind) name.now (after_none op.now) ≡ Some (each state layers.new)) }
+    ensures refused { result ≡ Err StoreError.Refused → by_case (each state layers.old) None (home (each state layers.old) places.now name.now kind) name.now (after_none op.now) ≡ None }
     ensures unchanged { OnErr result (each state layers.new ≡ each state layers.old) }
 {
-    match op.at(look_in(layers, places, name))? {
+    if !is_put_op(op) {
+        return Ok(());
+    }
+    put_up_in(layers, places, name, kind, None, op)
+}
+
+// Writes where the holder isn't writable: what the operation makes of its item goes to where a new one goes.
+fn write_above_in(
+    layers: &mut [Box<dyn Layer>],
+    places: &[usize],
+    name: &Name,
+    kind: Option<Kind>,
+    holder: usize,
+    made: After,
+) -> Result<(), StoreError>
+    requires within { AreWithin places.now (length layers.old) }
+    requires holder { Some holder ≡ holder_of (each state layers.old) places.now name.now }
+    ensures ok { OnOk result (by_case (each state layers.old) None (home (each state layers.old) places.now name.now kind) name.now made ≡ Some (each state layers.new)) }
+    ensures refused { result ≡ Err StoreError.Refused → by_case (each state layers.old) None (home (each state layers.old) places.now name.now kind) name.now made ≡ None }
+    ensures unchanged { OnErr result (each state layers.new ≡ each state layers.old) }
+{
+    match made {
         After::Same => Ok(()),
-        After::Changed(item) => put_up_in(layers, places, name, kind, item),
+        After::Changed(item) => {
+            let put = Op::Put(item);
+            put_up_in(layers, places, name, kind, Some(holder), &put)
+        }
         After::Gone => Err(StoreError::Refused),
     }
 }
@@ -72,11 +99,17 @@ fn write_once(
     ensures refused { result ≡ Err StoreError.Refused → write_of (each state layers.old) places.now name.now kind op.now ≡ None }
     ensures unchanged { OnErr result (each state layers.new ≡ each state layers.old) }
 {
-    if let Some(place) = open_holder_in(layers, places, name) {
-        change_in(layers, place, name, op)?;
-        return Ok(());
+    match find_in(layers, places, name.bytes()) {
+        None => write_new_in(layers, places, name, kind, op),
+        Some((place, item)) => {
+            if is_open_at(layers, place) {
+                change_in(layers, place, name, op)?;
+                return Ok(());
+            }
+            let made = op.at(Some(item))?;
+            write_above_in(layers, places, name, kind, place, made)
+        }
     }
-    write_above_in(layers, places, name, kind, op)
 }
 
 /// Tries a change on the topmost of the places alone, and answers whether it was done there: the layer is writable and has the item,
@@ -99,7 +132,8 @@ pub fn write_on_top(
     }
 }
 
-fn is_put_op(op: &Op) -> bool
+/// Whether the operation makes an item where there is none.
+pub fn is_put_op(op: &Op) -> bool
     ensures { result ≡ is_put op.now }
 {
     matches!(op, Op::Put(_))
