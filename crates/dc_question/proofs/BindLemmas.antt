@@ -1,35 +1,50 @@
 -- Questions that are bound to templates.
-use Rattle.std.proofs.Common.{◌≡◌, ℕ, Bool, true, false, List, [], ◌∷◌, ◌++◌, Option, Some, None, Result, Err, refl, sym, ap, subst, ◌∙◌, inr}
+use Rattle.std.proofs.Common.{◌≡◌, ℕ, Bool, true, false, List, [], ◌∷◌, ◌++◌, Option, Some, None, Result, Err, refl, sym, ap, subst, ◌∙◌, inr, append_assoc}
 use Rattle.std.specs.Prelude.{option_map, if◌then◌else◌}
 use Rattle.std.specs.FinMap.{empty}
 use Rattle.dc_text.specs.Maps.{Texts}
 use Rattle.dc_item.specs.Item.{ItemParts}
 use Rattle.dc_item.specs.declared.op.Op.{Op}
 use Rattle.dc_template.specs.declared.kinds.Kind.{Kind}
-use Rattle.dc_conf.specs.Plans.{are_disjoint}
+use Rattle.dc_conf.specs.Plans.{IsOver, are_disjoint}
 use Rattle.dc_layer.specs.State.{LayerState}
 use Rattle.dc_store.specs.Plans.{StoreState}
 use Rattle.dc_store.specs.Rows.{Write, AllDistinct}
 use Rattle.dc_question.specs.Changes.{row_for, Does}
 use Rattle.dc_question.specs.KindsLeft.{with_kinds, write_by}
 use Rattle.dc_question.specs.Ownership.{template_write, write_beside, binding, bind_row, has_other_template, register_row, registered}
-use Rattle.dc_question.specs.Questions.{Setting, question, named_template, read_template}
+use Rattle.dc_question.specs.Questions.{Setting, IsSetOver, question, named_template, read_template}
 use Rattle.dc_question.specs.declared.errors.QuestionError.{QuestionError}
 use Rattle.dc_question.specs.declared.errors.QuestionError.TheVariants.{Twice}
 use Rattle.dc_question.proofs.ApartLemmas.{apart_too, two_distinct}
 use Rattle.dc_question.proofs.KindLemmas.{beside}
 
-pub bound : (ls : List LayerState) (at : Setting) (t n o : List ℕ) (op b : Op) (first second : Write) (kinds : Texts (Option Kind)) (item : Option ItemParts) (row whole : List Write)
-    → first ≡ template_write ls at t op (n ∷ []) → row ≡ first ∷ [] → kinds ≡ with_kinds ls at empty row → item ≡ question ls at n → b ≡ binding t o item
-    → second ≡ write_by ls at kinds n b → whole ≡ row ++ second ∷ [] → whole ≡ bind_row ls at t op n o
-bound ls at t n o op b first second kinds item row whole f r k q bi s w =
-    let one : List Write = template_write ls at t op (n ∷ []) ∷ [] in
-    let rows : row ≡ one = r ∙ ap (λ x. x ∷ []) f in
-    let op' : b ≡ binding t o (question ls at n) = bi ∙ ap (binding t o) q in
-    let last : second ≡ write_beside ls at one n (binding t o (question ls at n))
-    = s ∙ ap (λ m. write_by ls at m n b) (k ∙ ap (with_kinds ls at empty) rows) ∙ ap (write_by ls at (with_kinds ls at empty one) n) op'
-    ∙ beside ls at one n (binding t o (question ls at n)) in
-    w ∙ (λ i. rows i ++ last i ∷ [])
+-- ---- two writes are added
+
+module _ (ls : List LayerState) (at : Setting) where
+  pub as_written : (t : List ℕ) (op : Op) (questions : List (List ℕ)) (first : Write) → first ≡ template_write ls at t op questions → first ≡ template_write ls at first.name first.op questions
+  as_written t op questions first f = f ∙ sym (λ i. template_write ls at (f i).name (f i).op questions)
+
+  pub written_over : (questions : List (List ℕ)) (first : Write) (count : ℕ) → first ≡ template_write ls at first.name first.op questions → IsSetOver at count → IsOver first.plan count
+  written_over questions first count f over = subst (λ p. IsOver p count) (sym (ap (λ (w : Write). w.plan) f)) over.templates
+
+  module _ (n o : List ℕ) (first : Write) where
+    pub bound_beside : (kinds : Texts (Option Kind)) (item : Option ItemParts) (b : Op) (second : Write) → kinds ≡ with_kinds ls at empty (first ∷ []) → item ≡ question ls at n
+        → b ≡ binding first.name o item → second ≡ write_by ls at kinds n b → second ≡ write_beside ls at (first ∷ []) n (binding first.name o (question ls at n))
+    bound_beside kinds item b second k q bi s =
+        s ∙ (λ i. write_by ls at (k i) n ((bi ∙ ap (binding first.name o) q) i)) ∙ beside ls at (first ∷ []) n (binding first.name o (question ls at n))
+
+    pub both_added : (second : Write) (old row whole : List Write) → first ≡ template_write ls at first.name first.op (n ∷ [])
+        → second ≡ write_beside ls at (first ∷ []) n (binding first.name o (question ls at n)) → row ≡ old ++ first ∷ [] → whole ≡ row ++ second ∷ []
+        → whole ≡ old ++ bind_row ls at first.name first.op n o
+    both_added second old row whole f s r w =
+        let last : second ≡ write_beside ls at (template_write ls at first.name first.op (n ∷ []) ∷ []) n (binding first.name o (question ls at n))
+        = s ∙ ap (λ x. write_beside ls at (x ∷ []) n (binding first.name o (question ls at n))) f in
+        w ∙ ap (λ l. l ++ second ∷ []) r ∙ append_assoc old (first ∷ []) (second ∷ []) ∙ (λ i. old ++ f i ∷ last i ∷ [])
+
+    pub added_for : (t : List ℕ) (op : Op) (old whole : List Write) → first ≡ template_write ls at t op (n ∷ []) → whole ≡ old ++ bind_row ls at first.name first.op n o
+        → whole ≡ old ++ bind_row ls at t op n o
+    added_for t op old whole f w = w ∙ (λ i. old ++ bind_row ls at (f i).name (f i).op n o)
 
 pub bound_distinct : (ls : List LayerState) (at : Setting) (t n o : List ℕ) (op : Op) (row : List Write) → are_disjoint at.config at.templates ≡ true → row ≡ bind_row ls at t op n o → AllDistinct row
 bound_distinct ls at t n o op row h is = subst AllDistinct (sym is) (two_distinct _ _ (inr (apart_too at.config at.templates h)))

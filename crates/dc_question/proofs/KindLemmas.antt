@@ -240,3 +240,43 @@ module _ (ls : List LayerState) (at : Setting) (row : List Write) where
   -- a write by the kinds that others leave is the write beside them
   pub beside : (name : List ℕ) (op : Op) → write_by ls at kinds name op ≡ write_beside ls at row name op
   beside name op = ap (λ k. record { plan = at.config; name = name; kind = k; op = op; behalf = name ∷ [] }) (kind_of_item (look_after ls at.config name op))
+
+-- ---- the kind that one write leaves
+
+module _ (ls : List LayerState) (at : Setting) (w : Write) (refused : Bool) (is : refused ≡ is_refused ls w) where
+  fresh : contains_key (empty {K = List ℕ} {X = Option Kind} {R = text_cmp}) w.name ≡ false
+  fresh = ap is_some (get-empty text_cmp w.name)
+
+  pub none_left : refused ≡ true → empty ≡ with_kinds ls at empty (w ∷ [])
+  none_left h = sym (λ i. if fresh i || (sym is ∙ h) i then empty else insert empty w.name (kind_left ls at w.name w.op))
+
+  pub one_left : (name : List ℕ) (kind : Option Kind) → name ≡ w.name → refused ≡ false → kind ≡ kind_left ls at w.name w.op → insert empty name kind ≡ with_kinds ls at empty (w ∷ [])
+  one_left name kind n h k =
+      (λ i. insert empty (n i) (k i)) ∙ sym (λ i. if fresh i || (sym is ∙ h) i then empty else insert empty w.name (kind_left ls at w.name w.op))
+
+-- the kind by which a write is tested that puts an item is the one that it leaves
+pub put_taken : (ls : List LayerState) (at : Setting) (w : Write) (made : ItemParts) → w.op ≡ Put made
+    → w.kind ≡ kind_by (kept_after (look ls at.templates w.name) (after_at w.op (look ls at.templates w.name))) → w.kind ≡ kind_left ls at w.name w.op
+put_taken ls at w made op k = k ∙ sym (put_kept kind_by kind_reads w.op made (look ls at.templates w.name) op) ∙ put_seen kind_by kind_reads ls at.templates w.name w.op made op
+
+-- ---- kinds of which one stands before the others
+
+module _ (others : Texts (Option Kind)) (n : List ℕ) (k : Option Kind) (name : List ℕ) where
+  one_more : get (insert others n k) name ≡ cond (bytes_eq name n) (Some k) (get others name)
+  one_more = get-insert nat_list_cmp_total others n k name ∙ ap (λ b. cond b (Some k) (get others name)) (is_eq-slice_cmp name n)
+
+  pub one_known : (same : Bool) → same ≡ bytes_eq n name → same ≡ true → Some k ≡ get (insert others n k) name
+  one_known same e h =
+      let equal : n ≡ name = (bytes_eq-Decides n name).0 (sym e ∙ h) in
+      let back : bytes_eq name n ≡ true = ap (λ x. bytes_eq x n) (sym equal) ∙ ap (bytes_eq n) equal ∙ sym e ∙ h in
+      sym (one_more ∙ ap (λ b. cond b (Some k) (get others name)) back)
+
+  other_test : (same : Bool) → same ≡ bytes_eq n name → same ≡ false → (b : Bool) → bytes_eq name n ≡ b → cond b (Some k) (get others name) ≡ get others name
+  other_test same e h false t = refl
+  other_test same e h true t =
+      let equal : name ≡ n = (bytes_eq-Decides name n).0 t in
+      let both : bytes_eq n name ≡ true = ap (λ x. bytes_eq x name) (sym equal) ∙ ap (bytes_eq name) equal ∙ t in
+      absurd (cc)
+
+  pub one_other : (same : Bool) → same ≡ bytes_eq n name → same ≡ false → (found : Option (Option Kind)) → found ≡ get others name → found ≡ get (insert others n k) name
+  one_other same e h found f = f ∙ sym (one_more ∙ other_test same e h (bytes_eq name n) refl)

@@ -2,6 +2,7 @@ pub mod AnswerLemmas
 pub mod ApartLemmas
 pub mod BindLemmas
 pub mod ChangeLemmas
+pub mod FieldLemmas
 pub mod GroupLemmas
 pub mod KindLemmas
 pub mod LeaveLemmas

@@ -1,54 +1,32 @@
 -- Templates that are loaded.
-use Rattle.std.proofs.Common.{◌≡◌, ◌≢◌, ℕ, ◌+◌, ◌<◌, length, get_or, take, true, Option, Some, List, [], ◌∷◌, ◌++◌, map as each, refl, sym, ap, ◌∙◌, inl, inr}
+use Rattle.std.proofs.Common.{◌≡◌, ◌≢◌, ℕ, true, Option, Some, List, [], ◌∷◌, map as each, refl, sym, ap, ◌∙◌, inl, inr}
 use Rattle.std.specs.List.{All, AllByRecursion, flat_map}
-use Rattle.std.specs.FinMap.{insert, empty, keys, from_entries}
+use Rattle.std.specs.FinMap.{insert, empty, keys}
 use Rattle.std.specs.Option.{option_map_or}
-use Rattle.std.proofs.lemmas.List.{take_more}
 use Rattle.std.proofs.lemmas.List.Elements.{All-nil, All-cons}
 use Rattle.std.proofs.lemmas.List.Kept.{AllPairs-cons}
 use Rattle.dc_text.specs.Maps.{set_of, AreDistinct as AllDiffer}
-use Rattle.dc_text.specs.Settled.{settled}
-use Rattle.dc_text.proofs.MapLemmas.{set_of-push}
-use Rattle.dc_item.specs.Item.{ItemParts, no_parts}
+use Rattle.dc_item.specs.After.{after_at}
+use Rattle.dc_item.specs.Item.{ItemParts}
 use Rattle.dc_item.proofs.ItemLemmas.{set_of-keys}
 use Rattle.dc_item.specs.declared.op.Op.TheVariants.{Put}
+use Rattle.dc_template.specs.declared.kinds.Kind.{Kind}
 use Rattle.dc_conf.specs.Plans.{IsOver, are_disjoint}
 use Rattle.dc_layer.specs.State.{LayerState}
 use Rattle.dc_store.specs.Plans.{look}
 use Rattle.dc_store.specs.Rows.{Write, AreDistinct, AllDistinct, AreOver}
 use Rattle.dc_template.specs.Stanzas.{Stanza}
-use Rattle.dc_question.specs.Ownership.{template_write, write_beside, binding, loaded_template, load_row}
+use Rattle.dc_question.specs.Ownership.{kept_after, template_write, write_beside, binding, loaded_template, load_row}
 use Rattle.dc_question.specs.Questions.{Setting, IsSetOver, question}
+use Rattle.dc_question.specs.Readings.{kind_by}
 use Rattle.dc_question.proofs.ApartLemmas.{apart_too, no_pairs}
-
--- ---- the fields, put from the last to the first
-
-abbrev pub with_field : List ℕ × List ℕ → ItemParts → ItemParts
-with_field e item = record item { fields = insert item.fields e.0 (settled e.1) }
-
-abbrev pub filled : List (List ℕ × List ℕ) → ItemParts → ItemParts
-filled [] item = item
-filled (e ∷ es) item = with_field e (filled es item)
-
-pub filled_last : (es : List (List ℕ × List ℕ)) (e : List ℕ × List ℕ) (item : ItemParts) → filled (es ++ e ∷ []) item ≡ filled es (with_field e item)
-filled_last [] e item = refl
-filled_last (d ∷ es) e item = ap (with_field d) (filled_last es e item)
-
-pub nothing_in : (es : List (List ℕ × List ℕ)) → length es ≡ 0 → es ≡ []
-nothing_in [] e = refl
-nothing_in (x ∷ es) e = absurd (cc)
-
-pub filled_none : (es : List (List ℕ × List ℕ)) → filled es no_parts ≡ record no_parts { fields = from_entries (each (λ field. (field.0, settled field.1)) es) }
-filled_none [] = refl
-filled_none (e ∷ es) = ap (with_field e) (filled_none es)
+use Rattle.dc_question.proofs.FieldLemmas.{of_fields}
+use Rattle.dc_question.proofs.KindLemmas.{kind_reads, put_kept}
 
 -- ---- the owners
 
 abbrev pub with_owner : List ℕ → ItemParts → ItemParts
 with_owner name item = record item { owners = insert item.owners name tt }
-
-abbrev pub owned_by : List (List ℕ) → ItemParts → ItemParts
-owned_by names item = record item { owners = set_of names }
 
 pub no_owners : (item : ItemParts) → item.owners ≡ empty → item ≡ record item { owners = empty }
 no_owners item h = ap (λ s. record item { owners = s }) h
@@ -57,17 +35,24 @@ pub kept_owners : (old : Option ItemParts) (parts : ItemParts) (names : List (Li
 kept_owners old parts names is some = ap set_of is ∙ set_of-keys parts.owners ∙ ap (λ o. option_map_or (λ parts. parts.owners) o empty) (sym some)
 
 pub load_made : (t : Stanza) (old : Option ItemParts) (a b c : ItemParts) (fields : List (List ℕ × List ℕ)) (name : List ℕ) → fields ≡ t.fields → name ≡ t.name
-    → a ≡ record no_parts { fields = from_entries (each (λ field. (field.0, settled field.1)) fields) }
+    → a ≡ of_fields fields
     → b ≡ record a { owners = option_map_or (λ parts. parts.owners) old empty } → c ≡ with_owner name b → c ≡ loaded_template t old
 load_made t old a b c fields name f n a' b' c' =
     c' ∙ (λ i. with_owner (n i) (b' i))
     ∙ ap (λ (x : ItemParts). with_owner t.name (record x { owners = option_map_or (λ parts. parts.owners) old empty }))
-    (a' ∙ ap (λ es. record no_parts { fields = from_entries (each (λ field. (field.0, settled field.1)) es) }) f)
+    (a' ∙ ap of_fields f)
 
-pub owner_more : (item old : ItemParts) (names : List (List ℕ)) (i : ℕ) (x : List ℕ) → item ≡ owned_by (take i names) old → i < length names → x ≡ get_or names i x
-    → with_owner x item ≡ owned_by (take (i + 1) names) old
-owner_more item old names i x is h at =
-    ap (with_owner x) is ∙ ap (λ s. record old { owners = s }) (sym (set_of-push (take i names) x)) ∙ ap (λ ns. owned_by ns old) (ap (λ y. take i names ++ y ∷ []) at ∙ sym (take_more names i x h))
+-- ---- the write that puts a template
+
+pub put_made : (ls : List LayerState) (at : Setting) (t : Stanza) (old : Option ItemParts) (item : ItemParts) (name : List ℕ) (kind : Kind) (behalf : List (List ℕ)) → old ≡ look ls at.templates t.name
+    → item ≡ loaded_template t old → kind_by (Some item) ≡ Some t.kind → name ≡ t.name → kind ≡ t.kind → behalf ≡ t.name ∷ []
+    → record { plan = at.templates; name = name; kind = Some kind; op = Put item; behalf = behalf } ≡ template_write ls at t.name (Put (loaded_template t (look ls at.templates t.name))) (t.name ∷ [])
+put_made ls at t old item name kind behalf o m k n is b =
+    let found : Option ItemParts = look ls at.templates t.name in
+    let made : item ≡ loaded_template t found = m ∙ ap (loaded_template t) o in
+    let tested : Some kind ≡ kind_by (kept_after found (after_at (Put (loaded_template t found)) found))
+    = ap Some is ∙ sym k ∙ put_kept kind_by kind_reads (Put item) item found refl ∙ ap (λ i. kind_by (kept_after found (after_at (Put i) found))) made in
+    λ i. record { plan = at.templates; name = n i; kind = tested i; op = Put (made i); behalf = b i }
 
 -- ---- two writes for each template
 

@@ -1,5 +1,5 @@
 // Writes to templates, and to questions beside them.
-ghost use Rattle.std.specs.Prelude.{◌≡◌, ◌∷◌, [], IfOk, OnOk, length, not, map as each};
+ghost use Rattle.std.specs.Prelude.{◌≡◌, ◌∷◌, [], IfOk, OnOk, length, map as each};
 ghost use Rattle.std.specs.FinMap as map;
 ghost use Rattle.std.specs.Option.{option_copied};
 ghost use Rattle.dc_item.specs.After.{after_at};
@@ -11,6 +11,7 @@ ghost use Rattle.dc_question.specs.Questions.{IsSetOver};
 ghost use Rattle.dc_question.specs.Readings.{kind_by};
 ghost use Rattle.dc_store.specs.Plans.{look, look_below, look_after};
 
+use crate::kinds_left::KindsLeft;
 use crate::questions::Questions;
 use crate::values::kind;
 use dc_item::{After, Effect, Item, Op};
@@ -26,7 +27,7 @@ impl<'q> Questions<'q> {
         requires over { IsSetOver self.now.setting (length self.now.store.now.layers.items) }
         ensures { IfOk result (λ w. w ≡ template_write (each (λ b. state (b.vtable, b.value)) self.now.store.now.layers.items) self.now.setting name op questions) }
     {
-        let kind = kept_kind(self.named_template(name.bytes()), &op)?;
+        let kind = self.kind_tested(&name, &op)?;
         Ok(Write {
             plan: self.setting.templates,
             name,
@@ -36,8 +37,19 @@ impl<'q> Questions<'q> {
         })
     }
 
+    // The kind by which a write to a template is tested. An item that is put says it by itself.
+    fn kind_tested(&self, name: &Name, op: &Op) -> Mem<Option<Kind>>
+        requires over { IsSetOver self.now.setting (length self.now.store.now.layers.items) }
+        ensures { IfOk result (λ kind. kind ≡ kind_by (kept_after (look (each (λ b. state (b.vtable, b.value)) self.now.store.now.layers.items) self.now.setting.templates name.now) (after_at op.now (look (each (λ b. state (b.vtable, b.value)) self.now.store.now.layers.items) self.now.setting.templates name.now)))) }
+    {
+        if let Op::Put(made) = op {
+            return Ok(kind(Some(made)));
+        }
+        kept_kind(self.named_template(name.bytes()), op)
+    }
+
     // The kinds that writes to templates leave, of those that are taken.
-    pub(crate) fn kinds_left(&self, row: &[Write<'_>]) -> Mem<TextMap<Option<Kind>>>
+    pub(crate) fn kinds_left<'k>(&self, row: &[Write<'_>]) -> Mem<KindsLeft<'k>>
         requires over { IsSetOver self.now.setting (length self.now.store.now.layers.items) }
         requires row { AreOver row.now (length self.now.store.now.layers.items) }
         ensures { IfOk result (λ kinds. kinds ≡ with_kinds (each (λ b. state (b.vtable, b.value)) self.now.store.now.layers.items) self.now.setting map.empty row.now) }
@@ -46,7 +58,33 @@ impl<'q> Questions<'q> {
         for write in row {
             self.add_kind(&mut kinds, write)?;
         }
-        Ok(kinds)
+        Ok(KindsLeft::in_map(kinds))
+    }
+
+    // The kind that a write to a template leaves, where it is taken.
+    pub(crate) fn kind_left_by<'k>(&self, write: &'k Write<'_>) -> Mem<KindsLeft<'k>>
+        requires over { IsSetOver self.now.setting (length self.now.store.now.layers.items) }
+        requires write { IsOver write.now.plan (length self.now.store.now.layers.items) }
+        requires tested { write.now.kind ≡ kind_by (kept_after (look (each (λ b. state (b.vtable, b.value)) self.now.store.now.layers.items) self.now.setting.templates write.now.name) (after_at write.now.op (look (each (λ b. state (b.vtable, b.value)) self.now.store.now.layers.items) self.now.setting.templates write.now.name))) }
+        ensures { IfOk result (λ kinds. kinds ≡ with_kinds (each (λ b. state (b.vtable, b.value)) self.now.store.now.layers.items) self.now.setting map.empty (write.now ∷ [])) }
+    {
+        if self.refuses(write)? {
+            return Ok(KindsLeft::none(self.alloc));
+        }
+        let kind = self.kind_taken(write)?;
+        Ok(KindsLeft::one(self.alloc, &write.name, kind))
+    }
+
+    // The kind that a write to a template leaves that is taken. Of an item that is put it is the one by which the write is tested.
+    fn kind_taken(&self, write: &Write<'_>) -> Mem<Option<Kind>>
+        requires over { IsSetOver self.now.setting (length self.now.store.now.layers.items) }
+        requires tested { write.now.kind ≡ kind_by (kept_after (look (each (λ b. state (b.vtable, b.value)) self.now.store.now.layers.items) self.now.setting.templates write.now.name) (after_at write.now.op (look (each (λ b. state (b.vtable, b.value)) self.now.store.now.layers.items) self.now.setting.templates write.now.name))) }
+        ensures { IfOk result (λ kind. kind ≡ kind_left_of (each (λ b. state (b.vtable, b.value)) self.now.store.now.layers.items) self.now.setting write.now.name write.now.op) }
+    {
+        if let Op::Put(_) = &write.op {
+            return Ok(write.kind);
+        }
+        self.kind_left(&write.name, &write.op)
     }
 
     // Adds the kind that a write leaves, where it is taken and the first to its name.
@@ -128,12 +166,7 @@ impl<'q> Questions<'q> {
     }
 
     // A write to a question beside writes that leave these kinds to templates.
-    pub(crate) fn write_beside(
-        &self,
-        kinds: &TextMap<Option<Kind>>,
-        name: &Name,
-        op: Op,
-    ) -> Mem<Write<'q>>
+    pub(crate) fn write_beside(&self, kinds: &KindsLeft<'_>, name: &Name, op: Op) -> Mem<Write<'q>>
         requires over { IsSetOver self.now.setting (length self.now.store.now.layers.items) }
         ensures { IfOk result (λ w. w ≡ write_by (each (λ b. state (b.vtable, b.value)) self.now.store.now.layers.items) self.now.setting kinds.now name.now op) }
     {
@@ -148,7 +181,7 @@ impl<'q> Questions<'q> {
     }
 
     // The kind of a question once an operation on it is done.
-    fn kind_then(&self, kinds: &TextMap<Option<Kind>>, name: &Name, op: &Op) -> Mem<Option<Kind>>
+    fn kind_then(&self, kinds: &KindsLeft<'_>, name: &Name, op: &Op) -> Mem<Option<Kind>>
         requires over { IsSetOver self.now.setting (length self.now.store.now.layers.items) }
         ensures { IfOk result (λ kind. kind ≡ item_kind_of (each (λ b. state (b.vtable, b.value)) self.now.store.now.layers.items) self.now.setting kinds.now (look_after (each (λ b. state (b.vtable, b.value)) self.now.store.now.layers.items) self.now.setting.config name.now op.now)) }
     {
@@ -166,12 +199,7 @@ impl<'q> Questions<'q> {
     }
 
     // The same by the item that the operation makes.
-    fn item_kind_made(
-        &self,
-        kinds: &TextMap<Option<Kind>>,
-        name: &Name,
-        op: &Op,
-    ) -> Mem<Option<Kind>>
+    fn item_kind_made(&self, kinds: &KindsLeft<'_>, name: &Name, op: &Op) -> Mem<Option<Kind>>
         requires over { IsSetOver self.now.setting (length self.now.store.now.layers.items) }
         ensures { IfOk result (λ kind. kind ≡ item_kind_of (each (λ b. state (b.vtable, b.value)) self.now.store.now.layers.items) self.now.setting kinds.now (look_after (each (λ b. state (b.vtable, b.value)) self.now.store.now.layers.items) self.now.setting.config name.now op.now)) }
     {
@@ -184,13 +212,13 @@ impl<'q> Questions<'q> {
     }
 
     // The kind of a question's item.
-    fn item_kind(&self, kinds: &TextMap<Option<Kind>>, item: Option<&Item>) -> Option<Kind>
+    fn item_kind(&self, kinds: &KindsLeft<'_>, item: Option<&Item>) -> Option<Kind>
         requires over { IsSetOver self.now.setting (length self.now.store.now.layers.items) }
         ensures { result ≡ item_kind_of (each (λ b. state (b.vtable, b.value)) self.now.store.now.layers.items) self.now.setting kinds.now (option_copied item.entry) }
     {
         let template = item?.field(b"template")?;
         match kinds.get(template) {
-            Some(kind) => *kind,
+            Some(kind) => kind,
             None => kind(self.named_template(template)),
         }
     }
@@ -200,9 +228,6 @@ impl<'q> Questions<'q> {
 fn kept_kind(item: Option<&Item>, op: &Op) -> Mem<Option<Kind>>
     ensures { IfOk result (λ kind. kind ≡ kind_by (kept_after (option_copied item.entry) (after_at op.now (option_copied item.entry)))) }
 {
-    if let Op::Put(made) = op {
-        return Ok(kind(Some(made)));
-    }
     if is_on_owners(op) {
         return Ok(kind(item));
     }

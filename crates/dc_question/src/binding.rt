@@ -1,22 +1,21 @@
 // Questions that are bound to templates and owners.
-ghost use Rattle.std.specs.Prelude.{◌≡◌, ◌∷◌, [], IfOk, length, map as each, option_map, true, false};
+ghost use Rattle.std.specs.Prelude.{◌≡◌, ◌∷◌, ◌++◌, [], IfOk, OnOk, length, map as each, option_map, true};
 ghost use Rattle.std.specs.Option.{option_copied};
-ghost use Rattle.dc_item.specs.After.{asked, drops_owners};
+ghost use Rattle.dc_item.specs.Item.{no_parts};
 ghost use Rattle.dc_conf.specs.Plans.{are_disjoint};
 ghost use Rattle.dc_store.specs.Plans.{stored};
 ghost use Rattle.dc_store.specs.StoreLaws.{AreSameButAll};
 ghost use Rattle.dc_question.specs.Changes.{Does, row_for};
-ghost use Rattle.dc_question.specs.Ownership.{register_row, binding as binding_of, new_question as new_question_of, has_other_template as has_other_template_of, bind_row as bind_row_of};
-ghost use Rattle.dc_question.specs.Questions.{IsSetOver, named_template as named_template_of};
+ghost use Rattle.dc_question.specs.Ownership.{register_row, binding as binding_of, new_question as new_question_of, has_other_template as has_other_template_of, bind_row as bind_row_of, template_write as template_write_of, write_beside as write_beside_of};
+ghost use Rattle.dc_question.specs.Questions.{IsSetOver, named_template as named_template_of, question as question_of};
 
 use crate::beside::only;
 use crate::errors::QuestionError;
 use crate::questions::Questions;
-use dc_item::{After, Item, Op};
+use dc_item::{Item, ItemBuilder, Op};
 use dc_layer::Layer;
 use dc_store::Write;
-use dc_text::{FieldKey, List, Mem, Name, NameRefused, OutOfMemory, settle};
-use std::alloc::Global;
+use dc_text::{List, Mem, Name, NameRefused, OutOfMemory};
 
 impl<'q> Questions<'q> {
     // The name of a template that is there.
@@ -57,57 +56,79 @@ impl<'q> Questions<'q> {
     }
 
     // The two writes that bind a question to a template, on which an operation is done, and to an owner.
-    pub(crate) fn bind_row(
-        &self,
-        template: &Name,
-        op: Op,
-        name: &Name,
-        owner: &Name,
-    ) -> Mem<List<Write<'q>>>
+    fn bind_row(&self, template: &Name, op: Op, name: &Name, owner: &Name) -> Mem<List<Write<'q>>>
         requires over { IsSetOver self.now.setting (length self.now.store.now.layers.items) }
         ensures { IfOk result (λ row. row ≡ bind_row_of (each (λ b. state (b.vtable, b.value)) self.now.store.now.layers.items) self.now.setting template.now op name.now owner.now) }
     {
         let first = self.template_write(template.copy()?, op, only(self.alloc, name)?)?;
         let mut row = List::new(self.alloc);
-        row.push(first)?;
-        let kinds = self.kinds_left(row.as_slice())?;
-        let binding = binding(self.alloc, template, owner, self.question(name))?;
-        let second = self.write_beside(&kinds, name, binding)?;
-        row.push(second)?;
+        let mut builder = ItemBuilder::new(self.alloc);
+        self.add_bound(&mut row, &mut builder, first, name, owner)?;
         Ok(row)
+    }
+
+    // Adds the write to a template for a question, and the one that binds the question to it and to the owner.
+    pub(crate) fn add_bound(
+        &self,
+        row: &mut List<Write<'q>>,
+        builder: &mut ItemBuilder,
+        first: Write<'q>,
+        name: &Name,
+        owner: &Name,
+    ) -> Mem<()>
+        requires over { IsSetOver self.now.setting (length self.now.store.now.layers.items) }
+        requires first { first ≡ template_write_of (each (λ b. state (b.vtable, b.value)) self.now.store.now.layers.items) self.now.setting first.name first.op (name.now ∷ []) }
+        requires empty { builder.old ≡ no_parts }
+        ensures row { OnOk result (row.new ≡ row.old ++ bind_row_of (each (λ b. state (b.vtable, b.value)) self.now.store.now.layers.items) self.now.setting first.entry.name first.entry.op name.now owner.now) }
+        ensures left { OnOk result (builder.new ≡ no_parts) }
+    {
+        let second = self.bound_write(builder, &first, name, owner)?;
+        row.push(first)?;
+        row.push(second)?;
+        Ok(())
+    }
+
+    // The write that binds a question to the template of another write, beside that one, and to the owner.
+    fn bound_write(
+        &self,
+        builder: &mut ItemBuilder,
+        first: &Write<'q>,
+        name: &Name,
+        owner: &Name,
+    ) -> Mem<Write<'q>>
+        requires over { IsSetOver self.now.setting (length self.now.store.now.layers.items) }
+        requires first { first.now ≡ template_write_of (each (λ b. state (b.vtable, b.value)) self.now.store.now.layers.items) self.now.setting first.now.name first.now.op (name.now ∷ []) }
+        requires empty { builder.old ≡ no_parts }
+        ensures write { IfOk result (λ w. w ≡ write_beside_of (each (λ b. state (b.vtable, b.value)) self.now.store.now.layers.items) self.now.setting (first.now ∷ []) name.now (binding_of first.now.name owner.now (question_of (each (λ b. state (b.vtable, b.value)) self.now.store.now.layers.items) self.now.setting name.now))) }
+        ensures left { OnOk result (builder.new ≡ no_parts) }
+    {
+        let kinds = self.kind_left_by(first)?;
+        let binding = binding(builder, &first.name, owner, self.question(name))?;
+        self.write_beside(&kinds, name, binding)
     }
 }
 
 // What binds a question to a template and an owner.
-fn binding(alloc: Global, template: &Name, owner: &Name, item: Option<&Item>) -> Mem<Op>
-    ensures { IfOk result (λ op. op ≡ binding_of template.now owner.now (option_copied item.entry)) }
+fn binding(builder: &mut ItemBuilder, template: &Name, owner: &Name, item: Option<&Item>) -> Mem<Op>
+    requires { builder.old ≡ no_parts }
+    ensures op { IfOk result (λ op. op ≡ binding_of template.now owner.now (option_copied item.entry)) }
+    ensures left { OnOk result (builder.new ≡ no_parts) }
 {
     match item {
-        None => Ok(Op::Put(new_question(alloc, template, owner)?)),
+        None => Ok(Op::Put(new_question(builder, template, owner)?)),
         Some(_) => Ok(Op::AddOwner(owner.copy()?)),
     }
 }
 
 // The item of a new question of a template.
-fn new_question(alloc: Global, template: &Name, owner: &Name) -> Mem<Item>
-    ensures { IfOk result (λ item. item ≡ new_question_of template.now owner.now) }
+fn new_question(builder: &mut ItemBuilder, template: &Name, owner: &Name) -> Mem<Item>
+    requires { builder.old ≡ no_parts }
+    ensures item { IfOk result (λ item. item ≡ new_question_of template.now owner.now) }
+    ensures left { OnOk result (builder.new ≡ no_parts) }
 {
-    let key = FieldKey::known(alloc, b"template")?;
-    let bound = Op::SetField(key, settle(alloc, template.bytes())?);
-    let owned = Op::AddOwner(owner.copy()?);
-    done(done(Item::new(alloc), &bound)?, &owned)
-}
-
-/// The item once an operation is done by which it doesn't go.
-pub fn done(item: Item, op: &Op) -> Mem<Item>
-    requires { drops_owners op.now ≡ false }
-    ensures { IfOk result (λ made. made ≡ asked op.now item) }
-{
-    match item.after(op)? {
-        After::Same => Ok(item),
-        After::Changed(made) => Ok(made),
-        After::Gone => unreachable!(),
-    }
+    let _ = builder.put_written_field(b"template", template.bytes())?;
+    builder.put_owner(owner.bytes())?;
+    builder.take()
 }
 
 /// Whether the question is bound to another template.

@@ -16,12 +16,12 @@ ghost use Rattle.dc_question.specs.Questions.{IsSetOver};
 use crate::beside::{goes, only};
 use crate::errors::QuestionError;
 use crate::grouping::grouped;
+use crate::kinds_left::KindsLeft;
 use crate::questions::Questions;
 use dc_item::Op;
 use dc_layer::Layer;
 use dc_store::Write;
-use dc_template::Kind;
-use dc_text::{List, Mem, Name, TextMap};
+use dc_text::{List, Mem, Name};
 
 impl<'q> Questions<'q> {
     #[tactic(auto, using(dc_store::proofs::RowLemmas::same_all_refl))]
@@ -140,12 +140,7 @@ impl<'q> Questions<'q> {
     }
 
     // The writes by which the owner leaves the questions.
-    fn leaves(
-        &self,
-        kinds: &TextMap<Option<Kind>>,
-        owner: &Name,
-        names: &[Name],
-    ) -> Mem<List<Write<'q>>>
+    fn leaves(&self, kinds: &KindsLeft<'_>, owner: &Name, names: &[Name]) -> Mem<List<Write<'q>>>
         requires over { IsSetOver self.now.setting (length self.now.store.now.layers.items) }
         ensures { IfOk result (λ row. row ≡ each (λ name. write_by (each (λ b. state (b.vtable, b.value)) self.now.store.now.layers.items) self.now.setting kinds.now name (DropOwnersOf (owner.now ∷ []))) names.now) }
     {

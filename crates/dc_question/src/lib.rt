@@ -9,6 +9,7 @@ pub mod choices;
 pub mod errors;
 pub mod fields;
 mod grouping;
+mod kinds_left;
 pub mod laws;
 mod leaving;
 mod loading;

@@ -1,27 +1,30 @@
 // Templates of a file, as they are put with their questions.
-ghost use Rattle.std.specs.Prelude.{◌≡◌, ◌++◌, IfOk, OnOk, length, true, map as each};
+ghost use Rattle.std.specs.Prelude.{◌≡◌, ◌⊎◌, ◌∷◌, ◌++◌, [], Some, IfOk, OnOk, length, true, unwrap_or, map as each};
 ghost use Rattle.std.specs.FinMap as map;
 ghost use Rattle.std.specs.Option.{option_copied, option_map_or};
 ghost use Rattle.dc_conf.specs.Plans.{are_disjoint};
-ghost use Rattle.dc_text.specs.Maps.{AreDistinct, set_of};
+ghost use Rattle.dc_text.specs.Maps.{AreDistinct};
 ghost use Rattle.dc_text.specs.Settled.{settled};
 ghost use Rattle.dc_item.specs.Item.{no_parts};
 ghost use Rattle.dc_item.specs.declared.op.Op.TheVariants.{Put as PutOf};
 ghost use Rattle.dc_store.specs.Plans.{look, stored};
-ghost use Rattle.dc_store.specs.Rows.{names_of};
+ghost use Rattle.dc_store.specs.Rows.{AreOver, AllDistinct, names_of, first_held_up};
 ghost use Rattle.dc_store.specs.StoreLaws.{AreSameButAll};
 ghost use Rattle.dc_question.specs.Changes.{Does, row_for};
-ghost use Rattle.dc_question.specs.Ownership.{bind_row as bind_row_of, bound_elsewhere as bound_elsewhere_of, load_row as load_row_of, loaded_template};
+ghost use Rattle.dc_question.specs.Ownership.{bind_row as bind_row_of, template_write as template_write_of, bound_elsewhere as bound_elsewhere_of, load_row as load_row_of, loaded_template};
 ghost use Rattle.dc_question.specs.Questions.{IsSetOver};
+ghost use Rattle.dc_question.specs.Readings.{kind_by};
+ghost use Rattle.dc_question.specs.declared.errors.QuestionError.{QuestionError};
 
+use crate::beside::only;
 use crate::binding::has_other_template;
 use crate::errors::QuestionError;
 use crate::questions::Questions;
-use dc_item::{Item, Op};
+use dc_item::{Item, ItemBuilder, Op};
 use dc_layer::Layer;
-use dc_store::Write;
+use dc_store::{StoreError, Write};
 use dc_template::Template;
-use dc_text::{FieldKey, List, Mem, Name, Text, settle};
+use dc_text::{FieldKey, List, Mem, Name, Text};
 use std::alloc::Global;
 
 impl<'q> Questions<'q> {
@@ -51,8 +54,36 @@ impl<'q> Questions<'q> {
         ensures held { self.new.store.ghost_name ≡ self.old.store.ghost_name }
     {
         let row = self.load_row(owner, list)?;
-        let names = names(self.alloc, list)?;
-        self.do_row(names.as_slice(), row.as_slice())
+        self.do_load(list, row.as_slice())
+    }
+
+    #[tactic(auto, using(dc_store::proofs::RowLemmas::same_all_refl))]
+    // Does all the writes, or none. The names of the templates are asked for only where a write is refused.
+    fn do_load(&mut self, list: &[Template], row: &[Write<'_>]) -> Result<(), QuestionError>
+        requires over { AreOver row.now (length self.old.store.now.layers.items) }
+        requires distinct { AllDistinct row.now }
+        ensures does { Does result (row_for (stored (each (λ b. state (b.vtable, b.value)) self.old.store.now.layers.items) self.old.store.now.told) (each (λ t. t.name) list.now) row.now) (stored (each (λ b. state (b.vtable, b.value)) self.old.store.now.layers.items) self.old.store.now.told) (stored (each (λ b. state (b.vtable, b.value)) self.new.store.now.layers.items) self.new.store.now.told) }
+        ensures others { AreSameButAll (names_of row.now) (each (λ b. state (b.vtable, b.value)) self.old.store.now.layers.items) (each (λ b. state (b.vtable, b.value)) self.new.store.now.layers.items) }
+        ensures count { length self.new.store.now.layers.items ≡ length self.old.store.now.layers.items }
+        ensures setting { self.new.setting ≡ self.old.setting }
+        ensures held { self.new.store.ghost_name ≡ self.old.store.ghost_name }
+    {
+        match self.write_row(row) {
+            Ok(()) => Ok(()),
+            Err(StoreError::OutOfMemory) => Err(QuestionError::OutOfMemory),
+            Err(StoreError::Refused) => Err(self.load_held_up(list, row)),
+        }
+    }
+
+    // The question of the first template for which a write of the row is refused.
+    fn load_held_up(&self, list: &[Template], row: &[Write<'_>]) -> QuestionError
+        requires { AreOver row.now (length self.now.store.now.layers.items) }
+        ensures { (result ≡ QuestionError.OutOfMemory) ⊎ (result ≡ QuestionError.CantChange (unwrap_or (first_held_up (each (λ b. state (b.vtable, b.value)) self.now.store.now.layers.items) (each (λ t. t.name) list.now) row.now) [])) }
+    {
+        match names(self.alloc, list) {
+            Ok(names) => self.held_up(names.as_slice(), row),
+            Err(error) => error.into(),
+        }
     }
 
     // The writes that put the templates, each with its question.
@@ -61,95 +92,85 @@ impl<'q> Questions<'q> {
         ensures { IfOk result (λ row. row ≡ load_row_of (each (λ b. state (b.vtable, b.value)) self.now.store.now.layers.items) self.now.setting owner.now list.now) }
     {
         let mut row = List::new(self.alloc);
+        let mut builder = ItemBuilder::new(self.alloc);
         for template in list {
-            add_both(&mut row, self.load_one(owner, template)?)?;
+            self.add_load(&mut row, &mut builder, owner, template)?;
         }
         Ok(row)
     }
 
-    // The two writes that put a template and bind its question.
-    fn load_one(&self, owner: &Name, template: &Template) -> Mem<List<Write<'q>>>
+    // Adds the two writes that put a template and bind its question. Both items are put together in the builder.
+    fn add_load(
+        &self,
+        row: &mut List<Write<'q>>,
+        builder: &mut ItemBuilder,
+        owner: &Name,
+        template: &Template,
+    ) -> Mem<()>
         requires over { IsSetOver self.now.setting (length self.now.store.now.layers.items) }
-        ensures { IfOk result (λ row. row ≡ bind_row_of (each (λ b. state (b.vtable, b.value)) self.now.store.now.layers.items) self.now.setting template.now.name (PutOf (loaded_template template.now (look (each (λ b. state (b.vtable, b.value)) self.now.store.now.layers.items) self.now.setting.templates template.now.name))) template.now.name owner.now) }
+        requires empty { builder.old ≡ no_parts }
+        ensures row { OnOk result (row.new ≡ row.old ++ bind_row_of (each (λ b. state (b.vtable, b.value)) self.now.store.now.layers.items) self.now.setting template.now.name (PutOf (loaded_template template.now (look (each (λ b. state (b.vtable, b.value)) self.now.store.now.layers.items) self.now.setting.templates template.now.name))) template.now.name owner.now) }
+        ensures left { OnOk result (builder.new ≡ no_parts) }
     {
-        let old = self.named_template(template.name().bytes());
-        let item = loaded_item(self.alloc, template, old)?;
-        self.bind_row(template.name(), Op::Put(item), template.name(), owner)
+        let first = self.put_write(builder, template)?;
+        self.add_bound(row, builder, first, template.name(), owner)?;
+        Ok(())
     }
-}
 
-// Adds two writes at the end.
-fn add_both<'w>(row: &mut List<Write<'w>>, mut both: List<Write<'w>>) -> Mem<()>
-    requires { length both ≡ 2 }
-    ensures { OnOk result (row.new ≡ row.old ++ both.entry) }
-{
-    if let Some(second) = both.pop() {
-        if let Some(first) = both.pop() {
-            row.push(first)?;
-        }
-        row.push(second)?;
+    // The write that puts a template for the question of its name.
+    fn put_write(&self, builder: &mut ItemBuilder, template: &Template) -> Mem<Write<'q>>
+        requires over { IsSetOver self.now.setting (length self.now.store.now.layers.items) }
+        requires empty { builder.old ≡ no_parts }
+        ensures write { IfOk result (λ w. w ≡ template_write_of (each (λ b. state (b.vtable, b.value)) self.now.store.now.layers.items) self.now.setting template.now.name (PutOf (loaded_template template.now (look (each (λ b. state (b.vtable, b.value)) self.now.store.now.layers.items) self.now.setting.templates template.now.name))) (template.now.name ∷ [])) }
+        ensures left { OnOk result (builder.new ≡ no_parts) }
+    {
+        let name = template.name();
+        let old = self.named_template(name.bytes());
+        let item = loaded_item(builder, template, old)?;
+        Ok(Write {
+            plan: self.setting.templates,
+            name: name.copy()?,
+            kind: Some(template.kind()),
+            op: Op::Put(item),
+            behalf: only(self.alloc, name)?,
+        })
     }
-    Ok(())
 }
 
 // The item of a template, which keeps the owners that it had.
-fn loaded_item(alloc: Global, template: &Template, old: Option<&Item>) -> Mem<Item>
-    ensures { IfOk result (λ item. item ≡ loaded_template template.now (option_copied old.entry)) }
+fn loaded_item(builder: &mut ItemBuilder, template: &Template, old: Option<&Item>) -> Mem<Item>
+    requires { builder.old ≡ no_parts }
+    ensures item { IfOk result (λ item. item ≡ loaded_template template.now (option_copied old.entry)) }
+    ensures kind { IfOk result (λ item. kind_by (Some item) ≡ Some template.now.kind) }
+    ensures left { OnOk result (builder.new ≡ no_parts) }
 {
-    let mut item = with_fields(alloc, template.fields().as_slice())?;
-    keep_owners(&mut item, old)?;
-    add_owner(&mut item, template.name())?;
-    Ok(item)
+    put_fields(builder, template.fields().as_slice())?;
+    keep_owners(builder, old)?;
+    builder.put_owner(template.name().bytes())?;
+    builder.take()
 }
 
-// The item of the fields. It begins at the end, since of two fields with one key the first stands.
-fn with_fields(alloc: Global, fields: &[(FieldKey, Text)]) -> Mem<Item>
-    ensures { IfOk result (λ item. item ≡ record no_parts { fields = map.from_entries (each (λ field. (field.0, settled field.1)) fields.now) }) }
+// Puts the settled fields where none is. Of two fields with one key the first stands.
+fn put_fields(builder: &mut ItemBuilder, fields: &[(FieldKey, Text)]) -> Mem<()>
+    requires { builder.old ≡ no_parts }
+    ensures { OnOk result (builder.new ≡ record no_parts { fields = map.from_entries (each (λ field. (field.0, settled field.1)) fields.now) }) }
 {
-    let mut item = Item::new(alloc);
-    let mut rest = fields;
-    while let Some((last, front)) = rest.split_last() {
-        put_field(alloc, &mut item, last)?;
-        rest = front;
-    }
-    Ok(item)
-}
-
-// Puts the settled field.
-fn put_field(alloc: Global, item: &mut Item, field: &(FieldKey, Text)) -> Mem<()>
-    ensures { OnOk result (item.new ≡ record item.old { fields = map.insert item.old.fields field.now.0 (settled field.now.1) }) }
-{
-    let value = settle(alloc, field.1.bytes())?;
-    item.apply(&Op::SetField(field.0.copy()?, value))
-}
-
-#[tactic(auto, using(crate::proofs::LoadLemmas::no_owners))]
-// Adds the owners that the template had to an item that has none.
-fn keep_owners(item: &mut Item, old: Option<&Item>) -> Mem<()>
-    requires { item.old.owners ≡ map.empty }
-    ensures { OnOk result (item.new ≡ record item.old { owners = option_map_or (λ parts. parts.owners) (option_copied old.entry) map.empty }) }
-{
-    match old {
-        None => Ok(()),
-        Some(old) => add_owners(item, old.owners()?.as_slice()),
-    }
-}
-
-// Adds the owners to an item that has none.
-fn add_owners(item: &mut Item, owners: &[Name]) -> Mem<()>
-    requires { item.old.owners ≡ map.empty }
-    ensures { OnOk result (item.new ≡ record item.old { owners = set_of owners.now }) }
-{
-    for owner in owners {
-        add_owner(item, owner)?;
+    for field in fields {
+        let _ = builder.put_written_field(field.0.bytes(), field.1.bytes())?;
     }
     Ok(())
 }
 
-fn add_owner(item: &mut Item, owner: &Name) -> Mem<()>
-    ensures { OnOk result (item.new ≡ record item.old { owners = map.insert item.old.owners owner.now tt }) }
+#[tactic(auto, using(crate::proofs::LoadLemmas::no_owners))]
+// Puts the owners that the template had, where there are none.
+fn keep_owners(builder: &mut ItemBuilder, old: Option<&Item>) -> Mem<()>
+    requires { builder.old.owners ≡ map.empty }
+    ensures { OnOk result (builder.new ≡ record builder.old { owners = option_map_or (λ parts. parts.owners) (option_copied old.entry) map.empty }) }
 {
-    item.apply(&Op::AddOwner(owner.copy()?))
+    match old {
+        None => Ok(()),
+        Some(old) => builder.put_owners(&old.owners()?),
+    }
 }
 
 // The names of the templates.

@@ -33,7 +33,7 @@ impl<'q> Questions<'q> {
     }
 
     // Does all the writes in the store, or none.
-    fn write_row(&mut self, row: &[Write<'_>]) -> Result<(), StoreError>
+    pub(crate) fn write_row(&mut self, row: &[Write<'_>]) -> Result<(), StoreError>
         requires over { AreOver row.now (length self.old.store.now.layers.items) }
         requires distinct { AllDistinct row.now }
         ensures ok { OnOk result (row_done (stored (each (λ b. state (b.vtable, b.value)) self.old.store.now.layers.items) self.old.store.now.told) row.now ≡ Some (stored (each (λ b. state (b.vtable, b.value)) self.new.store.now.layers.items) self.new.store.now.told)) }
@@ -48,7 +48,7 @@ impl<'q> Questions<'q> {
     }
 
     // The question that can't be changed, where a write of the row is refused.
-    fn held_up(&self, names: &[Name], row: &[Write<'_>]) -> QuestionError
+    pub(crate) fn held_up(&self, names: &[Name], row: &[Write<'_>]) -> QuestionError
         requires { AreOver row.now (length self.now.store.now.layers.items) }
         ensures { (result ≡ QuestionError.OutOfMemory) ⊎ (result ≡ QuestionError.CantChange (unwrap_or (first_held_up (each (λ b. state (b.vtable, b.value)) self.now.store.now.layers.items) names.now row.now) [])) }
     {

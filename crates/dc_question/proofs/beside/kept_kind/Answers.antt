@@ -1,10 +1,7 @@
 use Rattle.std.proofs.Common.{◌∙◌, sym}
 use Rattle.dc_question.specs.Readings.{kind_by}
-use Rattle.dc_question.proofs.KindLemmas.{kind_reads, put_kept, owners_kept}
+use Rattle.dc_question.proofs.KindLemmas.{kind_reads, owners_kept}
 use Rattle.dc_question.proofs.beside.kept_kind.Goals as goal
 
-pub returns-in-Put : goal.returns-in-Put
-returns-in-Put c = c.kind.ensures ∙ put_kept kind_by kind_reads c.args.op.now c.in-Put.made _ c.in-Put.is
-
 pub returns-then-is_on_owners : goal.returns-then-is_on_owners
-returns-then-is_on_owners c = c.kind-then-is_on_owners.ensures ∙ owners_kept kind_by kind_reads c.args.op.now _ (sym c.is_on_owners.ensures ∙ c.if-is_on_owners.true)
+returns-then-is_on_owners c = c.kind.ensures ∙ owners_kept kind_by kind_reads c.args.op.now _ (sym c.is_on_owners.ensures ∙ c.if-is_on_owners.true)

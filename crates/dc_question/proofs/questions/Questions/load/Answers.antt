@@ -1,20 +1,19 @@
-use Rattle.std.proofs.Common.{length, map as each, sym, subst, ◌∙◌}
+use Rattle.std.proofs.Common.{length, map as each, sym, subst, refl, ◌∙◌}
 use Rattle.dc_store.specs.Rows.{AreOver, AllDistinct}
 use Rattle.dc_question.proofs.BindLemmas.{does_row}
 use Rattle.dc_question.proofs.LoadLemmas.{load_over, load_distinct}
 use Rattle.dc_question.proofs.questions.Questions.load.Goals as goal
 
-pub do_row-requires-clause-over : goal.do_row-requires-clause-over
-do_row-requires-clause-over g c =
+pub do_load-requires-clause-over : goal.do_load-requires-clause-over
+do_load-requires-clause-over g c =
     let layers = each (λ b. (goal.Layer-dyn g (b.vtable, b.value)).state b.value) c.args.self.now.store.now.layers.items in
-    subst (λ row. AreOver row (length c.args.self.now.store.now.layers.items)) (sym (c.as_slice-2.ensures ∙ c.in_ok-row.ensures))
+    subst (λ row. AreOver row (length c.args.self.now.store.now.layers.items)) (sym (c.as_slice.ensures ∙ c.in_ok-row.ensures))
     (load_over layers c.args.self.now.setting c.args.owner.now c.args.list.now (length c.args.self.now.store.now.layers.items) c.requires.over)
 
-pub do_row-requires-clause-distinct : goal.do_row-requires-clause-distinct
-do_row-requires-clause-distinct g c =
+pub do_load-requires-clause-distinct : goal.do_load-requires-clause-distinct
+do_load-requires-clause-distinct g c =
     let layers = each (λ b. (goal.Layer-dyn g (b.vtable, b.value)).state b.value) c.args.self.now.store.now.layers.items in
-    subst AllDistinct (sym (c.as_slice-2.ensures ∙ c.in_ok-row.ensures)) (load_distinct layers c.args.self.now.setting c.args.owner.now c.args.list.now c.requires.apart c.requires.names)
+    subst AllDistinct (sym (c.as_slice.ensures ∙ c.in_ok-row.ensures)) (load_distinct layers c.args.self.now.setting c.args.owner.now c.args.list.now c.requires.apart c.requires.names)
 
 pub returns-clause-does : goal.returns-clause-does
-returns-clause-does g c =
-    does_row c.do_row.result _ _ _ _ _ _ (c.as_slice.ensures ∙ c.in_ok-names.ensures) (c.as_slice-2.ensures ∙ c.in_ok-row.ensures) c.do_row.ensures.does
+returns-clause-does g c = does_row c.do_load.result _ _ _ _ _ _ refl (c.as_slice.ensures ∙ c.in_ok-row.ensures) c.do_load.ensures.does
