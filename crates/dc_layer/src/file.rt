@@ -82,6 +82,10 @@ impl Layer for FileLayer {
         self.held.change(name, op)
     }
 
+    fn put(&mut self, name: Name, item: Item) -> Result<Taken, LayerError> {
+        self.held.put(name, item)
+    }
+
     fn names(&self) -> Mem<List<Name>> {
         self.held.names()
     }

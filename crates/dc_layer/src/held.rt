@@ -185,6 +185,17 @@ impl Layer for Held {
         }
     }
 
+    fn put(&mut self, name: Name, item: Item) -> Result<Taken, LayerError> {
+        if !self.writable() {
+            return Err(LayerError::ReadOnly);
+        }
+        match self.table.put(name, item)? {
+            Effect::Same => Ok(Taken::Same),
+            Effect::Changed => Ok(Taken::Changed),
+            Effect::Gone => Ok(Taken::Gone),
+        }
+    }
+
     fn names(&self) -> Mem<List<Name>> {
         self.table.names()
     }

@@ -1,5 +1,6 @@
 // A layer that runs out of memory.
 ghost use Rattle.std.specs.Prelude.{◌≡◌, ◌≢◌, ◌+◌, None, Some, Err, IfOk, IfErr, OnOk, OnErr, unwrap_or};
+ghost use Rattle.dc_item.specs.declared.op.Op.TheVariants.{Put};
 ghost use Rattle.dc_layer.specs.State.{blank, made_at, with_made, taken_of, refusal};
 
 use crate::file::FileLayer;
@@ -111,6 +112,25 @@ impl Layer for TiredLayer {
             return Err(self.refusal(name, op));
         }
         let taken = self.layer.change(name, op)?;
+        self.left -= 1;
+        Ok(taken)
+    }
+
+    /// As the layer in one file while changes are left, of which this is one; then what isn't refused finds no memory.
+    fn put(&mut self, name: Name, item: Item) -> Result<Taken, LayerError>
+        ensures taken { IfOk result (λ taken. taken ≡ taken_of (made_at (⟦<FileLayer as Layer>⟧.state self.old.layer) name (Put item))) }
+        ensures ok { OnOk result (⟦<FileLayer as Layer>⟧.state self.new.layer ≡ with_made (⟦<FileLayer as Layer>⟧.state self.old.layer) name (made_at (⟦<FileLayer as Layer>⟧.state self.old.layer) name (Put item))) }
+        ensures allowed { OnOk result (refusal (⟦<FileLayer as Layer>⟧.state self.old.layer) name (Put item) ≡ None) }
+        ensures cause { IfErr result (λ error. error ≢ LayerError.OutOfMemory → refusal (⟦<FileLayer as Layer>⟧.state self.old.layer) name (Put item) ≡ Some error) }
+        ensures err { OnErr result (⟦<FileLayer as Layer>⟧.state self.new.layer ≡ ⟦<FileLayer as Layer>⟧.state self.old.layer) }
+        ensures fewer { OnOk result (self.new.left + 1 ≡ self.old.left) }
+        ensures as_many { OnErr result (self.new.left ≡ self.old.left) }
+        ensures tired { self.old.left ≡ 0 → refusal (⟦<FileLayer as Layer>⟧.state self.old.layer) name (Put item) ≡ None → result ≡ Err LayerError.OutOfMemory }
+    {
+        if self.left == 0 {
+            return Err(self.refusal(&name, &Op::Put(item)));
+        }
+        let taken = self.layer.put(name, item)?;
         self.left -= 1;
         Ok(taken)
     }

@@ -1,3 +1,4 @@
+pub mod FrontLemmas
 pub mod MarkLemmas
 pub mod PlaceLemmas
 pub mod SortedEntries

@@ -11,6 +11,7 @@ ghost use Rattle.dc_item.specs.After.{asked, after_at, effect_of};
 ghost use Rattle.dc_item.specs.Printed.{table_text};
 ghost use Rattle.dc_item.specs.Table.{table_of};
 ghost use Rattle.dc_item.specs.declared.op.After.TheVariants.{Changed, Gone};
+ghost use Rattle.dc_item.specs.declared.op.Op.TheVariants.{Put};
 ghost use Rattle.dc_table.specs.Marks.{marks_of, with_mark};
 ghost use Rattle.dc_table.specs.Tracked.{is_put, with_made, owned as owned_of};
 
@@ -120,6 +121,32 @@ impl ItemTable {
         }
     }
 
+    /// Puts the item at the name, in the place of one that stands there, and touches the name, unless the same item stands there.
+    /// It tells what it does. Neither is copied. After an error the table is as before.
+    pub fn put(&mut self, name: Name, item: Item) -> Mem<Effect>
+        ensures told { IfOk result (λ effect. effect ≡ effect_of (after_at (Put item) (map.get self.old.items name))) }
+        ensures ok { OnOk result (self.new ≡ with_made self.old name (after_at (Put item) (map.get self.old.items name))) }
+        ensures err { OnErr result (self.new ≡ self.old) }
+    {
+        match self.items.get_index_of(name.bytes()) {
+            None => {
+                self.put_new(name, item)?;
+                Ok(Effect::Changed)
+            }
+            Some(place) => {
+                let op = Op::Put(item);
+                match effect_at(&self.items, place, &op)? {
+                    Effect::Same => Ok(Effect::Same),
+                    Effect::Changed => {
+                        put_over(&mut self.items[place], &mut self.touched, place, &name, op)?;
+                        Ok(Effect::Changed)
+                    }
+                    Effect::Gone => unreachable!(),
+                }
+            }
+        }
+    }
+
     // Does the operation where no item is at the name.
     fn make(&mut self, name: &Name, op: &Op) -> Mem<Option<Effect>>
         requires { map.get self.old.items name.now ≡ None }
@@ -130,7 +157,7 @@ impl ItemTable {
     {
         match op {
             Op::Put(item) => {
-                self.put_new(name, item)?;
+                self.put_new(name.copy()?, item.copy()?)?;
                 Ok(Some(Effect::Changed))
             }
             _ => Ok(None),
@@ -138,16 +165,14 @@ impl ItemTable {
     }
 
     // Puts the item at the new name, and touches the name.
-    fn put_new(&mut self, name: &Name, item: &Item) -> Mem<()>
-        requires { map.get self.old.items name.now ≡ None }
-        ensures ok { OnOk result (self.new ≡ with_made self.old name.now (Changed item.now)) }
+    fn put_new(&mut self, name: Name, item: Item) -> Mem<()>
+        requires { map.get self.old.items name ≡ None }
+        ensures ok { OnOk result (self.new ≡ with_made self.old name (Changed item)) }
         ensures err { OnErr result (self.new ≡ self.old) }
     {
-        let key = TableKey::of(name.copy()?);
-        let item = item.copy()?;
         self.items.reserve(1)?;
-        self.touched.touch(self.items.len(), name)?;
-        match self.items.insert(key, item) {
+        self.touched.touch(self.items.len(), &name)?;
+        match self.items.insert(TableKey::of(name), item) {
             Ok(_) => Ok(()),
             Err(_) => unreachable!(),
         }
@@ -259,6 +284,22 @@ fn work_on(item: &mut Item, touched: &mut Touched, place: usize, name: &Name, op
             Err(error)
         }
     }
+}
+
+// Makes the item the one that the operation puts, without a copy, and touches its name, which has this place; or changes
+// nothing.
+fn put_over(item: &mut Item, touched: &mut Touched, place: usize, name: &Name, op: Op) -> Mem<()>
+    requires { is_put op ≡ true }
+    ensures ok { OnOk result (item.new ≡ asked op item.old) }
+    ensures err { OnErr result (item.new ≡ item.old) }
+    ensures touched { OnOk result (marks_of touched.new ≡ with_mark (marks_of touched.old) place name.now) }
+    ensures untouched { OnErr result (marks_of touched.new ≡ marks_of touched.old) }
+{
+    touched.touch(place, name)?;
+    if let Op::Put(new) = op {
+        *item = new;
+    }
+    Ok(())
 }
 
 // The name that the bytes are.

@@ -1,5 +1,6 @@
 // The entries of a table, in order.
-ghost use Rattle.std.specs.Prelude.{◌≡◌, IfOk, map as each};
+ghost use Rattle.std.specs.Prelude.{◌≡◌, ◌<◌, IfOk, IfSome, length, map as each};
+ghost use Rattle.std.specs.Int.{to_be_bytes, w64};
 ghost use Rattle.std.specs.FinMap as map;
 ghost use Rattle.dc_text.specs.Maps.{text_cmp};
 
@@ -24,7 +25,41 @@ pub(crate) fn in_order<'a>(
     order.sort_by(
         |one: &(&[u8], &Item), other: &(&[u8], &Item)| -> Ordering
             ensures { result ≡ text_cmp one.now.0.now other.now.0.now }
-        { one.0.cmp(other.0) },
+        { compare(one.0, other.0) },
     )?;
     Ok(order)
+}
+
+// The byte order of the two. Equal fronts are passed over eight bytes at a time.
+fn compare(one: &[u8], other: &[u8]) -> Ordering
+    ensures { result ≡ text_cmp one.now other.now }
+{
+    let mut rest = one;
+    let mut other_rest = other;
+    while let Some((behind, other_behind)) = behind_equal(rest, other_rest) {
+        rest = behind;
+        other_rest = other_behind;
+    }
+    rest.cmp(other_rest)
+}
+
+// What stands behind the first eight bytes of each, where these are the same.
+fn behind_equal<'a>(one: &'a [u8], other: &'a [u8]) -> Option<(&'a [u8], &'a [u8])>
+    ensures order { IfSome result (λ rests. text_cmp rests.0.now rests.1.now ≡ text_cmp one.now other.now) }
+    ensures shorter { IfSome result (λ rests. length rests.0.now < length one.now) }
+{
+    let (front, rest) = one.split_first_chunk::<8>()?;
+    let (other_front, other_rest) = other.split_first_chunk::<8>()?;
+    if as_number(*front) == as_number(*other_front) {
+        Some((rest, other_rest))
+    } else {
+        None
+    }
+}
+
+// The bytes as one number, which no others make.
+fn as_number(bytes: [u8; 8]) -> u64
+    ensures { to_be_bytes w64 result ≡ bytes }
+{
+    u64::from_be_bytes(bytes)
 }
