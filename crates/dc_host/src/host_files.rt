@@ -10,8 +10,8 @@ use crate::host_guard::Guard;
 use crate::host_io;
 use crate::host_paths::{failed, is_missing, path_of};
 use dc_outside::{Files, FilesError};
-use dc_text::{List, Text};
-use std::alloc::{AllocError, Global};
+use dc_text::{List, Mem, Text};
+use std::alloc::Global;
 use std::fs::File;
 use std::io::Read;
 use std::rt::Files as SystemFiles;
@@ -19,8 +19,11 @@ use std::rt::Files as SystemFiles;
 /// A file with more bytes than these isn't read.
 pub const MAX_FILE: usize = 67_108_864;
 
-// How many bytes are read at once.
-const PIECE: usize = 16_384;
+// How many bytes are read at first. Most files have fewer.
+const FIRST_PIECE: usize = 2_048;
+
+// How many bytes are read at once after them. Larger pieces aren't read faster, and take longer to clear.
+const PIECE: usize = 8_192;
 
 /// The files of the host. Each error of a call is a fault but for a file that isn't there, and so are a file that is too
 /// large, what isn't a file in the place of one, a file that another program has locked, and a path or the name of a file
@@ -140,39 +143,33 @@ fn read_file<R: SystemFiles<File = File>>(
     }
 }
 
-fn make_buffer(alloc: Global) -> Result<Vec<u8>, AllocError>
-    ensures { IfOk result (λ piece. length piece.items ≡ PIECE) }
-{
-    vec![in alloc; 0u8; PIECE]
-}
-
-// The bytes of the file, unless there are too many.
+// The bytes of the file, unless there are too many. Most files end within the first piece.
 fn read_all<F: Read>(alloc: Global, file: &mut F) -> Result<Text, FilesError>
     ensures small { IfOk result (λ bytes. length bytes ≤ MAX_FILE) }
     ensures whole { IfOk result (λ bytes. IfSome (F.remaining file.old) (λ all. bytes ≡ all)) }
 {
-    match make_buffer(alloc) {
-        Ok(mut piece) => read_pieces(alloc, file, piece.as_mut_slice()),
-        Err(_) => Err(FilesError::OutOfMemory),
-    }
-}
-
-fn read_pieces<F: Read>(alloc: Global, file: &mut F, piece: &mut [u8]) -> Result<Text, FilesError>
-    requires { 0 < length piece.old }
-    ensures small { IfOk result (λ bytes. length bytes ≤ MAX_FILE) }
-    ensures whole { IfOk result (λ bytes. IfSome (F.remaining file.old) (λ all. bytes ≡ all)) }
-{
     let mut bytes = Text::new(alloc);
+    let mut piece = make_piece(alloc, FIRST_PIECE)?;
     for _ in 0..u64::MAX {
-        match host_io::read_some(file, piece) {
+        match host_io::read_some(file, piece.as_mut_slice()) {
             Ok(count) if count == 0 => return Ok(bytes),
             Ok(count) if count <= MAX_FILE.saturating_sub(bytes.bytes().len()) => {
                 bytes.append(&piece[..count])?;
+                if count == FIRST_PIECE {
+                    piece = make_piece(alloc, PIECE)?;
+                }
             }
             Ok(_) | Err(_) => return Err(FilesError::Failed),
         }
     }
     Err(FilesError::Failed)
+}
+
+// Room for the bytes of a piece.
+fn make_piece(alloc: Global, count: usize) -> Mem<Vec<u8>>
+    ensures { IfOk result (λ piece. length piece.items ≡ count) }
+{
+    Ok(vec![in alloc; 0u8; count]?)
 }
 
 fn list_files<R: SystemFiles<File = File> + Alloc + Clone + Drop>(

@@ -85,6 +85,9 @@ impl ChangedFolders {
         ensures { Keeps self.old self.new }
     {
         let folder = folder_of(path);
+        if Path::new(folder).is_dir(rt) {
+            return Ok(());
+        }
         for above in Path::new(folder).ancestors() {
             if above.as_str().is_empty() || above.is_dir(rt) {
                 break;
