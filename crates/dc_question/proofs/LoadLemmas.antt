@@ -44,15 +44,15 @@ load_made t old a b c fields name f n a' b' c' =
 
 -- ---- the write that puts a template
 
-pub put_made : (ls : List LayerState) (at : Setting) (t : Stanza) (old : Option ItemParts) (item : ItemParts) (name : List ℕ) (kind : Kind) (behalf : List (List ℕ)) → old ≡ look ls at.templates t.name
-    → item ≡ loaded_template t old → kind_by (Some item) ≡ Some t.kind → name ≡ t.name → kind ≡ t.kind → behalf ≡ t.name ∷ []
-    → record { plan = at.templates; name = name; kind = Some kind; op = Put item; behalf = behalf } ≡ template_write ls at t.name (Put (loaded_template t (look ls at.templates t.name))) (t.name ∷ [])
-put_made ls at t old item name kind behalf o m k n is b =
+pub put_made : (ls : List LayerState) (at : Setting) (t : Stanza) (old : Option ItemParts) (item : ItemParts) (name : List ℕ) (kind : Kind) → old ≡ look ls at.templates t.name
+    → item ≡ loaded_template t old → kind_by (Some item) ≡ Some t.kind → name ≡ t.name → kind ≡ t.kind
+    → record { plan = at.templates; name = name; kind = Some kind; op = Put item; behalf = name ∷ [] } ≡ template_write ls at t.name (Put (loaded_template t (look ls at.templates t.name))) (t.name ∷ [])
+put_made ls at t old item name kind o m k n is =
     let found : Option ItemParts = look ls at.templates t.name in
     let made : item ≡ loaded_template t found = m ∙ ap (loaded_template t) o in
     let tested : Some kind ≡ kind_by (kept_after found (after_at (Put (loaded_template t found)) found))
     = ap Some is ∙ sym k ∙ put_kept kind_by kind_reads (Put item) item found refl ∙ ap (λ i. kind_by (kept_after found (after_at (Put i) found))) made in
-    λ i. record { plan = at.templates; name = n i; kind = tested i; op = Put (made i); behalf = b i }
+    λ i. record { plan = at.templates; name = n i; kind = tested i; op = Put (made i); behalf = n i ∷ [] }
 
 -- ---- two writes for each template
 

@@ -6,12 +6,11 @@ ghost use Rattle.dc_store.specs.StoreLaws.{AreSameButAll};
 ghost use Rattle.dc_question.specs.Changes.{Does, value_write as value_write_of, values_set};
 ghost use Rattle.dc_question.specs.Questions.{IsSetOver};
 
-use crate::beside::only;
 use crate::errors::QuestionError;
 use crate::questions::Questions;
 use dc_item::Op;
 use dc_layer::Layer;
-use dc_store::Write;
+use dc_store::{Behalf, Row, Write};
 use dc_text::{FieldKey, List, Mem, Name, Text, settle};
 use std::alloc::Global;
 
@@ -28,17 +27,17 @@ impl<'q> Questions<'q> {
         ensures setting { self.new.setting ≡ self.old.setting }
         ensures held { self.new.store.ghost_name ≡ self.old.store.ghost_name }
     {
-        let row = self.value_row(answers)?;
+        let mut row = self.value_row(answers)?;
         let names = names(self.alloc, answers)?;
-        self.do_row(names.as_slice(), row.as_slice())
+        self.do_row(names.as_slice(), &mut row)
     }
 
     // The writes that give the questions their values.
-    fn value_row(&self, answers: &[(Name, Text)]) -> Mem<List<Write<'q>>>
+    fn value_row(&self, answers: &[(Name, Text)]) -> Mem<Row<'q>>
         requires over { IsSetOver self.now.setting (length self.now.store.now.layers.items) }
         ensures { IfOk result (λ row. row ≡ each (value_write_of (each (λ b. state (b.vtable, b.value)) self.now.store.now.layers.items) self.now.setting) answers.now) }
     {
-        let mut row = List::new(self.alloc);
+        let mut row = Row::new(self.alloc);
         for answer in answers {
             row.push(self.value_write(&answer.0, &answer.1)?)?;
         }
@@ -57,7 +56,7 @@ impl<'q> Questions<'q> {
             name: name.copy()?,
             kind: self.kind(name),
             op: Op::SetField(key, value),
-            behalf: only(self.alloc, name)?,
+            behalf: Behalf::Itself,
         })
     }
 }

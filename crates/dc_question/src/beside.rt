@@ -16,7 +16,7 @@ use crate::questions::Questions;
 use crate::values::kind;
 use dc_item::{After, Effect, Item, Op};
 use dc_layer::Layer;
-use dc_store::Write;
+use dc_store::{Behalf, Write};
 use dc_template::Kind;
 use dc_text::{List, Mem, Name, TextMap};
 use std::alloc::Global;
@@ -33,7 +33,7 @@ impl<'q> Questions<'q> {
             name,
             kind,
             op,
-            behalf: questions,
+            behalf: Behalf::Names(questions),
         })
     }
 
@@ -176,7 +176,7 @@ impl<'q> Questions<'q> {
             name: name.copy()?,
             kind,
             op,
-            behalf: only(self.alloc, name)?,
+            behalf: Behalf::Itself,
         })
     }
 

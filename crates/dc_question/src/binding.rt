@@ -14,7 +14,7 @@ use crate::errors::QuestionError;
 use crate::questions::Questions;
 use dc_item::{Item, ItemBuilder, Op};
 use dc_layer::Layer;
-use dc_store::Write;
+use dc_store::{Row, Write};
 use dc_text::{List, Mem, Name, NameRefused, OutOfMemory};
 
 impl<'q> Questions<'q> {
@@ -50,18 +50,18 @@ impl<'q> Questions<'q> {
         ensures held { self.new.store.ghost_name ≡ self.old.store.ghost_name }
     {
         let op = Op::AddOwner(name.copy()?);
-        let row = self.bind_row(template, op, name, owner)?;
+        let mut row = self.bind_row(template, op, name, owner)?;
         let names = only(self.alloc, name)?;
-        self.do_row(names.as_slice(), row.as_slice())
+        self.do_row(names.as_slice(), &mut row)
     }
 
     // The two writes that bind a question to a template, on which an operation is done, and to an owner.
-    fn bind_row(&self, template: &Name, op: Op, name: &Name, owner: &Name) -> Mem<List<Write<'q>>>
+    fn bind_row(&self, template: &Name, op: Op, name: &Name, owner: &Name) -> Mem<Row<'q>>
         requires over { IsSetOver self.now.setting (length self.now.store.now.layers.items) }
         ensures { IfOk result (λ row. row ≡ bind_row_of (each (λ b. state (b.vtable, b.value)) self.now.store.now.layers.items) self.now.setting template.now op name.now owner.now) }
     {
         let first = self.template_write(template.copy()?, op, only(self.alloc, name)?)?;
-        let mut row = List::new(self.alloc);
+        let mut row = Row::new(self.alloc);
         let mut builder = ItemBuilder::new(self.alloc);
         self.add_bound(&mut row, &mut builder, first, name, owner)?;
         Ok(row)
@@ -70,7 +70,7 @@ impl<'q> Questions<'q> {
     // Adds the write to a template for a question, and the one that binds the question to it and to the owner.
     pub(crate) fn add_bound(
         &self,
-        row: &mut List<Write<'q>>,
+        row: &mut Row<'q>,
         builder: &mut ItemBuilder,
         first: Write<'q>,
         name: &Name,

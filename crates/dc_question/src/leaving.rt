@@ -20,7 +20,7 @@ use crate::kinds_left::KindsLeft;
 use crate::questions::Questions;
 use dc_item::Op;
 use dc_layer::Layer;
-use dc_store::Write;
+use dc_store::{Row, Write};
 use dc_text::{List, Mem, Name};
 
 impl<'q> Questions<'q> {
@@ -36,12 +36,12 @@ impl<'q> Questions<'q> {
         ensures setting { self.new.setting ≡ self.old.setting }
         ensures held { self.new.store.ghost_name ≡ self.old.store.ghost_name }
     {
-        let row = self.leave_row(owner, names)?;
-        self.do_row(names, row.as_slice())
+        let mut row = self.leave_row(owner, names)?;
+        self.do_row(names, &mut row)
     }
 
     // The writes by which the owner leaves the questions, and then those by which templates lose questions.
-    fn leave_row(&self, owner: &Name, names: &[Name]) -> Mem<List<Write<'q>>>
+    fn leave_row(&self, owner: &Name, names: &[Name]) -> Mem<Row<'q>>
         requires over { IsSetOver self.now.setting (length self.now.store.now.layers.items) }
         ensures { IfOk result (λ row. row ≡ leave_row_of (each (λ b. state (b.vtable, b.value)) self.now.store.now.layers.items) self.now.setting owner.now names.now) }
     {
@@ -55,11 +55,11 @@ impl<'q> Questions<'q> {
     }
 
     // The writes by which templates lose questions.
-    fn losses(&self, groups: &[(Name, List<Name>)]) -> Mem<List<Write<'q>>>
+    fn losses(&self, groups: &[(Name, List<Name>)]) -> Mem<Row<'q>>
         requires over { IsSetOver self.now.setting (length self.now.store.now.layers.items) }
         ensures { IfOk result (λ row. row ≡ losses_of (each (λ b. state (b.vtable, b.value)) self.now.store.now.layers.items) self.now.setting groups.now) }
     {
-        let mut row = List::new(self.alloc);
+        let mut row = Row::new(self.alloc);
         self.add_losses(&mut row, groups)?;
         Ok(row)
     }
@@ -140,11 +140,11 @@ impl<'q> Questions<'q> {
     }
 
     // The writes by which the owner leaves the questions.
-    fn leaves(&self, kinds: &KindsLeft<'_>, owner: &Name, names: &[Name]) -> Mem<List<Write<'q>>>
+    fn leaves(&self, kinds: &KindsLeft<'_>, owner: &Name, names: &[Name]) -> Mem<Row<'q>>
         requires over { IsSetOver self.now.setting (length self.now.store.now.layers.items) }
         ensures { IfOk result (λ row. row ≡ each (λ name. write_by (each (λ b. state (b.vtable, b.value)) self.now.store.now.layers.items) self.now.setting kinds.now name (DropOwnersOf (owner.now ∷ []))) names.now) }
     {
-        let mut row = List::new(self.alloc);
+        let mut row = Row::new(self.alloc);
         for name in names {
             let op = Op::DropOwners(only(self.alloc, owner)?);
             row.push(self.write_beside(kinds, name, op)?)?;
@@ -153,7 +153,7 @@ impl<'q> Questions<'q> {
     }
 
     // Adds the writes by which templates lose questions.
-    fn add_losses(&self, row: &mut List<Write<'q>>, groups: &[(Name, List<Name>)]) -> Mem<()>
+    fn add_losses(&self, row: &mut Row<'q>, groups: &[(Name, List<Name>)]) -> Mem<()>
         requires over { IsSetOver self.now.setting (length self.now.store.now.layers.items) }
         ensures { OnOk result (row.new ≡ row.old ++ losses_of (each (λ b. state (b.vtable, b.value)) self.now.store.now.layers.items) self.now.setting groups.now) }
     {

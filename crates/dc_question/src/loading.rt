@@ -16,13 +16,12 @@ ghost use Rattle.dc_question.specs.Questions.{IsSetOver};
 ghost use Rattle.dc_question.specs.Readings.{kind_by};
 ghost use Rattle.dc_question.specs.declared.errors.QuestionError.{QuestionError};
 
-use crate::beside::only;
 use crate::binding::has_other_template;
 use crate::errors::QuestionError;
 use crate::questions::Questions;
 use dc_item::{Item, ItemBuilder, Op};
 use dc_layer::Layer;
-use dc_store::{StoreError, Write};
+use dc_store::{Behalf, Row, StoreError, Write};
 use dc_template::Template;
 use dc_text::{FieldKey, List, Mem, Name, Text};
 use std::alloc::Global;
@@ -53,17 +52,17 @@ impl<'q> Questions<'q> {
         ensures setting { self.new.setting ≡ self.old.setting }
         ensures held { self.new.store.ghost_name ≡ self.old.store.ghost_name }
     {
-        let row = self.load_row(owner, list)?;
-        self.do_load(list, row.as_slice())
+        let mut row = self.load_row(owner, list)?;
+        self.do_load(list, &mut row)
     }
 
     #[tactic(auto, using(dc_store::proofs::RowLemmas::same_all_refl))]
     // Does all the writes, or none. The names of the templates are asked for only where a write is refused.
-    fn do_load(&mut self, list: &[Template], row: &[Write<'_>]) -> Result<(), QuestionError>
-        requires over { AreOver row.now (length self.old.store.now.layers.items) }
-        requires distinct { AllDistinct row.now }
-        ensures does { Does result (row_for (stored (each (λ b. state (b.vtable, b.value)) self.old.store.now.layers.items) self.old.store.now.told) (each (λ t. t.name) list.now) row.now) (stored (each (λ b. state (b.vtable, b.value)) self.old.store.now.layers.items) self.old.store.now.told) (stored (each (λ b. state (b.vtable, b.value)) self.new.store.now.layers.items) self.new.store.now.told) }
-        ensures others { AreSameButAll (names_of row.now) (each (λ b. state (b.vtable, b.value)) self.old.store.now.layers.items) (each (λ b. state (b.vtable, b.value)) self.new.store.now.layers.items) }
+    fn do_load(&mut self, list: &[Template], row: &mut Row<'_>) -> Result<(), QuestionError>
+        requires over { AreOver row.old (length self.old.store.now.layers.items) }
+        requires distinct { AllDistinct row.old }
+        ensures does { Does result (row_for (stored (each (λ b. state (b.vtable, b.value)) self.old.store.now.layers.items) self.old.store.now.told) (each (λ t. t.name) list.now) row.old) (stored (each (λ b. state (b.vtable, b.value)) self.old.store.now.layers.items) self.old.store.now.told) (stored (each (λ b. state (b.vtable, b.value)) self.new.store.now.layers.items) self.new.store.now.told) }
+        ensures others { AreSameButAll (names_of row.old) (each (λ b. state (b.vtable, b.value)) self.old.store.now.layers.items) (each (λ b. state (b.vtable, b.value)) self.new.store.now.layers.items) }
         ensures count { length self.new.store.now.layers.items ≡ length self.old.store.now.layers.items }
         ensures setting { self.new.setting ≡ self.old.setting }
         ensures held { self.new.store.ghost_name ≡ self.old.store.ghost_name }
@@ -71,7 +70,7 @@ impl<'q> Questions<'q> {
         match self.write_row(row) {
             Ok(()) => Ok(()),
             Err(StoreError::OutOfMemory) => Err(QuestionError::OutOfMemory),
-            Err(StoreError::Refused) => Err(self.load_held_up(list, row)),
+            Err(StoreError::Refused) => Err(self.load_held_up(list, row.as_slice())),
         }
     }
 
@@ -87,11 +86,11 @@ impl<'q> Questions<'q> {
     }
 
     // The writes that put the templates, each with its question.
-    fn load_row(&self, owner: &Name, list: &[Template]) -> Mem<List<Write<'q>>>
+    fn load_row(&self, owner: &Name, list: &[Template]) -> Mem<Row<'q>>
         requires over { IsSetOver self.now.setting (length self.now.store.now.layers.items) }
         ensures { IfOk result (λ row. row ≡ load_row_of (each (λ b. state (b.vtable, b.value)) self.now.store.now.layers.items) self.now.setting owner.now list.now) }
     {
-        let mut row = List::new(self.alloc);
+        let mut row = Row::with_capacity(self.alloc, list.len().saturating_mul(2))?;
         let mut builder = ItemBuilder::new(self.alloc);
         for template in list {
             self.add_load(&mut row, &mut builder, owner, template)?;
@@ -102,7 +101,7 @@ impl<'q> Questions<'q> {
     // Adds the two writes that put a template and bind its question. Both items are put together in the builder.
     fn add_load(
         &self,
-        row: &mut List<Write<'q>>,
+        row: &mut Row<'q>,
         builder: &mut ItemBuilder,
         owner: &Name,
         template: &Template,
@@ -132,7 +131,7 @@ impl<'q> Questions<'q> {
             name: name.copy()?,
             kind: Some(template.kind()),
             op: Op::Put(item),
-            behalf: only(self.alloc, name)?,
+            behalf: Behalf::Itself,
         })
     }
 }

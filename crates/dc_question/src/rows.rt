@@ -10,17 +10,17 @@ ghost use Rattle.dc_question.specs.declared.errors.QuestionError.{QuestionError}
 use crate::errors::QuestionError;
 use crate::questions::Questions;
 use dc_layer::Layer;
-use dc_store::{StoreError, Write};
+use dc_store::{Row, StoreError, Write};
 use dc_text::Name;
 
 impl<'q> Questions<'q> {
     #[tactic(auto, using(dc_store::proofs::RowLemmas::same_all_refl))]
     // Does all the writes, or none. A refusal names the first of the questions for which a write is refused.
-    pub(crate) fn do_row(&mut self, names: &[Name], row: &[Write<'_>]) -> Result<(), QuestionError>
-        requires over { AreOver row.now (length self.old.store.now.layers.items) }
-        requires distinct { AllDistinct row.now }
-        ensures does { Does result (row_for (stored (each (λ b. state (b.vtable, b.value)) self.old.store.now.layers.items) self.old.store.now.told) names.now row.now) (stored (each (λ b. state (b.vtable, b.value)) self.old.store.now.layers.items) self.old.store.now.told) (stored (each (λ b. state (b.vtable, b.value)) self.new.store.now.layers.items) self.new.store.now.told) }
-        ensures others { AreSameButAll (names_of row.now) (each (λ b. state (b.vtable, b.value)) self.old.store.now.layers.items) (each (λ b. state (b.vtable, b.value)) self.new.store.now.layers.items) }
+    pub(crate) fn do_row(&mut self, names: &[Name], row: &mut Row<'_>) -> Result<(), QuestionError>
+        requires over { AreOver row.old (length self.old.store.now.layers.items) }
+        requires distinct { AllDistinct row.old }
+        ensures does { Does result (row_for (stored (each (λ b. state (b.vtable, b.value)) self.old.store.now.layers.items) self.old.store.now.told) names.now row.old) (stored (each (λ b. state (b.vtable, b.value)) self.old.store.now.layers.items) self.old.store.now.told) (stored (each (λ b. state (b.vtable, b.value)) self.new.store.now.layers.items) self.new.store.now.told) }
+        ensures others { AreSameButAll (names_of row.old) (each (λ b. state (b.vtable, b.value)) self.old.store.now.layers.items) (each (λ b. state (b.vtable, b.value)) self.new.store.now.layers.items) }
         ensures count { length self.new.store.now.layers.items ≡ length self.old.store.now.layers.items }
         ensures setting { self.new.setting ≡ self.old.setting }
         ensures held { self.new.store.ghost_name ≡ self.old.store.ghost_name }
@@ -28,18 +28,19 @@ impl<'q> Questions<'q> {
         match self.write_row(row) {
             Ok(()) => Ok(()),
             Err(StoreError::OutOfMemory) => Err(QuestionError::OutOfMemory),
-            Err(StoreError::Refused) => Err(self.held_up(names, row)),
+            Err(StoreError::Refused) => Err(self.held_up(names, row.as_slice())),
         }
     }
 
     // Does all the writes in the store, or none.
-    pub(crate) fn write_row(&mut self, row: &[Write<'_>]) -> Result<(), StoreError>
-        requires over { AreOver row.now (length self.old.store.now.layers.items) }
-        requires distinct { AllDistinct row.now }
-        ensures ok { OnOk result (row_done (stored (each (λ b. state (b.vtable, b.value)) self.old.store.now.layers.items) self.old.store.now.told) row.now ≡ Some (stored (each (λ b. state (b.vtable, b.value)) self.new.store.now.layers.items) self.new.store.now.told)) }
-        ensures refused { result ≡ Err StoreError.Refused → row_done (stored (each (λ b. state (b.vtable, b.value)) self.old.store.now.layers.items) self.old.store.now.told) row.now ≡ None }
+    pub(crate) fn write_row(&mut self, row: &mut Row<'_>) -> Result<(), StoreError>
+        requires over { AreOver row.old (length self.old.store.now.layers.items) }
+        requires distinct { AllDistinct row.old }
+        ensures ok { OnOk result (row_done (stored (each (λ b. state (b.vtable, b.value)) self.old.store.now.layers.items) self.old.store.now.told) row.old ≡ Some (stored (each (λ b. state (b.vtable, b.value)) self.new.store.now.layers.items) self.new.store.now.told)) }
+        ensures refused { result ≡ Err StoreError.Refused → row_done (stored (each (λ b. state (b.vtable, b.value)) self.old.store.now.layers.items) self.old.store.now.told) row.old ≡ None }
         ensures unchanged { result ≡ Err StoreError.Refused → (stored (each (λ b. state (b.vtable, b.value)) self.new.store.now.layers.items) self.new.store.now.told) ≡ (stored (each (λ b. state (b.vtable, b.value)) self.old.store.now.layers.items) self.old.store.now.told) }
-        ensures others { AreSameButAll (names_of row.now) (each (λ b. state (b.vtable, b.value)) self.old.store.now.layers.items) (each (λ b. state (b.vtable, b.value)) self.new.store.now.layers.items) }
+        ensures stays { result ≡ Err StoreError.Refused → row.new ≡ row.old }
+        ensures others { AreSameButAll (names_of row.old) (each (λ b. state (b.vtable, b.value)) self.old.store.now.layers.items) (each (λ b. state (b.vtable, b.value)) self.new.store.now.layers.items) }
         ensures count { length self.new.store.now.layers.items ≡ length self.old.store.now.layers.items }
         ensures setting { self.new.setting ≡ self.old.setting }
         ensures held { self.new.store.ghost_name ≡ self.old.store.ghost_name }

@@ -1,5 +1,6 @@
 pub mod Changes
 pub mod Frames
+pub mod Landings
 pub mod LawLemmas
 pub mod ListingLemmas
 pub mod RowLemmas

@@ -1,18 +1,15 @@
 -- Rows of writes.
-use Rattle.std.proofs.Common.{◌≡◌, ℕ, suc, ◌<◌, ◌+◌, Bool, true, false, not, List, [], ◌∷◌, ◌++◌, Option, Some, None, is_some, refl, sym, ap, subst, ◌∙◌, add-one, arith}
+use Rattle.std.proofs.Common.{◌≡◌, ℕ, suc, Bool, true, false, not, List, [], ◌∷◌, ◌++◌, Option, Some, None, is_some, refl, sym, ap, subst, ◌∙◌, arith}
 use Rattle.std.specs.Prelude.{◌||◌, option_map, unwrap_or, if◌then◌else◌}
 use Rattle.std.specs.List.{All, Contains, list_any}
-use Rattle.std.proofs.Math.ListN.{drop, get_or, length, get_or-map}
-use Rattle.std.proofs.Math.Seq.{drop-cons}
-use Rattle.std.proofs.lemmas.List.{get_or-drop, length-drop, length-map}
+use Rattle.std.proofs.Math.ListN.{get_or}
 use Rattle.std.proofs.lemmas.List.Elements.{All-head, All-tail, All-from_get_or}
 use Rattle.dc_layer.specs.State.{LayerState}
 use Rattle.dc_conf.specs.Plans.{places}
 use Rattle.dc_store.specs.Plans.{StoreState, stored, backed_up, told_line, write}
-use Rattle.dc_store.specs.Rows.{Write, AreDistinct, AllDistinct, names_of, is_refused, first_refused, all_done, row_done}
+use Rattle.dc_store.specs.Rows.{Write, AllDistinct, names_of, is_refused, all_done, row_done}
 use Rattle.dc_store.specs.StoreLaws.{AreSameBut, AreSameButAll}
 use Rattle.dc_store.specs.Writes.{write_of}
-use Rattle.dc_store.proofs.Searches.{any_find}
 use Rattle.dc_store.proofs.TestLemmas.{tests_apart}
 
 -- a row of one write is that write
@@ -37,29 +34,24 @@ or_false true b e = cc
 or_false false b e = (refl, e)
 
 -- the first isn't refused
-pub first_taken : (ls : List LayerState) (row : List Write) (i : ℕ) (w : Write) → i < length row → w ≡ get_or row i w → list_any (is_refused ls) (drop i row) ≡ false → is_refused ls w ≡ false
-first_taken ls row i w h is free =
-    ap (is_refused ls) is ∙ (or_false (is_refused ls (get_or row i w)) (list_any (is_refused ls) (drop (suc i) row)) (ap (list_any (is_refused ls)) (sym (drop-cons row i w h)) ∙ free)).0
+pub first_taken : (ls : List LayerState) (w : Write) (row : List Write) → list_any (is_refused ls) (w ∷ row) ≡ false → is_refused ls w ≡ false
+first_taken ls w row free = (or_false (is_refused ls w) (list_any (is_refused ls) row) free).0
 
--- once it is done, the rest leave what they were to leave, and none of them is refused
-pub row_turn : (row : List Write) (i : ℕ) (w : Write) (store new final : StoreState) → i < length row → w ≡ get_or row i w → AllDistinct row
-    → write store w.plan w.name w.kind w.op ≡ Some new → all_done store (drop i row) ≡ final → list_any (is_refused store.layers) (drop i row) ≡ false
-    → (all_done new (drop (i + 1) row) ≡ final) × (list_any (is_refused new.layers) (drop (i + 1) row) ≡ false)
-row_turn row i w store new final h is distinct did left free =
-    let parts : drop i row ≡ w ∷ drop (suc i) row = drop-cons row i w h ∙ ap (λ x. x ∷ drop (suc i) row) (sym is) in
-    let next : drop (i + 1) row ≡ drop (suc i) row = ap (λ j. drop j row) (add-one i) in
-    let same : all_done store (w ∷ drop (suc i) row) ≡ all_done new (drop (suc i) row) = ap (λ o. all_done (unwrap_or o store) (drop (suc i) row)) did in
-    let rest : list_any (is_refused store.layers) (drop (suc i) row) ≡ false
-    = (or_false (is_refused store.layers w) (list_any (is_refused store.layers) (drop (suc i) row)) (ap (list_any (is_refused store.layers)) (sym parts) ∙ free)).1 in
-    let apart : All (λ x. is_refused new.layers x ≡ is_refused store.layers x) (drop (suc i) row)
-    = All-from_get_or (λ x. is_refused new.layers x ≡ is_refused store.layers x) (drop (suc i) row) w
-    (λ k within. tests_apart store new w (get_or (drop (suc i) row) k w)
-    (subst (λ x. AreDistinct x (get_or (drop (suc i) row) k w)) (sym is)
-    (subst (AreDistinct (get_or row i w)) (sym (get_or-drop (suc i) row k w)) (distinct i (suc i + k) w (omega arith) (omega (arith, length-drop (suc i) row)))))
-    did) in (
-      ap (all_done new) next ∙ sym same ∙ ap (all_done store) (sym parts) ∙ left,
-      ap (list_any (is_refused new.layers)) next ∙ any_same (is_refused new.layers) (is_refused store.layers) (drop (suc i) row) apart ∙ rest,
-    )
+-- once it is done, none of the rest is refused
+pub rest_taken : (w : Write) (row : List Write) (store new : StoreState) → AllDistinct (w ∷ row) → write store w.plan w.name w.kind w.op ≡ Some new
+    → list_any (is_refused store.layers) (w ∷ row) ≡ false → list_any (is_refused new.layers) row ≡ false
+rest_taken w row store new distinct did free =
+    any_same (is_refused new.layers) (is_refused store.layers) row
+    (All-from_get_or (λ x. is_refused new.layers x ≡ is_refused store.layers x) row w
+    (λ k within. tests_apart store new w (get_or row k w) (distinct 0 (suc k) w (omega arith) (omega arith)) did))
+    ∙ (or_false (is_refused store.layers w) (list_any (is_refused store.layers) row) free).1
+
+-- and the rest leave what all were to leave
+pub rest_left : (w : Write) (row : List Write) (store new final : StoreState) → write store w.plan w.name w.kind w.op ≡ Some new → all_done store (w ∷ row) ≡ final → all_done new row ≡ final
+rest_left w row store new final did left = sym (ap (λ o. all_done (unwrap_or o store) row) did) ∙ left
+
+pub rest_distinct : (w : Write) (row : List Write) → AllDistinct (w ∷ row) → AllDistinct row
+rest_distinct w row distinct i j default apart within = distinct (suc i) (suc j) default (omega arith) (omega arith)
 
 -- ---- the other names
 
@@ -99,20 +91,10 @@ same_all_then ns (x ∷ xs) (y ∷ ys) (z ∷ zs) p q = (
   same_all_then ns xs ys zs p.1 q.1,
 )
 
-pub name_among : (row : List Write) (i : ℕ) (w : Write) → i < length row → w ≡ get_or row i w → Contains (names_of row) w.name
-name_among row i w h is = (i, simp length-map h, get_or-map (λ (x : Write). x.name) row i w ∙ ap (λ (x : Write). x.name) (sym is))
+-- ---- what a row names
 
--- ---- the whole row
+pub first_name : (w : Write) (row : List Write) → Contains (names_of (w ∷ row)) w.name
+first_name w row = (0, omega arith, refl)
 
-pub row_refused : (store : StoreState) (row : List Write) → is_some (first_refused store.layers row) ≡ true → row_done store row ≡ None
-row_refused store row h = ap (λ b. if b then None else Some (all_done store row)) (sym (any_find (is_refused store.layers) row) ∙ h)
-
-pub row_taken : (store new : StoreState) (row : List Write) → list_any (is_refused store.layers) row ≡ false → all_done store row ≡ new → row_done store row ≡ Some new
-row_taken store new row h is = ap (λ b. if b then None else Some (all_done store row)) h ∙ ap Some is
-
-pub none_refused : (ls : List LayerState) (row : List Write) → is_some (first_refused ls row) ≡ false → list_any (is_refused ls) row ≡ false
-none_refused ls row h = sym (any_find (is_refused ls) row) ∙ h
-
-pub some_map : {A B : Type 0} (f : A → B) (o : Option A) → is_some (option_map f o) ≡ is_some o
-some_map f None = refl
-some_map f (Some x) = refl
+pub other_name : (w : Write) (row : List Write) (name : List ℕ) → Contains (names_of row) name → Contains (names_of (w ∷ row)) name
+other_name w row name in' = (suc in'.0, omega (arith, in'.1), in'.2)

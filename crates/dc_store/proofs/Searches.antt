@@ -14,13 +14,12 @@ use Rattle.dc_item.specs.declared.op.Op.{Op}
 use Rattle.dc_item.specs.declared.op.Op.TheVariants.{Put, SetField, DropField, SetFlag, SetVar, AddOwner, DropOwners}
 use Rattle.dc_item.specs.declared.op.After.{After}
 use Rattle.dc_item.specs.declared.op.After.TheVariants.{Same, Changed, Gone}
-use Rattle.dc_item.specs.declared.effect.Effect.TheVariants as effect
-use Rattle.dc_item.specs.After.{after_at, after_none, effect_of}
+use Rattle.dc_item.specs.After.{after_at, after_none}
 use Rattle.dc_template.specs.declared.kinds.Kind.{Kind}
 use Rattle.dc_layer.specs.State.{LayerState, is_writable, admits, with_made, made_at, refusal, is_put}
 use Rattle.dc_layer.specs.declared.layer.LayerError.TheVariants.{ReadOnly, NotHere}
 use Rattle.dc_store.specs.Holders.{item_at, has_at, holder_of, look_of, has_below_of}
-use Rattle.dc_store.specs.Writes.{is_writable_at, takes_at, open_holder, home, change_at, put_at, put_up, by_case, write_of, can_change_of}
+use Rattle.dc_store.specs.Writes.{is_writable_at, takes_at, open_holder, home, change_at, put_at, put_up, by_case, write_of}
 
 -- ---- the first of a list
 
@@ -298,48 +297,7 @@ made_done ls new ps n k p op is h made =
 pub made_refused : (ls : List LayerState) (ps n : List ℕ) (k : Option Kind) (op : Op) → is_put op ≡ true → None ≡ home ls ps n k → by_case ls None (home ls ps n k) n (after_none op) ≡ None
 made_refused ls ps n k op is h = let put = put_is op is in λ i. by_case ls None (sym h i) n (after_none (put.1 i))
 
--- ---- what would be taken
-
-pub open_takes : (ls : List LayerState) (ps n : List ℕ) (k : Option Kind) (op : Op) (p : ℕ) → Some p ≡ open_holder ls ps n → true ≡ is_some (write_of ls ps n k op)
-open_takes ls ps n k op p h =
-    let made = after_at op (look_of ls ps n) in
-    sym (ap (λ o. is_some (by_case ls o (home ls ps n k) n made)) (sym h) ∙ ap is_some (written_held ls p (home ls ps n k) n made))
-
-put_up_takes : (ls : List LayerState) (up : Option ℕ) (n : List ℕ) (item : ItemParts) → is_some up ≡ is_some (put_up ls up n item)
-put_up_takes ls None n item = refl
-put_up_takes ls (Some p) n item = refl
-
-pub made_takes : (ls : List LayerState) (up : Option ℕ) (n : List ℕ) (op : Op) → is_put op ≡ true → is_some up ≡ is_some (by_case ls None up n (after_none op))
-made_takes ls up n op is = let put = put_is op is in put_up_takes ls up n put.0 ∙ ap (λ o. is_some (by_case ls None up n (after_none o))) (sym put.1)
-
-pub none_takes : (ls : List LayerState) (up : Option ℕ) (n : List ℕ) (op : Op) → is_put op ≡ false → true ≡ is_some (by_case ls None up n (after_none op))
-none_takes ls up n op is = ap (λ made. is_some (by_case ls None up n made)) (makes_none op is)
-
-pub same_takes : (ls : List LayerState) (up : Option ℕ) (n : List ℕ) (made : After) → effect.Same ≡ effect_of made → true ≡ is_some (by_case ls None up n made)
-same_takes ls up n Same is = refl
-same_takes ls up n (Changed item) is = absurd (cc)
-same_takes ls up n Gone is = absurd (cc)
-
-pub changed_takes : (ls : List LayerState) (up : Option ℕ) (n : List ℕ) (made : After) → effect.Changed ≡ effect_of made → is_some up ≡ is_some (by_case ls None up n made)
-changed_takes ls up n Same is = absurd (cc)
-changed_takes ls up n (Changed item) is = put_up_takes ls up n item
-changed_takes ls up n Gone is = absurd (cc)
-
-pub gone_takes : (ls : List LayerState) (up : Option ℕ) (n : List ℕ) (made : After) → effect.Gone ≡ effect_of made → false ≡ is_some (by_case ls None up n made)
-gone_takes ls up n Same is = absurd (cc)
-gone_takes ls up n (Changed item) is = absurd (cc)
-gone_takes ls up n Gone is = refl
-
-pub none_changes : (ls : List LayerState) (ps n : List ℕ) (k : Option Kind) → None ≡ holder_of ls ps n → false ≡ can_change_of ls ps n k
-none_changes ls ps n k h = ap (λ o. is_some o && (is_some (open_holder ls ps n) || is_some (home ls ps n k))) h
-
-pub open_changes : (ls : List LayerState) (ps n : List ℕ) (k : Option Kind) (p : ℕ) → Some p ≡ holder_of ls ps n → is_writable_at ls p ≡ true → true ≡ can_change_of ls ps n k
-open_changes ls ps n k p h w = λ i. is_some (h i) && (is_some (held_open ls ps n p h w i) || is_some (home ls ps n k))
-
-pub closed_changes : (ls : List LayerState) (ps n : List ℕ) (k : Option Kind) (p : ℕ) → Some p ≡ holder_of ls ps n → is_writable_at ls p ≡ false → is_some (home ls ps n k) ≡ can_change_of ls ps n k
-closed_changes ls ps n k p h w = λ i. is_some (h i) && (is_some (held_closed ls ps n p h w i) || is_some (home ls ps n k))
-
--- ---- a write on the topmost place
+-- ---- a write to the topmost place
 
 pub top_written : (ls new : List LayerState) (ps n : List ℕ) (k : Option Kind) (op : Op) (d : ℕ) → 1 ≤ length ps → is_writable_at ls (get_or ps 0 d) ≡ true → has_at ls n (get_or ps 0 d) ≡ true
     → new ≡ change_at ls (get_or ps 0 d) (λ layer. with_made layer n (made_at layer n op)) → write_of ls ps n k op ≡ Some new

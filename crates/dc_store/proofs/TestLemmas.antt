@@ -20,7 +20,7 @@ use Rattle.dc_conf.specs.Plans.{places}
 use Rattle.dc_store.specs.Plans.{StoreState, stored, backup_op, tried, backed_up, told_line, write}
 use Rattle.dc_store.specs.Rows.{Write, AreApart, AreDistinct, all_places, is_refused}
 use Rattle.dc_store.specs.StoreLaws.{IsSameBut, AreSameBut, ChangesOne}
-use Rattle.dc_store.specs.Writes.{is_writable_at, takes_at, open_holder, home, by_case, write_of}
+use Rattle.dc_store.specs.Writes.{is_writable_at, takes_at, open_holder, home, landing, by_case, write_of}
 use Rattle.dc_store.proofs.Frames.{plan_keeps}
 use Rattle.dc_store.proofs.LawLemmas.{changes_one}
 use Rattle.dc_store.proofs.SeenLemmas.{change_apart}
@@ -33,7 +33,7 @@ pub record IsAlike (ls ms : List LayerState) (n : List ℕ) (k : Option Kind) (p
   pub takes : takes_at ms n k p ≡ takes_at ls n k p
 
 module _ (ls ms : List LayerState) (n : List ℕ) (k : Option Kind) where
-  holder_alike : (ps : List ℕ) → All (IsAlike ls ms n k) ps → holder_of ms ps n ≡ holder_of ls ps n
+  pub holder_alike : (ps : List ℕ) → All (IsAlike ls ms n k) ps → holder_of ms ps n ≡ holder_of ls ps n
   holder_alike [] all = refl
   holder_alike (p ∷ ps) all =
       ap (λ o. cond (is_some o) (Some p) (holder_of ms ps n)) (All-head (IsAlike ls ms n k) p ps all).item
@@ -70,6 +70,9 @@ module _ (ls ms : List LayerState) (n : List ℕ) (k : Option Kind) where
     by_holder : (o : Option ℕ) → holder_of ls ps n ≡ o → option_and_then (λ q. if is_writable_at ms q then Some q else None) o ≡ option_and_then (λ q. if is_writable_at ls q then Some q else None) o
     by_holder None e = refl
     by_holder (Some p) e = ap (λ b. if b then Some p else None) (find_within (has_at ls n) (IsAlike ls ms n k) ps p all e).writable
+
+  pub landing_alike : (ps : List ℕ) → All (IsAlike ls ms n k) ps → landing ms ps n k ≡ landing ls ps n k
+  landing_alike ps all = λ i. if is_some (holder_alike ps all i) then open_alike ps all i else home_alike ps all i
 
   taken_alike : (held up : Option ℕ) (made : After) → is_some (by_case ms held up n made) ≡ is_some (by_case ls held up n made)
   taken_alike held up Same = refl

@@ -1,4 +1,5 @@
 pub mod Holders
+pub mod Landings
 pub mod Listings
 pub mod Plans
 pub mod Rows

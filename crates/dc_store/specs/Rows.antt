@@ -9,6 +9,8 @@ use Rattle.dc_template.specs.declared.kinds.Kind.{Kind}
 use Rattle.dc_layer.specs.State.{LayerState}
 use Rattle.dc_conf.specs.Plans.{IsOver, places}
 use Rattle.dc_store.specs.Plans.{StoreState, write, would_take}
+use Rattle.dc_store.specs.declared.row.Behalf.{Behalf}
+use Rattle.dc_store.specs.declared.row.Behalf.TheVariants.{Itself, Names}
 
 -- a write: an operation on the item of a name, of which the kind may be known, in a plan; and the names of the items for which it is
 -- done, by which its refusal is told
@@ -19,13 +21,14 @@ pub record Write : Type 0 where
   pub op : Op
   pub behalf : List (List ℕ)
 
+-- the names for which the write of an item is done
+abbrev pub names_for : List ℕ → Behalf → List (List ℕ)
+names_for name Itself = name ∷ []
+names_for name (Names others) = others
+
 -- whether the write would be refused
 abbrev pub is_refused : List LayerState → Write → Bool
 is_refused layers w = not (would_take layers w.plan w.name w.kind w.op)
-
--- the first of the writes that would be refused, each on the layers as they are
-abbrev pub first_refused : List LayerState → List Write → Option Write
-first_refused layers row = find (is_refused layers) row
 
 -- the writes done in order, of which one that is refused changes nothing
 abbrev pub all_done : StoreState → List Write → StoreState

@@ -28,6 +28,11 @@ open_holder layers places name =
 abbrev pub home : List LayerState → List ℕ → List ℕ → Option Kind → Option ℕ
 home layers places name kind = find (takes_at layers name kind) (above layers places name)
 
+-- Where an item lands that is put and goes to a layer as it is: to the holder, if it is writable, and home where there is none. Where
+-- the holder isn't writable the item is compared with the holder's first.
+abbrev pub landing : List LayerState → List ℕ → List ℕ → Option Kind → Option ℕ
+landing layers places name kind = if is_some (holder_of layers places name) then open_holder layers places name else home layers places name kind
+
 -- the layers with the one at a place changed
 abbrev pub change_at : List LayerState → ℕ → (LayerState → LayerState) → List LayerState
 change_at [] place f = []

@@ -2,6 +2,7 @@
 ghost use Rattle.std.specs.Prelude.{◌≡◌, ◌<◌, Some, None, Ok, IfOk, OnOk, OnErr, length, slice_get, true, false, map as each};
 ghost use Rattle.std.specs.FinMap as map;
 ghost use Rattle.std.specs.Option.{option_copied};
+ghost use Rattle.dc_item.specs.declared.op.Op.TheVariants.{Put};
 ghost use Rattle.dc_layer.specs.State.{LayerState, is_writable, is_put, admits, with_made, made_at, refusal, owned};
 ghost use Rattle.dc_store.specs.Holders.{item_at as item_of, has_at as has_of};
 ghost use Rattle.dc_store.specs.Listings.{owned_at as owned_of};
@@ -56,6 +57,19 @@ fn change(layer: &mut Box<dyn Layer>, name: &Name, op: &Op) -> Mem<()>
     ensures err { OnErr result (state layer.new ≡ state layer.old) }
 {
     match layer.change(name, op) {
+        Ok(_taken) => Ok(()),
+        Err(LayerError::OutOfMemory) => Err(OutOfMemory),
+        Err(_) => unreachable!(),
+    }
+}
+
+// Puts an item to a layer that takes it.
+fn put(layer: &mut Box<dyn Layer>, name: Name, item: Item) -> Mem<()>
+    requires { refusal (state layer.old) name (Put item) ≡ None }
+    ensures ok { OnOk result (state layer.new ≡ with_made (state layer.old) name (made_at (state layer.old) name (Put item))) }
+    ensures err { OnErr result (state layer.new ≡ state layer.old) }
+{
+    match layer.put(name, item) {
         Ok(_taken) => Ok(()),
         Err(LayerError::OutOfMemory) => Err(OutOfMemory),
         Err(_) => unreachable!(),
@@ -142,6 +156,20 @@ pub fn change_in(layers: &mut [Box<dyn Layer>], place: usize, name: &Name, op: &
 {
     let layer = &mut layers[place];
     match change(layer, name, op) {
+        Ok(()) => Ok(()),
+        Err(error) => Err(error),
+    }
+}
+
+/// Puts an item to the layer at a place, which takes it.
+pub fn land_in(layers: &mut [Box<dyn Layer>], place: usize, name: Name, item: Item) -> Mem<()>
+    requires within { place < length layers.old }
+    requires taken { (layer : LayerState) → slice_get (each state layers.old) place ≡ Some layer → refusal layer name (Put item) ≡ None }
+    ensures ok { OnOk result (each state layers.new ≡ change_at (each state layers.old) place (λ layer. with_made layer name (made_at layer name (Put item)))) }
+    ensures err { OnErr result (each state layers.new ≡ each state layers.old) }
+{
+    let layer = &mut layers[place];
+    match put(layer, name, item) {
         Ok(()) => Ok(()),
         Err(error) => Err(error),
     }

@@ -6,6 +6,7 @@ pub mod bases;
 mod boxes;
 pub mod laws;
 mod listing;
+mod row;
 pub mod rows;
 mod search;
 pub mod store;
@@ -14,5 +15,5 @@ mod testing;
 mod writing;
 
 pub use bases::places;
-pub use rows::Write;
+pub use row::{Behalf, Row, Write};
 pub use store::{Store, StoreError};

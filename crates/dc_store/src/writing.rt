@@ -1,11 +1,11 @@
 // Writes to the layers of a base.
-ghost use Rattle.std.specs.Prelude.{◌≡◌, Some, None, Ok, Err, Option, OnOk, OnErr, is_some, length, true, false, map as each};
+ghost use Rattle.std.specs.Prelude.{◌≡◌, Some, None, Ok, Err, Option, IfOk, OnOk, OnErr, is_some, length, true, false, if◌then◌else◌, ◌<◌, map as each};
 ghost use Rattle.dc_conf.specs.Plans.{AreWithin};
 ghost use Rattle.dc_item.specs.After.{after_none};
 ghost use Rattle.dc_layer.specs.State.{is_put};
 ghost use Rattle.dc_store.specs.Holders.{holder_of, look_of};
 ghost use Rattle.dc_store.specs.StoreLaws.{AreSameBut};
-ghost use Rattle.dc_store.specs.Writes.{by_case, home, write_of};
+ghost use Rattle.dc_store.specs.Writes.{by_case, home, is_writable_at, landing, write_of};
 ghost use Rattle.dc_template.specs.declared.kinds.Kind.{Kind as KindOf};
 
 use crate::boxes::{change_in, is_open_at, try_change_in};
@@ -156,5 +156,32 @@ pub fn write_in(
     match write_once(layers, places, name, kind, op) {
         Ok(()) => Ok(()),
         Err(error) => Err(error),
+    }
+}
+
+// The place of the holder, if that is writable.
+fn open_place(layers: &[Box<dyn Layer>], place: usize) -> Option<usize>
+    requires { place < length layers.now }
+    ensures { result ≡ (if is_writable_at (each state layers.now) place then Some place else None) }
+{
+    match is_open_at(layers, place) {
+        true => Some(place),
+        false => None,
+    }
+}
+
+/// The place where an item that is put lands as it is.
+pub fn landing_in(
+    layers: &[Box<dyn Layer>],
+    places: &[usize],
+    name: &Name,
+    kind: Option<Kind>,
+) -> Mem<Option<usize>>
+    requires { AreWithin places.now (length layers.now) }
+    ensures { IfOk result (λ place. place ≡ landing (each state layers.now) places.now name.now kind) }
+{
+    match find_in(layers, places, name.bytes()) {
+        None => home_in(layers, places, name, kind, None),
+        Some((place, _)) => Ok(open_place(layers, place)),
     }
 }

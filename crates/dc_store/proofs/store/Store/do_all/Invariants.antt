@@ -1,7 +1,9 @@
-use Rattle.std.proofs.Common.{◌≡◌, false, map as each, drop, length}
-use Rattle.std.specs.List.{list_any}
+use Rattle.std.proofs.Common.{◌≡◌, false, List, ℕ, map as each, length}
+use Rattle.std.specs.List.{list_any, Contains}
+use Rattle.std.specs.Vec.Iter.{into_iter_items, into_iter_len}
+use Rattle.dc_store.specs.Landings.{AreLandings}
 use Rattle.dc_store.specs.Plans.{stored}
-use Rattle.dc_store.specs.Rows.{is_refused, all_done, names_of}
+use Rattle.dc_store.specs.Rows.{AreOver, AllDistinct, is_refused, all_done, names_of}
 use Rattle.dc_store.specs.StoreLaws.{AreSameButAll}
 use Rattle.dc_store.proofs.store.Store.do_all.Given as goal
 
@@ -10,8 +12,15 @@ invariant-loop-write g l =
     let now = each (λ b. (goal.Layer-dyn g (b.vtable, b.value)).state b.value) l.self.layers.items in
     let start = each (λ b. (goal.Layer-dyn g (b.vtable, b.value)).state b.value) l.fn.self.layers.items in
     record {
-      left : all_done (stored now l.self.told) (drop l.write-index l.row) ≡ all_done (stored start l.fn.self.told) l.row;
-      taken : list_any (is_refused now) (drop l.write-index l.row) ≡ false;
-      others : AreSameButAll (names_of l.row) start now;
+      over : AreOver (into_iter_items l.writes) (length l.self.layers.items);
+      distinct : AllDistinct (into_iter_items l.writes);
+      left : all_done (stored now l.self.told) (into_iter_items l.writes) ≡ all_done (stored start l.fn.self.told) l.fn.row.items;
+      taken : list_any (is_refused now) (into_iter_items l.writes) ≡ false;
+      landings : AreLandings now (into_iter_items l.writes) l.rest;
+      among : (name : List ℕ) → Contains (names_of (into_iter_items l.writes)) name → Contains (names_of l.fn.row.items) name;
+      others : AreSameButAll (names_of l.fn.row.items) start now;
       count : length l.self.layers.items ≡ length l.fn.self.layers.items;
     }
+
+abbrev pub decreases-loop-write : goal.decreases-loop-write
+decreases-loop-write g l = into_iter_len l.writes
