@@ -4,3 +4,4 @@ pub mod PlaceLemmas
 pub mod SortedEntries
 pub mod TableLemmas
 pub mod TouchedLemmas
+pub mod WriteLemmas

@@ -1,10 +1,9 @@
 -- The names that were touched, as their places among the keys of a table, or themselves.
-use Rattle.std.proofs.Common.{◌≡◌, ℕ, zero, suc, ◌+◌, ◌-◌, ◌<◌, ◌≤◌, ◌⊎◌, inl, inr, ⊎_elim, Bool, true, false, cond, ◌&&◌, ◌||◌, List, [], ◌∷◌, ◌++◌, length, take, map, get_or, nat_eq, nat_lt, refl, sym, ap, ◌∙◌, subst, arith, ltb-true, lt-ltb, slice_get, Some, None, length-append, add-one, take-suc}
-use Rattle.std.specs.List.{list_all, list_any, AllByRecursion, IsDistinct}
-use Rattle.std.specs.Map.{keys_of, lookup}
+use Rattle.std.proofs.Common.{◌≡◌, ℕ, zero, suc, ◌+◌, ◌-◌, ◌<◌, ◌≤◌, ◌⊎◌, inl, inr, ⊎_elim, Bool, true, false, cond, ◌&&◌, ◌||◌, not, List, [], ◌∷◌, ◌++◌, length, take, map, get_or, nat_eq, nat_lt, refl, sym, ap, ◌∙◌, arith, ltb-true, lt-ltb, slice_get, Some, length-append, add-one, take-suc}
+use Rattle.std.specs.List.{list_all, list_any, position_or_len, AllByRecursion, IsDistinct}
+use Rattle.std.specs.Map.{keys_of}
 use Rattle.std.specs.Option.{option_map}
 use Rattle.std.specs.Str.{bytes_eq}
-use Rattle.std.proofs.Math.Seq.{get_or-append_seam}
 use Rattle.std.proofs.lemmas.Bool.Decides.{Decides-eqb}
 use Rattle.std.proofs.lemmas.List.{map-append, get_or_append_left}
 use Rattle.std.proofs.lemmas.Map.Keys.{apart_from_distinct}
@@ -12,7 +11,6 @@ use Rattle.std.proofs.lemmas.Map.Entries.{length-keys_of}
 use Rattle.std.proofs.lemmas.Option.{get_or_from_slice_get, slice_get-map}
 use Rattle.std.proofs.lemmas.Slice.Eq.{bytes_eq-Decides}
 use Rattle.indexmap.specs.IndexMap.{insert_entry}
-use Rattle.indexmap.proofs.MapLemmas.{absent_from_lookup, insert_entry-absent}
 use Rattle.indexmap.proofs.SetLemmas.{keys_insert_entry}
 use Rattle.dc_text.specs.Bytes.{is_nil}
 use Rattle.dc_table.specs.Places.{put}
@@ -153,14 +151,6 @@ pub touched_more : (keys more : List (List ℕ)) (marks : Marks) → are_within 
 touched_more keys more (AtPlaces places) all = names_more keys more places all
 touched_more keys more (AsNames names) all = refl
 
--- a new key at the end, whose place is touched
-pub touched_last : (keys : List (List ℕ)) (marks : Marks) (name : List ℕ) → IsDistinct bytes_eq (keys ++ name ∷ []) → are_within (length keys) marks ≡ true
-    → touched_in (keys ++ name ∷ []) (with_mark marks (length keys) name) ≡ touch (touched_in keys marks) name
-touched_last keys marks name distinct all =
-    let long : length (keys ++ name ∷ []) ≡ length keys + 1 = length-append keys (name ∷ []) in
-    touched_mark (keys ++ name ∷ []) distinct marks (length keys) name (get_or-append_seam keys name [] []) (omega (arith, long)) (within_wider (length keys) (length (keys ++ name ∷ [])) marks (omega (arith, long)) all)
-    ∙ ap (λ names. touch names name) (touched_more keys (name ∷ []) marks all)
-
 -- an entry put at a key moves no other
 pub touched_inserted : {X : Type 0} (es fs : List (List ℕ × X)) (k : List ℕ) (v : X) (marks : Marks) → fs ≡ insert_entry bytes_eq es k v → are_within (length es) marks ≡ true
     → touched_in (keys_of fs) marks ≡ touched_in (keys_of es) marks
@@ -171,19 +161,34 @@ touched_inserted es fs k v marks is all =
       | false ↦ touched_more (keys_of es) (k ∷ []) marks (ap (λ n. are_within n marks) (length-keys_of es) ∙ all)
     ]
 
--- an entry of a new key goes last, where its place is touched
-pub touched_added : {X : Type 0} (es fs : List (List ℕ × X)) (k : List ℕ) (v : X) (marks more : Marks) (place : ℕ) → fs ≡ insert_entry bytes_eq es k v → lookup (bytes_eq k) es ≡ None
-    → IsDistinct bytes_eq (keys_of fs) → more ≡ with_mark marks place k → place ≡ length es → are_within (length es) marks ≡ true
+-- the key stands at the place, and there are no fewer entries than the bound
+abbrev Stands : {X : Type 0} → List (List ℕ × X) → List ℕ → ℕ → ℕ → Type 0
+Stands fs k place bound = (name_at (keys_of fs) place ≡ k) × (place < length fs) × (bound ≤ length fs)
+
+placed : {X : Type 0} (es : List (List ℕ × X)) (k : List ℕ) (v : X) → Stands (insert_entry bytes_eq es k v) k (position_or_len (bytes_eq k) (keys_of es)) (length es)
+placed [] k v = (refl, omega arith, omega arith)
+placed (e ∷ es) k v = by (bytes_eq k e.0) refl (placed es k v) where
+  by : (a : Bool) → bytes_eq k e.0 ≡ a → Stands (insert_entry bytes_eq es k v) k (position_or_len (bytes_eq k) (keys_of es)) (length es)
+      → Stands (cond a ((e.0, v) ∷ es) (e ∷ insert_entry bytes_eq es k v)) k (cond (not a) (1 + position_or_len (bytes_eq k) (keys_of es)) 0) (length (e ∷ es))
+  by true is rest = (sym ((bytes_eq-Decides k e.0).0 is), omega arith, omega arith)
+  by false is rest =
+      let next : 1 + position_or_len (bytes_eq k) (keys_of es) ≡ suc (position_or_len (bytes_eq k) (keys_of es)) = omega arith in
+      (ap (name_at (e.0 ∷ keys_of (insert_entry bytes_eq es k v))) next ∙ rest.0, omega (arith, rest.1), omega (arith, rest.2))
+
+-- an entry put at a key, whose place is touched
+pub touched_written : {X : Type 0} (es fs : List (List ℕ × X)) (k : List ℕ) (v : X) (marks more : Marks) (place : ℕ) → fs ≡ insert_entry bytes_eq es k v → place ≡ position_or_len (bytes_eq k) (keys_of es)
+    → IsDistinct bytes_eq (keys_of fs) → more ≡ with_mark marks place k → are_within (length es) marks ≡ true
     → (touched_in (keys_of fs) more ≡ touch (touched_in (keys_of es) marks) k) × (are_within (length fs) more ≡ true)
-touched_added es fs k v marks more place is none distinct marked at all =
-    let last : fs ≡ es ++ (k, v) ∷ [] = is ∙ insert_entry-absent bytes_eq k v es (absent_from_lookup (bytes_eq k) es none) in
-    let named : keys_of fs ≡ keys_of es ++ k ∷ [] = ap keys_of last ∙ map-append (λ e. e.0) es ((k, v) ∷ []) in
-    let within : are_within (length (keys_of es)) marks ≡ true = ap (λ n. are_within n marks) (length-keys_of es) ∙ all in
-    let marks_is : more ≡ with_mark marks (length (keys_of es)) k = marked ∙ ap (λ n. with_mark marks n k) (at ∙ sym (length-keys_of es)) in
-    let long : length fs ≡ length es + 1 = ap length last ∙ length-append es ((k, v) ∷ []) in (
-      (λ i. touched_in (named i) (marks_is i)) ∙ touched_last (keys_of es) marks k (subst (IsDistinct bytes_eq) named distinct) within,
-      ap (are_within (length fs)) marked
-          ∙ within_mark (length fs) marks place k (omega (arith, long, at)) (within_wider (length es) (length fs) marks (omega (arith, long)) all),
+touched_written es fs k v marks more place is at distinct marked all =
+    let stands = placed es k v in
+    let here : name_at (keys_of fs) place ≡ k = (λ i. name_at (keys_of (is i)) (at i)) ∙ stands.0 in
+    let long : length fs ≡ length (insert_entry bytes_eq es k v) = ap length is in
+    let within : place < length fs = omega (arith, at, long, stands.1) in
+    let wide : are_within (length fs) marks ≡ true = within_wider (length es) (length fs) marks (omega (arith, long, stands.2)) all in
+    let wide_keys : are_within (length (keys_of fs)) marks ≡ true = ap (λ n. are_within n marks) (length-keys_of fs) ∙ wide in (
+      ap (touched_in (keys_of fs)) marked ∙ touched_mark (keys_of fs) distinct marks place k here (omega (arith, within, length-keys_of fs)) wide_keys
+          ∙ ap (λ names. touch names k) (touched_inserted es fs k v marks is all),
+      ap (are_within (length fs)) marked ∙ within_mark (length fs) marks place k within wide,
     )
 
 -- ---- the last mark taken back

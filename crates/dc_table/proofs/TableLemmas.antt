@@ -21,7 +21,6 @@ use Rattle.indexmap.specs.IndexMap.{set_value_at}
 use Rattle.indexmap.proofs.MapLemmas.{insert_entry-first, Found-position}
 use Rattle.dc_item.specs.After.{after, after_at, asked, effect_of, drops_owners, parts_eq}
 use Rattle.dc_item.specs.declared.op.Op.{Op}
-use Rattle.dc_item.specs.declared.op.Op.TheVariants.{Put}
 use Rattle.dc_item.specs.declared.op.After.TheVariants as made
 use Rattle.dc_item.specs.declared.effect.Effect.TheVariants as effect
 use Rattle.dc_item.proofs.TextTableLemmas.{lookup-find, table-insert}
@@ -128,14 +127,6 @@ made_changed op o item is at = ap (after_at op) at ∙ was_changed op item (is �
 pub made_gone : (op : Op) (o : Option ItemParts) → effect.Gone ≡ effect_of (after_at op o) → is_some o ≡ true → after_at op o ≡ made.Gone
 made_gone op (Some item) is there = was_gone op item is
 made_gone op None is there = absurd (cc)
-
--- no item goes by an operation that puts one
-pub never_gone : (item : ItemParts) (o : Option ItemParts) → effect.Gone ≡ effect_of (after_at (Put item) o) → ⊥
-never_gone item None is = absurd (cc)
-never_gone item (Some parts) is = by (parts_eq item parts) is where
-  by : (a : Bool) → effect.Gone ≡ effect_of (cond a made.Same (made.Changed item)) → ⊥
-  by true e = absurd (cc)
-  by false e = absurd (cc)
 
 -- ---- what a table has at a name
 

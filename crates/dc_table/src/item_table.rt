@@ -20,6 +20,7 @@ use crate::touched::Touched;
 use dc_item::{Effect, Item, Op, Records, TableKey, print_record};
 use dc_text::{List, Mem, Name, NameRefused, OutOfMemory, Text};
 use indexmap::IndexMap;
+use indexmap::map::Entry;
 use std::alloc::Global;
 use std::marker::Model;
 
@@ -128,17 +129,23 @@ impl ItemTable {
         ensures ok { OnOk result (self.new ≡ with_made self.old name (after_at (Put item) (map.get self.old.items name))) }
         ensures err { OnErr result (self.new ≡ self.old) }
     {
-        match self.items.get_index_of(name.bytes()) {
-            None => {
-                self.put_new(name, item)?;
+        match self.items.entry(TableKey::of(name))? {
+            Entry::Vacant(entry) => {
+                if let Err(error) = self.touched.touch(entry.index(), entry.key().bytes()) {
+                    // It gives the map back, for the proof.
+                    let _ = entry.into_key();
+                    return Err(error);
+                }
+                entry.insert(item);
                 Ok(Effect::Changed)
             }
-            Some(place) => {
+            Entry::Occupied(entry) => {
                 let op = Op::Put(item);
-                match effect_at(&self.items, place, &op)? {
+                match op.effect(Some(entry.get()))? {
                     Effect::Same => Ok(Effect::Same),
                     Effect::Changed => {
-                        put_over(&mut self.items[place], &mut self.touched, place, &name, op)?;
+                        self.touched.touch(entry.index(), entry.key().bytes())?;
+                        put_over(entry.into_mut(), op);
                         Ok(Effect::Changed)
                     }
                     Effect::Gone => unreachable!(),
@@ -157,24 +164,10 @@ impl ItemTable {
     {
         match op {
             Op::Put(item) => {
-                self.put_new(name.copy()?, item.copy()?)?;
+                self.put(name.copy()?, item.copy()?)?;
                 Ok(Some(Effect::Changed))
             }
             _ => Ok(None),
-        }
-    }
-
-    // Puts the item at the new name, and touches the name.
-    fn put_new(&mut self, name: Name, item: Item) -> Mem<()>
-        requires { map.get self.old.items name ≡ None }
-        ensures ok { OnOk result (self.new ≡ with_made self.old name (Changed item)) }
-        ensures err { OnErr result (self.new ≡ self.old) }
-    {
-        self.items.reserve(1)?;
-        self.touched.touch(self.items.len(), &name)?;
-        match self.items.insert(TableKey::of(name), item) {
-            Ok(_) => Ok(()),
-            Err(_) => unreachable!(),
         }
     }
 
@@ -184,7 +177,7 @@ impl ItemTable {
         ensures err { OnErr result (self.new ≡ self.old) }
     {
         self.touched.keep_names(self.alloc, &self.items)?;
-        self.touched.touch(place, name)?;
+        self.touched.touch(place, name.bytes())?;
         let _ = self.items.swap_remove(name.bytes());
         Ok(())
     }
@@ -274,7 +267,7 @@ fn work_on(item: &mut Item, touched: &mut Touched, place: usize, name: &Name, op
     ensures touched { OnOk result (marks_of touched.new ≡ with_mark (marks_of touched.old) place name.now) }
     ensures untouched { OnErr result (marks_of touched.new ≡ marks_of touched.old) }
 {
-    let is_new = touched.touch(place, name)?;
+    let is_new = touched.touch(place, name.bytes())?;
     match item.apply(op) {
         Ok(()) => Ok(()),
         Err(error) => {
@@ -286,20 +279,14 @@ fn work_on(item: &mut Item, touched: &mut Touched, place: usize, name: &Name, op
     }
 }
 
-// Makes the item the one that the operation puts, without a copy, and touches its name, which has this place; or changes
-// nothing.
-fn put_over(item: &mut Item, touched: &mut Touched, place: usize, name: &Name, op: Op) -> Mem<()>
+// Makes the item the one that the operation puts, without a copy.
+fn put_over(item: &mut Item, op: Op)
     requires { is_put op ≡ true }
-    ensures ok { OnOk result (item.new ≡ asked op item.old) }
-    ensures err { OnErr result (item.new ≡ item.old) }
-    ensures touched { OnOk result (marks_of touched.new ≡ with_mark (marks_of touched.old) place name.now) }
-    ensures untouched { OnErr result (marks_of touched.new ≡ marks_of touched.old) }
+    ensures { item.new ≡ asked op item.old }
 {
-    touched.touch(place, name)?;
     if let Op::Put(new) = op {
         *item = new;
     }
-    Ok(())
 }
 
 // The name that the bytes are.

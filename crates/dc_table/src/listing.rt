@@ -1,6 +1,7 @@
 // The entries of a table, in order.
 ghost use Rattle.std.specs.Prelude.{◌≡◌, ◌<◌, IfOk, IfSome, length, map as each};
 ghost use Rattle.std.specs.Int.{to_be_bytes, w64};
+ghost use Rattle.std.specs.Slice.Scan.{big_endian};
 ghost use Rattle.std.specs.FinMap as map;
 ghost use Rattle.dc_text.specs.Maps.{text_cmp};
 
@@ -40,7 +41,7 @@ fn compare(one: &[u8], other: &[u8]) -> Ordering
         rest = behind;
         other_rest = other_behind;
     }
-    rest.cmp(other_rest)
+    order(rest, other_rest)
 }
 
 // What stands behind the first eight bytes of each, where these are the same.
@@ -57,9 +58,28 @@ fn behind_equal<'a>(one: &'a [u8], other: &'a [u8]) -> Option<(&'a [u8], &'a [u8
     }
 }
 
-// The bytes as one number, which no others make.
+// The byte order of the two, whose first eight bytes mostly differ.
+fn order(one: &[u8], other: &[u8]) -> Ordering
+    ensures { result ≡ text_cmp one.now other.now }
+{
+    let Some((front, _)) = one.split_first_chunk::<8>() else {
+        return one.cmp(other);
+    };
+    let Some((other_front, _)) = other.split_first_chunk::<8>() else {
+        return one.cmp(other);
+    };
+    let number = as_number(*front);
+    let other_number = as_number(*other_front);
+    if number == other_number {
+        return one.cmp(other);
+    }
+    number.cmp(&other_number)
+}
+
+// The bytes as one number, the first byte the greatest, which no others make.
 fn as_number(bytes: [u8; 8]) -> u64
-    ensures { to_be_bytes w64 result ≡ bytes }
+    ensures number { result ≡ big_endian 0 bytes }
+    ensures alone { to_be_bytes w64 result ≡ bytes }
 {
     u64::from_be_bytes(bytes)
 }

@@ -8,7 +8,7 @@ ghost use Rattle.dc_table.specs.Marks.{marks_of, touched_in, are_within, has_non
 ghost use Rattle.dc_table.specs.Tracked.{touch as touch_of};
 
 use dc_item::{Item, TableKey};
-use dc_text::{Mem, Name, Text};
+use dc_text::{Mem, Text};
 use indexmap::{IndexMap, IndexSet};
 use std::alloc::Global;
 use std::marker::Model;
@@ -128,7 +128,7 @@ impl Touched {
     }
 
     /// Touches the name, which has this place. It answers whether it wasn't touched before.
-    pub(crate) fn touch(&mut self, place: usize, name: &Name) -> Mem<bool>
+    pub(crate) fn touch(&mut self, place: usize, name: &[u8]) -> Mem<bool>
         ensures new { IfOk result (λ is_new. is_new ≡ not (has_mark (marks_of self.old) place name.now)) }
         ensures ok { OnOk result (marks_of self.new ≡ with_mark (marks_of self.old) place name.now) }
         ensures err { OnErr result (marks_of self.new ≡ marks_of self.old) }
@@ -190,15 +190,16 @@ impl Touched {
 }
 
 // Puts the name at the end, unless it is there. It answers whether it wasn't.
-fn put_name(names: &mut IndexSet<TableKey>, name: &Name) -> Mem<bool>
+fn put_name(names: &mut IndexSet<TableKey>, name: &[u8]) -> Mem<bool>
     ensures new { IfOk result (λ is_new. is_new ≡ not (list_any (bytes_eq name.now) names.old.keys)) }
     ensures ok { OnOk result (names.new.keys ≡ touch_of names.old.keys name.now) }
     ensures err { OnErr result (names.new.keys ≡ names.old.keys) }
 {
-    if names.contains(name.bytes()) {
+    if names.contains(name) {
         return Ok(false);
     }
-    Ok(names.insert(TableKey::of(name.copy()?))?)
+    let key = TableKey::new(Text::from_bytes(*names.allocator(), name)?);
+    Ok(names.insert(key)?)
 }
 
 fn drop_last(names: &mut IndexSet<TableKey>)

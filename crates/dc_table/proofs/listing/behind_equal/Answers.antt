@@ -10,5 +10,5 @@ returns-then-as_number-clause-order c =
     let other = c.args.other.now in
     let cut = c.in_ok-front.ensures.cases in
     let other_cut = c.in_ok-other_front.ensures.cases in
-    let fronts : take 8 one ≡ take 8 other = sym cut.0 ∙ sym c.as_number.ensures ∙ ap (to_be_bytes w64) c.if-as_number.true ∙ c.as_number-2.ensures ∙ other_cut.0 in
+    let fronts : take 8 one ≡ take 8 other = sym cut.0 ∙ sym c.as_number.ensures.alone ∙ ap (to_be_bytes w64) c.if-as_number.true ∙ c.as_number-2.ensures.alone ∙ other_cut.0 in
     (λ i. text_cmp (cut.1 i) (other_cut.1 i)) ∙ equal_fronts 8 one other fronts

@@ -12,8 +12,8 @@ pub invariant_of-self-2 : goal.invariant_of-self-2
 invariant_of-self-2 c =
     let es = c.self.inside.items.entries in
     let fs = c.swap_remove.new.self.entries in (
-      named_remove es fs c.bytes.result.now (table-remove c.bytes.result.now es fs c.swap_remove.ensures.updates.1 c.swap_remove.ensures.updates.2) c.self.invariant.0,
-      ap (are_within (index_map_len c.swap_remove.new.self)) (c.in_ok-touch.ensures.ok ∙ ap (λ m. with_mark m c.args.place c.args.name.now) c.in_ok-keep_names.ensures.ok),
+      named_remove es fs c.bytes-2.result.now (table-remove c.bytes-2.result.now es fs c.swap_remove.ensures.updates.1 c.swap_remove.ensures.updates.2) c.self.invariant.0,
+      ap (are_within (index_map_len c.swap_remove.new.self)) (c.in_ok-touch.ensures.ok ∙ (λ i. with_mark (c.in_ok-keep_names.ensures.ok i) c.args.place (c.bytes.ensures.value i))),
     )
 
 pub returns-clause-ok : goal.returns-clause-ok
@@ -21,8 +21,8 @@ returns-clause-ok c =
     let es = c.self.inside.items.entries in
     let fs = c.swap_remove.new.self.entries in
     let items : map.from_entries {R = text_cmp} fs ≡ map.remove c.args.self.now.items c.args.name.now
-    = table-remove c.bytes.result.now es fs c.swap_remove.ensures.updates.1 c.swap_remove.ensures.updates.2 ∙ (λ i. map.remove (c.self.view_is i).items (c.bytes.ensures.value i)) in
+    = table-remove c.bytes-2.result.now es fs c.swap_remove.ensures.updates.1 c.swap_remove.ensures.updates.2 ∙ (λ i. map.remove (c.self.view_is i).items (c.bytes-2.ensures.value i)) in
     let touched : touched_in (keys c.swap_remove.new.self) (marks_of c.touch.new.self) ≡ touch c.args.self.now.touched c.args.name.now
-    = ap (touched_in (keys c.swap_remove.new.self)) (c.in_ok-touch.ensures.ok ∙ ap (λ m. with_mark m c.args.place c.args.name.now) c.in_ok-keep_names.ensures.ok)
+    = ap (touched_in (keys c.swap_remove.new.self)) (c.in_ok-touch.ensures.ok ∙ (λ i. with_mark (c.in_ok-keep_names.ensures.ok i) c.args.place (c.bytes.ensures.value i)))
     ∙ ap (λ t. touch t.touched c.args.name.now) c.self.view_is in
     λ i. record { items = items i; touched = touched i }
