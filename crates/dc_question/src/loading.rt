@@ -143,7 +143,7 @@ fn loaded_item(builder: &mut ItemBuilder, template: &Template, old: Option<&Item
     ensures kind { IfOk result (λ item. kind_by (Some item) ≡ Some template.now.kind) }
     ensures left { OnOk result (builder.new ≡ no_parts) }
 {
-    put_fields(builder, template.fields().as_slice())?;
+    put_fields(builder, template.fields())?;
     keep_owners(builder, old)?;
     builder.put_owner(template.name().bytes())?;
     builder.take()

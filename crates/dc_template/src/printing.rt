@@ -32,7 +32,7 @@ fn print_template(alloc: Global, out: &mut Text, template: &Template) -> Mem<()>
     ensures printed { OnOk result (out.new ≡ out.old ++ text_of (template_lines template.now)) }
     ensures template { IsTemplate template.now }
 {
-    let listed = template.fields().as_slice();
+    let listed = template.fields();
     let fields = field_map(alloc, listed)?;
     out.append(b"Template: ")?;
     out.append(template.name().bytes())?;

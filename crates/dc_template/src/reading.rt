@@ -98,7 +98,7 @@ fn read_template(alloc: Global, name: &Name, kind: Kind, after: &[Line]) -> Mem<
     requires fit { AreFit (fields_in (until_blank (forms after.now))) }
     ensures { IfOk result (λ template. template ≡ stanza name.now kind (until_blank (forms after.now))) }
 {
-    let fields = in_order(alloc, read_fields(alloc, after)?)?;
+    let fields = in_order(read_fields(alloc, after)?)?;
     Ok(Template::new(name.copy()?, kind, fields))
 }
 
@@ -159,9 +159,9 @@ pub(crate) fn extended_key(alloc: Global, key: &FieldKey) -> Mem<Text>
 }
 
 // The fields in byte order of their keys, of which no two are the same.
-fn in_order(alloc: Global, fields: Vec<(FieldKey, Text)>) -> Mem<List<(FieldKey, Text)>>
+fn in_order(fields: Vec<(FieldKey, Text)>) -> Mem<Vec<(FieldKey, Text)>>
     requires { AreApart fields.items }
-    ensures { IfOk result (λ list. list ≡ map.entries (map.from_entries {R = text_cmp} fields.items)) }
+    ensures { IfOk result (λ sorted. sorted.items ≡ map.entries (map.from_entries {R = text_cmp} fields.items)) }
 {
     let mut fields = fields;
     fields.sort_by(
@@ -169,11 +169,7 @@ fn in_order(alloc: Global, fields: Vec<(FieldKey, Text)>) -> Mem<List<(FieldKey,
             ensures { result ≡ text_cmp one.now.0 other.now.0 }
         { one.0.bytes().cmp(other.0.bytes()) },
     )?;
-    let mut list = List::new(alloc);
-    for field in fields {
-        list.push(field)?;
-    }
-    Ok(list)
+    Ok(fields)
 }
 
 // The text of the indented lines that come first, if there are some.

@@ -1,8 +1,8 @@
 // A template of questions.
-ghost use Rattle.std.specs.Prelude.{◌≡◌, IfOk};
+ghost use Rattle.std.specs.Prelude.{◌≡◌};
 
 use crate::kinds::Kind;
-use dc_text::{FieldKey, List, Mem, Name, Text};
+use dc_text::{FieldKey, Name, Text};
 use std::marker::Model;
 
 /// A template, as a file brings it (debconf-devel(7)). Only `read_templates` makes one.
@@ -10,7 +10,7 @@ use std::marker::Model;
 pub struct Template {
     name: Name,
     kind: Kind,
-    fields: List<(FieldKey, Text)>,
+    fields: Vec<(FieldKey, Text)>,
 }
 
 impl Model for Template {
@@ -18,27 +18,29 @@ impl Model for Template {
 
     ghost Value = { Stanza };
 
-    ghost view = { λ t. record { name = t.name; kind = t.kind; fields = t.fields } };
+    ghost view = { λ t. record { name = t.name; kind = t.kind; fields = t.fields.items } };
 
-    ghost invariant = { λ t. IsTemplate (record { name = t.name; kind = t.kind; fields = t.fields }) };
+    ghost invariant = { λ t. IsTemplate (record { name = t.name; kind = t.kind; fields = t.fields.items }) };
 }
 
 impl Template {
     ghost use Rattle.dc_template.specs.Stanzas.{IsTemplate};
 
-    pub(crate) fn new(name: Name, kind: Kind, fields: List<(FieldKey, Text)>) -> Self
-        requires { IsTemplate (record { name = name; kind = kind; fields = fields }) }
-        ensures { result ≡ record { name = name; kind = kind; fields = fields } }
+    pub(crate) fn new(name: Name, kind: Kind, fields: Vec<(FieldKey, Text)>) -> Self
+        requires { IsTemplate (record { name = name; kind = kind; fields = fields.items }) }
+        ensures { result ≡ record { name = name; kind = kind; fields = fields.items } }
     {
         Template { name, kind, fields }
     }
 
+    /// The name, which is that of its question too where the file is loaded.
     pub fn name(&self) -> &Name
         ensures { result.now ≡ self.now.name }
     {
         &self.name
     }
 
+    /// The kind that its `type` names.
     pub fn kind(&self) -> Kind
         ensures { result ≡ self.now.kind }
     {
@@ -47,10 +49,10 @@ impl Template {
 
     /// The fields, `type` among them, in byte order of their keys. The values are as they stand in the file: they aren't
     /// settled.
-    pub fn fields(&self) -> &List<(FieldKey, Text)>
+    pub fn fields(&self) -> &[(FieldKey, Text)]
         ensures value { result.now ≡ self.now.fields }
         ensures template { IsTemplate self.now }
     {
-        &self.fields
+        self.fields.as_slice()
     }
 }
