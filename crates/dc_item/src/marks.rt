@@ -2,12 +2,16 @@
 ghost use Rattle.std.specs.Prelude.{◌≡◌};
 ghost use Rattle.dc_item.specs.Sections.{has_mark as has_mark_of, unmarked as unmarked_of};
 
+/// The mark of a field, whose key stands behind it.
 pub const FIELDS: u8 = 0;
 
+/// The mark of an owner, whose name stands behind it.
 pub const OWNERS: u8 = 1;
 
+/// The mark of a flag, whose name stands behind it.
 pub const FLAGS: u8 = 2;
 
+/// The mark of a variable, whose key stands behind it.
 pub const VARIABLES: u8 = 3;
 
 /// Whether the key begins with the mark.

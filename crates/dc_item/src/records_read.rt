@@ -55,6 +55,7 @@ impl Records {
         }
     }
 
+    /// How many records there are.
     pub fn len(&self) -> usize
         ensures { result ≡ length self.now }
     {

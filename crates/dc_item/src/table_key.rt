@@ -28,6 +28,7 @@ impl Model for TableKey {
 }
 
 impl TableKey {
+    /// The text as a key. Its bytes aren't copied.
     pub fn new(text: Text) -> Self
         ensures { result ≡ text }
     {
@@ -42,6 +43,7 @@ impl TableKey {
         TableKey::new(name.into_text())
     }
 
+    /// The bytes of the key, as they are compared.
     pub fn bytes(&self) -> &[u8]
         ensures { result.now ≡ self.now }
     {

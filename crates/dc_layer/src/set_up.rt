@@ -46,6 +46,7 @@ impl SetUp {
         }
     }
 
+    /// What the configuration says of the layer (debconf.conf(5)).
     pub fn spec(&self) -> &LayerSpec
         ensures { result.now ≡ self.now }
     {

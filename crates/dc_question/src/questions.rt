@@ -30,6 +30,7 @@ pub struct Questions<'q> {
 }
 
 impl<'q> Questions<'q> {
+    /// The questions of one plan of the store and the templates of another, read in the user's language.
     pub fn new(
         alloc: Global,
         store: &'q mut Store,

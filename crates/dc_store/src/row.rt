@@ -100,6 +100,7 @@ impl<'p> Row<'p> {
         Ok(())
     }
 
+    /// The writes, in order.
     pub fn as_slice(&self) -> &[Write<'p>]
         ensures { result.now ≡ self.now }
     {

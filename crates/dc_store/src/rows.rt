@@ -122,7 +122,7 @@ impl Store {
         Ok(!self.would_take(write.plan, &write.name, write.kind, &write.op)?)
     }
 
-    // Does all the writes in order, of which none is refused, and of which the first ones land there.
+    // Does all the writes in order. None of them is refused, and the first of them land where these landings tell.
     fn do_all(&mut self, row: Vec<Write<'_>>, landings: &[Landing]) -> Mem<()>
         requires over { AreOver row.items (length self.old.layers.items) }
         requires distinct { AllDistinct row.items }
