@@ -1,2 +1,3 @@
 pub mod FolderLemmas
+pub mod ReadingLemmas
 pub mod StreamLemmas

@@ -1,13 +1,12 @@
 // The files of the host. They tell nothing of what they hold.
-ghost use Rattle.std.specs.Prelude.{◌≡◌, ◌≤◌, ◌<◌, None, length, IfOk, IfSome, OnErr, OnOk};
+ghost use Rattle.std.specs.Prelude.{◌≡◌, ◌≤◌, [], None, length, IfOk, IfSome, OnErr, OnOk};
 ghost use Rattle.std.specs.FinMap as map;
 ghost use Rattle.dc_outside.specs.Counts.{Counted};
 ghost use Rattle.dc_host.specs.Folders.{IsKept, Keeps};
 
 use crate::host_counts::CallCounts;
 use crate::host_folders::{ChangedFolders, files_below, sync_folder_of};
-use crate::host_guard::Guard;
-use crate::host_io;
+use crate::host_guard::{Guard, Opened};
 use crate::host_paths::{failed, is_missing, path_of};
 use dc_outside::{Files, FilesError};
 use dc_text::{List, Mem, Text};
@@ -18,12 +17,6 @@ use std::rt::Files as SystemFiles;
 
 /// A file with more bytes than these isn't read.
 pub const MAX_FILE: usize = 67_108_864;
-
-// How many bytes are read at first. Most files have fewer.
-const FIRST_PIECE: usize = 2_048;
-
-// How many bytes are read at once after them. Larger pieces aren't read faster, and take longer to clear.
-const PIECE: usize = 8_192;
 
 /// The files of the host. Each error of a call is a fault but for a file that isn't there, and so are a file that is too
 /// large, what isn't a file in the place of one, a file that another program has locked, and a path or the name of a file
@@ -138,38 +131,31 @@ fn read_file<R: SystemFiles<File = File>>(
     ensures { IfOk result (λ found. IfSome found (λ bytes. length bytes ≤ MAX_FILE)) }
 {
     match guard.open(rt, path, path_of(path)?)? {
-        Some(mut file) => Ok(Some(read_all(alloc, &mut file)?)),
+        Some(Opened { file, size }) => Ok(Some(read_all(alloc, file, size)?)),
         None => Ok(None),
     }
 }
 
-// The bytes of the file, unless there are too many. Most files end within the first piece.
-fn read_all<F: Read>(alloc: Global, file: &mut F) -> Result<Text, FilesError>
+// The bytes of the file, unless there are too many. It is thought to have so many.
+fn read_all<F: Read + Drop>(alloc: Global, file: F, size: u64) -> Result<Text, FilesError>
     ensures small { IfOk result (λ bytes. length bytes ≤ MAX_FILE) }
-    ensures whole { IfOk result (λ bytes. IfSome (F.remaining file.old) (λ all. bytes ≡ all)) }
+    ensures whole { IfOk result (λ bytes. IfSome (F.remaining file) (λ all. bytes ≡ all)) }
 {
-    let mut bytes = Text::new(alloc);
-    let mut piece = make_piece(alloc, FIRST_PIECE)?;
-    for _ in 0..u64::MAX {
-        match host_io::read_some(file, piece.as_mut_slice()) {
-            Ok(count) if count == 0 => return Ok(bytes),
-            Ok(count) if count <= MAX_FILE.saturating_sub(bytes.bytes().len()) => {
-                bytes.append(&piece[..count])?;
-                if count == FIRST_PIECE {
-                    piece = make_piece(alloc, PIECE)?;
-                }
-            }
-            Ok(_) | Err(_) => return Err(FilesError::Failed),
-        }
+    let mut bytes = room_for(alloc, size)?;
+    let mut start = file.take(MAX_FILE as u64 + 1);
+    match start.read_to_end(&mut bytes) {
+        Ok(count) if count <= MAX_FILE => Ok(Text::from_vec(bytes)),
+        Ok(_) => Err(FilesError::Failed),
+        Err(error) => Err(failed(&error)),
     }
-    Err(FilesError::Failed)
 }
 
-// Room for the bytes of a piece.
-fn make_piece(alloc: Global, count: usize) -> Mem<Vec<u8>>
-    ensures { IfOk result (λ piece. length piece.items ≡ count) }
+// Room for the bytes of a file, and for one more, by which a read finds its end without other room.
+fn room_for(alloc: Global, size: u64) -> Mem<Vec<u8>>
+    ensures { IfOk result (λ room. room.items ≡ []) }
 {
-    Ok(vec![in alloc; 0u8; count]?)
+    let most = usize::try_from(size).unwrap_or(MAX_FILE).min(MAX_FILE);
+    Ok(Vec::with_capacity(alloc, most + 1)?)
 }
 
 fn list_files<R: SystemFiles<File = File> + Alloc + Clone + Drop>(

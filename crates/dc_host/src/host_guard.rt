@@ -42,6 +42,14 @@ struct Held {
     id: FileId,
 }
 
+/// A file that was opened to be read.
+#[derive(Drop)]
+pub struct Opened {
+    pub file: File,
+    /// How many bytes it had before.
+    pub size: u64,
+}
+
 /// A file that was written and hasn't taken another's place.
 #[derive(Drop)]
 struct Written {
@@ -137,19 +145,32 @@ impl Guard {
         rt: &R,
         path: &Text,
         name: &str,
-    ) -> Result<Option<File>, FilesError> {
-        match fs::metadata(rt, name) {
-            Ok(found) if !found.is_file() => Err(FilesError::Failed),
-            Ok(found)
-                if self.is_open_to_all(path)
-                    || self.is_below_locked(path)
-                    || self.holds(id_of(&found)) => to_read(rt, name),
-            Ok(_) => self.open_locked(rt, name),
+    ) -> Result<Option<Opened>, FilesError> {
+        let found = match fs::metadata(rt, name) {
+            Ok(found) => found,
             Err(error) if is_missing(&error) => {
                 self.missing.insert(path.copy()?, ())?;
-                Ok(None)
+                return Ok(None);
             }
-            Err(error) => Err(failed(&error)),
+            Err(error) => return Err(failed(&error)),
+        };
+        if !found.is_file() {
+            return Err(FilesError::Failed);
+        }
+        let needs_no_lock = self.is_open_to_all(path)
+            || self.is_below_locked(path)
+            || self.holds(id_of(&found));
+        let opened = if needs_no_lock {
+            to_read(rt, name)?
+        } else {
+            self.open_locked(rt, name)?
+        };
+        match opened {
+            Some(file) => Ok(Some(Opened {
+                file,
+                size: found.len(),
+            })),
+            None => Ok(None),
         }
     }
 
