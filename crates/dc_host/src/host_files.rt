@@ -187,8 +187,8 @@ fn write_file<R: SystemFiles<File = File> + Alloc>(
     ensures changed { Keeps changed.old changed.new }
 {
     let name = path_of(path)?;
-    changed.prepare(rt, name)?;
-    guard.write(rt, path, name, bytes, mode)
+    changed.mark(name)?;
+    guard.write(rt, changed, (path, name), bytes, mode)
 }
 
 // The folder is synced too, since the file may be new in it.

@@ -58,16 +58,6 @@ impl ChangedFolders {
         self.folders.insert(folder, ())
     }
 
-    /// Keeps the folder of the path, and makes it where it is missing.
-    #[tactic(auto, using(crate::proofs::FolderLemmas::is_kept_with, crate::proofs::FolderLemmas::keeps_with, crate::proofs::FolderLemmas::keeps_same, crate::proofs::FolderLemmas::keeps_on, crate::proofs::FolderLemmas::kept_on))]
-    pub fn prepare<R: SystemFiles>(&mut self, rt: &R, path: &str) -> Result<(), FilesError>
-        ensures kept { OnOk result (IsKept self.new path.now) }
-        ensures others { Keeps self.old self.new }
-    {
-        self.mark(path)?;
-        self.make_folder(rt, path)
-    }
-
     /// Keeps the folders of both paths.
     #[tactic(auto, using(crate::proofs::FolderLemmas::is_kept_with, crate::proofs::FolderLemmas::keeps_with, crate::proofs::FolderLemmas::keeps_same, crate::proofs::FolderLemmas::keeps_on, crate::proofs::FolderLemmas::kept_on))]
     pub fn mark_both(&mut self, path: &str, other: &str) -> Mem<()>
@@ -85,9 +75,6 @@ impl ChangedFolders {
         ensures { Keeps self.old self.new }
     {
         let folder = folder_of(path);
-        if Path::new(folder).is_dir(rt) {
-            return Ok(());
-        }
         for above in Path::new(folder).ancestors() {
             if above.as_str().is_empty() || above.is_dir(rt) {
                 break;

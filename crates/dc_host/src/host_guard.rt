@@ -1,13 +1,15 @@
 // What keeps two programs apart on one file: advisory locks, and a new file for each write.
 ghost use Rattle.std.specs.Prelude.{◌≡◌};
+ghost use Rattle.dc_host.specs.Folders.{Keeps};
 
+use crate::host_folders::ChangedFolders;
 use crate::host_limits::SizeLimit;
 use crate::host_paths::{failed, is_missing, path_of};
 use dc_outside::FilesError;
 use dc_text::{List, Text, TextMap};
 use std::alloc::Global;
 use std::fs::{File, Metadata, OpenFile, OpenOptions, Permissions, TryLockError};
-use std::io::Write;
+use std::io::{ErrorKind, Write};
 use std::os::unix::fs::{MetadataExt, OpenOptionsExt, PermissionsExt};
 use std::rt::Files as SystemFiles;
 use std::{fs, io};
@@ -213,32 +215,56 @@ impl Guard {
 
     /// Makes a new file at the path, of which the bytes are written and the mode is set, and locks it. What stood there is
     /// taken away first, so that no link to another file is followed. It is a fault if a folder stands there, or a file that
-    /// another program has locked, as it does with a file that it is writing.
+    /// another program has locked, as it does with a file that it is writing. It is one too if the system lets no file have so
+    /// many bytes, and then nothing is made or taken away.
     pub fn write<R: SystemFiles<File = File> + Alloc>(
         &mut self,
         rt: &R,
-        path: &Text,
-        name: &str,
+        changed: &mut ChangedFolders,
+        place: (&Text, &str),
         bytes: &[u8],
         mode: u16,
-    ) -> Result<(), FilesError> {
+    ) -> Result<(), FilesError>
+        ensures { Keeps changed.old changed.new }
+    {
+        let (path, name) = place;
         let kept = path.copy()?;
-        self.clear(rt, name)?;
         if !self.allows(rt, bytes.len()) {
             return Err(FilesError::Failed);
         }
-        let mut file = done(create(rt, name))?;
+        let mut file = self.make_file(rt, changed, name)?;
         lock(&file)?;
-        let id = id_of(&done(file.metadata())?);
-        if !stands_at(rt, name, id) {
+        let found = done(file.metadata())?;
+        // another program may have taken the file away before the lock
+        if found.nlink() == 0 {
             return Err(FilesError::Failed);
         }
         done(fill(&mut file, bytes, mode))?;
+        let id = id_of(&found);
         self.written = Some(Written {
             path: kept,
             held: Held { file, id },
         });
         Ok(())
+    }
+
+    // Makes a new file at the path. Most are made at once. Only where that fails is the folder made that is missing, or what
+    // stands at the path taken away, and then it is tried once more.
+    fn make_file<R: SystemFiles<File = File>>(
+        &self,
+        rt: &R,
+        changed: &mut ChangedFolders,
+        name: &str,
+    ) -> Result<File, FilesError>
+        ensures { Keeps changed.old changed.new }
+    {
+        match create(rt, name) {
+            Ok(file) => return Ok(file),
+            Err(error) if is_missing(&error) => changed.make_folder(rt, name)?,
+            Err(error) if error.kind() == ErrorKind::AlreadyExists => self.clear(rt, name)?,
+            Err(error) => return Err(failed(&error)),
+        }
+        done(create(rt, name))
     }
 
     // Whether the system lets a file have so many bytes.
