@@ -38,12 +38,14 @@ use Rattle.dc_run.specs.declared.settings.Settings.{Settings}
 use Rattle.dc_run.specs.declared.starting.Roots.{Roots}
 use Rattle.dc_run.specs.Ends.{tool_end_of, end_of_conf, end_of_pattern, end_of_load, end_unwaited, Both, Stays, MayRise, LinksCount, ProgramCounts}
 use Rattle.dc_run.specs.Finishing.{Finishes}
-use Rattle.dc_run.specs.Headline.{HasCommunicated, HasRunTool, Uses}
+use Rattle.dc_run.specs.Headline.{HasRunTool}
+use Rattle.dc_run.specs.Jobs.{HasCommunicated, Uses}
 use Rattle.dc_run.specs.Running.{IsNotStarted, IsStarted, end_unstarted, Awaits}
 use Rattle.dc_run.specs.Starting.{EndsBefore, begun}
 use Rattle.dc_run.specs.TemplateLoading.{EndsAt}
 use Rattle.dc_run.specs.World.{LinkState, Links, ChildState, Stock, World}
 use Rattle.dc_run.proofs.CrashLemmas.{state_left, broken_off}
+use Rattle.dc_run.proofs.RoundLemmas.{as_used}
 use Rattle.dc_run.proofs.RunLemmas.{ends_so}
 
 -- ---- ends before the tool
@@ -427,7 +429,8 @@ awaited_program false before mid now how ended status left none counts = rw none
 module _ (used : Tool) (settings : Settings) (old new : World) (outcome : Outcome) where
   pub links_counted : HasRunTool used settings old new outcome → LinksCount outcome.end old.links new.links
   links_counted (inl before) = subst (λ (l : Links). LinksCount outcome.end old.links l) (sym before.1.links_are) (before_links old.links settings.conf_path old.stock.files new.stock outcome.end before.0)
-  links_counted (inr run) =
+  links_counted (inr worked) =
+      let run = as_used used settings old new outcome worked in
       awaited_links old.links run.links new.links run.io_is run.answer.is_started run.how outcome.end run.answer.status run.status run.awaits
       (run_links run.layers new.stock.used run.files new.stock.files old.links run.links run.answer.ended run.how run.finishes
       (tool_links used run.mid run.roots settings old.links run.links run.answer run.told run.layers run.files run.uses))
@@ -435,7 +438,8 @@ module _ (used : Tool) (settings : Settings) (old new : World) (outcome : Outcom
   pub program_counted : HasRunTool used settings old new outcome → ProgramCounts outcome.end old.links.child.program.failures new.links.child.program.failures
   program_counted (inl before) = subst (λ (l : Links). ProgramCounts outcome.end old.links.child.program.failures l.child.program.failures) (sym before.1.links_are)
       (before_program old.links.child.program.failures settings.conf_path old.stock.files new.stock outcome.end before.0)
-  program_counted (inr run) =
+  program_counted (inr worked) =
+      let run = as_used used settings old new outcome worked in
       awaited_program run.answer.is_started old.links.child.program.failures run.links.child new.links.child run.how outcome.end run.answer.status run.status run.awaits
       (run_program run.layers new.stock.used run.files new.stock.files old.links.child.program.failures run.links.child.program.failures run.answer.ended run.how run.finishes
       (tool_program used (begun used run.mid run.roots settings old.links.io) old.links run.links run.answer run.told run.layers run.files run.uses))

@@ -66,7 +66,9 @@ use Rattle.dc_session.proofs.FrameLaws.{row_keeps, others_stay}
 use Rattle.dc_run.specs.Ends.{IsEnded, tool_end_of, end_unsaved, end_unwaited}
 use Rattle.dc_run.specs.Running.{Awaits}
 use Rattle.dc_run.specs.Finishing.{images_of, IsSaved, IsUnsaved, IsWithoutMemory, Finishes}
-use Rattle.dc_run.specs.Headline.{Uses, HasUsed, HasRunTool}
+use Rattle.dc_run.specs.Headline.{HasRunTool}
+use Rattle.dc_run.specs.Jobs.{Uses}
+use Rattle.dc_run.specs.OneRound.{HasUsed}
 use Rattle.dc_run.specs.Starting.{IsConfiguration, EndsBefore, begun, databases_of, roots}
 use Rattle.dc_run.specs.TemplateLoading.{FileTurn, IsFileTurn, IsFileCourse, state_after as file_state, EndsAt}
 use Rattle.dc_run.specs.World.{LinkState, ChildState, Links, Stock, World}
@@ -79,6 +81,7 @@ use Rattle.dc_run.specs.declared.outcome.ToolEnd.TheVariants as tool
 use Rattle.dc_run.specs.declared.settings.Settings.{Settings}
 use Rattle.dc_usage.specs.declared.tool.Tool.{Tool}
 use Rattle.dc_usage.specs.declared.tool.Tool.TheVariants.{Communicate, LoadTemplate, Run}
+use Rattle.dc_run.proofs.RoundLemmas.{as_used}
 use Rattle.dc_run.proofs.RunLemmas.{ends_so}
 use Rattle.dc_run.specs.Crashes.{KeepsDatabases}
 
@@ -119,7 +122,7 @@ goes_on : (P : Type 0) (first : Result Loaded LoadError) (result : Result (Unit 
 goes_on P (Ok loaded) result more last on at is = on is
 goes_on P (Err error) result more last on at is = at is.1
 
-all_read : (specs : List LayerSpec) (old new : List LayerState) (files files_new : Told) (before now : Counts) (result : Result (Unit {0}) LoadError) → LoadsAll specs old new files files_new before now result → files_new.disk ≡ files.disk
+pub all_read : (specs : List LayerSpec) (old new : List LayerState) (files files_new : Told) (before now : Counts) (result : Result (Unit {0}) LoadError) → LoadsAll specs old new files files_new before now result → files_new.disk ≡ files.disk
 all_read [] old new files files_new before now result is = ap (λ (t : Told). t.disk) is.2
 all_read (spec ∷ specs) [] new files files_new before now result is = absurd is
 all_read (spec ∷ specs) (layer ∷ old) [] files files_new before now result is = absurd is
@@ -388,7 +391,7 @@ served_keeps start old new terminal given layers files ended ended_is served =
           ∙ course_keeps start ran.turns ran.course;
     }
 
-tool_keeps : (used : Tool) (start : SessionState) (old new : Links) (given : ToolAnswer) (told : List ℕ) (layers : List LayerState) (files : FilesState) → Uses used start old new given told layers files → KeepsAll start given.ended layers files
+pub tool_keeps : (used : Tool) (start : SessionState) (old new : Links) (given : ToolAnswer) (told : List ℕ) (layers : List LayerState) (files : FilesState) → Uses used start old new given told layers files → KeepsAll start given.ended layers files
 tool_keeps (Communicate owner) start old new given told layers files uses = served_keeps start old.io new.io uses.0.terminal given layers files uses.0.ended uses.0.ended_is uses.0.served
 tool_keeps (LoadTemplate owner paths) start old new given told layers files uses =
     let loads = uses.loaded in
@@ -529,7 +532,9 @@ module _ (settings : Settings) (old new : World) (outcome : Outcome) (before aft
 
   tool_by : (used : Tool) → HasRunTool used settings old new outcome → KeepsDatabases settings.conf_path before after outcome.end
   tool_by used (inl ends) = nothing_done (before_reads settings.conf_path old.stock.files new.stock outcome.end ends.0)
-  tool_by used (inr run) = finished used run run.answer.ended (specs_left used run) run.finishes
+  tool_by used (inr worked) =
+      let run = as_used used settings old new outcome worked in
+      finished used run run.answer.ended (specs_left used run) run.finishes
 
 -- a run of a tool
 pub run_keeps : (used : Tool) (settings : Settings) (old new : World) (outcome : Outcome) (before after : Disk) → HasRunTool used settings old new outcome → old.stock.files.told.disk ≡ Some before

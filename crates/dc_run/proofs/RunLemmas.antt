@@ -22,14 +22,17 @@ use Rattle.dc_run.specs.declared.outcome.ToolAnswer.{ToolAnswer}
 use Rattle.dc_run.specs.declared.settings.Settings.{Settings}
 use Rattle.dc_run.specs.declared.starting.Roots.{Roots}
 use Rattle.dc_run.specs.EndLines.{end_line, HasSaidOn}
-use Rattle.dc_run.specs.Ends.{status_of, tool_end_of}
-use Rattle.dc_run.specs.Finishing.{Finishes}
-use Rattle.dc_run.specs.Headline.{HasCommunicated, HasRunTool, HasRunWords}
+use Rattle.dc_run.specs.Ends.{status_of, tool_end_of, comes_to_save}
+use Rattle.dc_run.specs.Headline.{HasRunTool, HasRunWords}
+use Rattle.dc_run.specs.Jobs.{HasCommunicated}
+use Rattle.dc_run.specs.Rounds.{Whole, RunState, Round, saves_of}
+use Rattle.dc_run.specs.Saves.{Save, Commits}
 use Rattle.dc_run.specs.Inside.{HasCommand, HasLoadedOver, HasServedProgram, HasUsedTool}
 use Rattle.dc_run.specs.Running.{HasRunProgram, Awaits}
 use Rattle.dc_run.specs.Starting.{EndsBefore, HasStarted, begun, chosen, chosen_frontend, chosen_priority, setting_of}
 use Rattle.dc_run.specs.World.{LinkState, ChildState, Links, Stock, World}
-use Rattle.dc_run.proofs.Saying.{said_then, none_said}
+use Rattle.dc_run.proofs.RoundLemmas.{most_none}
+use Rattle.dc_run.proofs.Saying.{none_said}
 
 -- ---- a session that was served
 
@@ -131,28 +134,48 @@ module _ (used : Tool) (settings : Settings) (old new : World) (outcome : Outcom
       subst (λ (o : Outcome). HasRunTool used settings old new o) (sym is) (inl (before, record { links_are = same; said = said; code_is = refl; status_is = refl }))
 
   pub ended_after : (mid : Stock) (roots : Roots) (links : Links) (answer : ToolAnswer) (layers : List LayerState) (files : FilesState) (err : LinkState) (saved : End) (status : ℕ) → HasStarted settings.conf_path old.stock.files mid roots
-      → HasUsedTool used mid roots settings old.links links old.err err answer layers files → Finishes layers new.stock.used answer.ended files new.stock.files saved → new.links.io ≡ links.io
-      → Awaits answer.is_started links.child new.links.child saved how answer.status status → HasSaidOn (end_line how) err new.err
+      → HasUsedTool used mid roots settings old.links links old.err err answer layers files → (last : List Save) × Commits (comes_to_save answer.ended) answer.ended (record { files = files; used = layers }) new.stock last saved
+      → new.links.io ≡ links.io → Awaits answer.is_started links.child new.links.child saved how answer.status status → HasSaidOn (end_line how) err new.err
       → outcome ≡ record { status = status_of how status; end = how; last_code = answer.last_code } → HasRunTool used settings old new outcome
-  ended_after mid roots links answer layers files err saved status started uses finishes io awaits said is = subst (λ (o : Outcome). HasRunTool used settings old new o) (sym is) (inr (record {
-    mid = mid;
-    roots = roots;
-    started = started;
-    answer = answer;
-    told = uses.0;
-    layers = layers;
-    files = files;
-    links = links;
-    uses = uses.1;
-    how = saved;
-    finishes = finishes;
-    io_is = io;
-    status = status;
-    awaits = awaits;
-    said = said_then uses.0 (end_line how) old.err.talk err.talk new.err.talk old.err.counts err.counts new.err.counts uses.2 said;
-    code_is = refl;
-    status_is = refl;
-  }))
+  ended_after mid roots links answer layers files err saved status started uses commits io awaits said is =
+      let left : RunState = record { world = record { stock = record { files = files; used = layers }; links = links; err = err }; code = answer.last_code } in
+      let after : RunState = record { world = record { stock = new.stock; links = new.links; err = err }; code = answer.last_code } in
+      let round : Round = record { job = Whole used; answer = answer; left = left; inner = []; last = commits.0; finish = saved; status = status; how = how; new = after } in
+      subst (λ (o : Outcome). HasRunTool used settings old new o) (sym is) (inr (record {
+        mid = record old { stock = mid };
+        roots = roots;
+        started = started;
+        mid_is = refl;
+        left = after;
+        status = status;
+        saves = saves_of (round ∷ []);
+        rounds = record {
+          rounds = round ∷ [];
+          rest = [];
+          jobs_are = refl;
+          are = (
+            record {
+              works = record { told = uses.0; uses = uses.1; said = uses.2; saves_are = refl; code_is = refl };
+              commits = commits.1;
+              awaits = awaits;
+              told = none_said err.talk err.counts;
+              io_is = io;
+              code_is = refl;
+            },
+            (λ broken. refl),
+            tt,
+          );
+          all = λ done. refl;
+          new_is = refl;
+          how_is = refl;
+          status_is = sym (most_none status);
+          saves_are = refl;
+        };
+        said = said;
+        rest_is = refl;
+        code_is = refl;
+        status_is = refl;
+      }))
 
 -- ---- the words
 

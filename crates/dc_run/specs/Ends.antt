@@ -1,5 +1,5 @@
 -- The ends of a run, their statuses and the counts that go with them.
-use Rattle.std.specs.Prelude.{◌≡◌, ◌⊎◌, ℕ, Result, Ok, Err}
+use Rattle.std.specs.Prelude.{◌≡◌, ◌⊎◌, ℕ, Bool, true, false, Result, Ok, Err}
 use Rattle.dc_outside.specs.Counts.{Rose, FaultRose, RefusalRose}
 use Rattle.dc_outside.specs.Told.{Counts}
 use Rattle.dc_conf.specs.declared.faults.ConfError.{ConfError}
@@ -87,6 +87,16 @@ end_unsaved ended save.OutOfMemory = end.OutOfMemory
 abbrev pub end_by : ToolEnd → Result (Unit {0}) SaveError → End
 end_by ended (Ok done) = end_of ended
 end_by ended (Err error) = end_unsaved ended error
+
+-- whether the layers are saved after a tool that ended so
+abbrev pub comes_to_save : ToolEnd → Bool
+comes_to_save tool.Done = true
+comes_to_save tool.LinkFault = true
+comes_to_save tool.TooLong = true
+comes_to_save tool.TermFault = false
+comes_to_save tool.ChildFault = false
+comes_to_save tool.OutOfMemory = false
+comes_to_save (tool.FilesFault path) = false
 
 -- the ends of a tool after which the layers are saved
 abbrev pub IsEnded : ToolEnd → Type 0

@@ -19,7 +19,7 @@ use Rattle.dc_usage.specs.declared.tool.Tool.{Tool}
 use Rattle.dc_usage.specs.declared.tool.Tool.TheVariants.{Run}
 use Rattle.dc_run.specs.EndLines.{HasSaidOn}
 use Rattle.dc_run.specs.Ends.{tool_end_of}
-use Rattle.dc_run.specs.Headline.{Uses}
+use Rattle.dc_run.specs.Jobs.{Uses}
 use Rattle.dc_run.specs.Starting.{begun}
 use Rattle.dc_run.specs.TemplateLoading.{FileTurn, IsFileTurn, refusal_of, EndsAt, HasLoadedFiles}
 use Rattle.dc_run.specs.World.{LinkState, Links, Stock}

@@ -1,10 +1,12 @@
 // What a run does when its tool has ended.
-ghost use Rattle.std.specs.Prelude.{◌≡◌, map as each, MatchResult};
+ghost use Rattle.std.specs.Prelude.{◌≡◌, List, map as each, MatchResult};
 ghost use Rattle.dc_save.specs.Saving.{Saves, SaveCounts};
 ghost use Rattle.dc_layer.specs.State.{saved};
-ghost use Rattle.dc_run.specs.Finishing.{Finishes, images_of};
+ghost use Rattle.dc_run.specs.Ends.{comes_to_save as comes_to_save_at};
+ghost use Rattle.dc_run.specs.Finishing.{images_of};
+ghost use Rattle.dc_run.specs.Saves.{Save, Commits};
 
-use crate::outcome::{End, ToolEnd, end_at_save};
+use crate::outcome::{End, ToolEnd, comes_to_save, end_at_save, end_of};
 use dc_layer::Layer;
 use dc_outside::Files;
 use dc_save::{SaveError, save_images};
@@ -19,7 +21,7 @@ pub fn finish_used<F: Files>(
     files: &mut F,
     used: &mut Vec<Box<dyn Layer>>,
 ) -> End
-    ensures { Finishes (each state used.old.items) (each state used.new.items) ended (record { told = F.told files.old; counts = F.counts files.old }) (record { told = F.told files.new; counts = F.counts files.new }) result }
+    ensures { (last : List Save) × Commits (comes_to_save_at ended) ended (record { files = record { told = F.told files.old; counts = F.counts files.old }; used = each state used.old.items }) (record { files = record { told = F.told files.new; counts = F.counts files.new }; used = each state used.new.items }) last result }
 {
     finish(alloc, ended, files, used.as_mut_slice())
 }
@@ -30,18 +32,13 @@ fn finish<F: Files>(
     files: &mut F,
     layers: &mut [Box<dyn Layer>],
 ) -> End
-    ensures { Finishes (each state layers.old) (each state layers.new) ended (record { told = F.told files.old; counts = F.counts files.old }) (record { told = F.told files.new; counts = F.counts files.new }) result }
+    ensures { (last : List Save) × Commits (comes_to_save_at ended) ended (record { files = record { told = F.told files.old; counts = F.counts files.old }; used = each state layers.old }) (record { files = record { told = F.told files.new; counts = F.counts files.new }; used = each state layers.new }) last result }
 {
-    match ended {
-        ToolEnd::OutOfMemory => End::OutOfMemory,
-        ToolEnd::TermFault => End::TermFault,
-        ToolEnd::ChildFault => End::ChildFault,
-        ToolEnd::FilesFault { path } => End::FilesFault { path },
-        ToolEnd::Done | ToolEnd::LinkFault | ToolEnd::TooLong => {
-            let saved = save_all(alloc, files, layers);
-            end_at_save(ended, saved)
-        }
+    if !comes_to_save(&ended) {
+        return end_of(ended);
     }
+    let saved = save_all(alloc, files, layers);
+    end_at_save(ended, saved)
 }
 
 // Saves the images of all layers, which are made before the first call of the files, and then marks each layer as saved.

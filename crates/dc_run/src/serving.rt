@@ -2,7 +2,7 @@
 ghost use Rattle.std.specs.Prelude.{◌≡◌, ◌<◌, List, ℕ, [], length, map as each, true};
 ghost use Rattle.dc_conf.specs.Plans.{IsOver, are_disjoint};
 ghost use Rattle.dc_outside.specs.Programs.{Unstarted, IsRunning};
-ghost use Rattle.dc_run.specs.Headline.{HasCommunicated};
+ghost use Rattle.dc_run.specs.Jobs.{HasCommunicated};
 ghost use Rattle.dc_run.specs.Inside.{HasServedProgram};
 ghost use Rattle.dc_run.specs.Running.{HasRunProgram, end_unstarted as end_unstarted_of};
 ghost use Rattle.dc_run.specs.Starting.{begun, setting_of};

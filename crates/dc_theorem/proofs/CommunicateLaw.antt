@@ -7,7 +7,7 @@ use Rattle.dc_session.specs.Asking.{finished}
 use Rattle.dc_session.specs.Machine.{Heeds, Breaks}
 use Rattle.dc_session.specs.SessionState.{FilesState, LinkState, SessionState}
 use Rattle.dc_run.specs.Ends.{status_of}
-use Rattle.dc_run.specs.Headline.{HasUsed}
+use Rattle.dc_run.specs.OneRound.{HasUsed}
 use Rattle.dc_run.specs.Starting.{begun}
 use Rattle.dc_run.specs.World.{World}
 use Rattle.dc_run.specs.declared.outcome.Outcome.{Outcome}

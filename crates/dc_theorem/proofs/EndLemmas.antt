@@ -20,7 +20,9 @@ use Rattle.dc_session.specs.declared.stepped.StepError.{StepError}
 use Rattle.dc_session.specs.declared.stepped.StepError.TheVariants as step
 use Rattle.dc_run.specs.Ends.{end_of_conf, end_of_pattern, end_of_load, tool_end_of, end_unwaited}
 use Rattle.dc_run.specs.Finishing.{images_of, IsSaved, Finishes}
-use Rattle.dc_run.specs.Headline.{HasUsed, HasRunTool, HasRunWords}
+use Rattle.dc_run.specs.Headline.{HasRunTool, HasRunWords}
+use Rattle.dc_run.specs.OneRound.{HasUsed}
+use Rattle.dc_run.proofs.RoundLemmas.{as_used}
 use Rattle.dc_run.specs.Running.{Awaits, end_unstarted}
 use Rattle.dc_run.specs.Starting.{EndsBefore}
 use Rattle.dc_run.specs.World.{ChildState, Stock, World}
@@ -77,7 +79,7 @@ used_tool : (words : List (List ℕ)) (settings : Settings) (old new : World) (o
 used_tool words settings old new outcome used done named (inl refused) = absurd (no_usage refused.word (sym refused.end_is ∙ done))
 used_tool words settings old new outcome used done named (inr ran) = elim (subst (λ (t : Tool). HasRunTool t settings old new outcome) (one_tool words ran.0 used ran.1 named) ran.2) [
   | inl before ↦ absurd (not_before settings.conf_path old.stock.files new.stock outcome.end done before.0)
-  | inr has ↦ has
+  | inr worked ↦ as_used used settings old new outcome worked
 ]
 
 pub was_used : (words : List (List ℕ)) (settings : Settings) (disk : Disk) (calls : List FilesCall) (old new : World) (outcome : Outcome) (used : Tool) → Names words used → IsClean words settings disk calls old new outcome → HasUsed used settings old new outcome

@@ -3,7 +3,7 @@ use Rattle.std.proofs.Common.{◌≡◌, ℕ, List, ◌++◌, ap, sym, subst, �
 use Rattle.std.specs.Prelude.{◌≤◌}
 use Rattle.dc_session.specs.SessionState.{FilesState, SessionState}
 use Rattle.dc_run.specs.Ends.{status_of}
-use Rattle.dc_run.specs.Headline.{HasUsed}
+use Rattle.dc_run.specs.OneRound.{HasUsed}
 use Rattle.dc_run.specs.Starting.{begun}
 use Rattle.dc_run.specs.TemplateLoading.{FileTurn, IsFileCourse, paths_of, state_after, lines_of, load_status, HasLoadedFiles}
 use Rattle.dc_run.specs.World.{World}

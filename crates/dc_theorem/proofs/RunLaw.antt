@@ -9,7 +9,7 @@ use Rattle.dc_session.specs.Alike.{AreAlike}
 use Rattle.dc_session.specs.Asking.{finished}
 use Rattle.dc_session.specs.Machine.{Heeds, Breaks}
 use Rattle.dc_session.specs.SessionState.{FilesState, LinkState, SessionState, nothing_typed}
-use Rattle.dc_run.specs.Headline.{HasUsed}
+use Rattle.dc_run.specs.OneRound.{HasUsed}
 use Rattle.dc_run.specs.Running.{IsStarted}
 use Rattle.dc_run.specs.Starting.{begun}
 use Rattle.dc_run.specs.World.{World}

@@ -9,7 +9,7 @@ use Rattle.dc_outside.specs.declared.files.FilesCall.{FilesCall}
 use Rattle.dc_session.proofs.Determined.{IsTold}
 use Rattle.dc_run.specs.EndLines.{end_line, HasSaidOn}
 use Rattle.dc_run.specs.Finishing.{images_of}
-use Rattle.dc_run.specs.Headline.{HasUsed}
+use Rattle.dc_run.specs.OneRound.{HasUsed}
 use Rattle.dc_run.specs.World.{World}
 use Rattle.dc_run.specs.declared.outcome.End.TheVariants as end
 use Rattle.dc_run.specs.declared.outcome.Outcome.{Outcome}

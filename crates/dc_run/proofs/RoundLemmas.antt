@@ -1,0 +1,162 @@
+-- A run of one job is one round, and what is said of it at once.
+use Rattle.std.proofs.Common.{◌≡◌, ℕ, Bool, true, false, List, [], ◌∷◌, ◌++◌, refl, sym, ap, subst, ◌∙◌, max, arith, map as each}
+use Rattle.std.specs.Prelude.{Result, Ok, Err, MatchResult}
+use Rattle.std.proofs.lemmas.List.{append-nil}
+use Rattle.dc_layer.specs.State.{LayerState, saved}
+use Rattle.dc_save.specs.Saving.{Saves, SaveCounts}
+use Rattle.dc_save.specs.declared.saving.SaveError.{SaveError}
+use Rattle.dc_session.specs.SessionState.{FilesState}
+use Rattle.dc_run.specs.declared.outcome.End.{End}
+use Rattle.dc_run.specs.declared.outcome.End.TheVariants.{Done}
+use Rattle.dc_run.specs.declared.outcome.Outcome.{Outcome}
+use Rattle.dc_run.specs.declared.outcome.ToolAnswer.{ToolAnswer}
+use Rattle.dc_run.specs.declared.outcome.ToolEnd.{ToolEnd}
+use Rattle.dc_run.specs.declared.outcome.ToolEnd.TheVariants as tool
+use Rattle.dc_run.specs.declared.settings.Settings.{Settings}
+use Rattle.dc_run.specs.declared.starting.Roots.{Roots}
+use Rattle.dc_usage.specs.declared.tool.Tool.{Tool}
+use Rattle.dc_run.specs.EndLines.{end_line, HasSaidOn}
+use Rattle.dc_run.specs.Ends.{status_of, end_by, comes_to_save}
+use Rattle.dc_run.specs.Finishing.{Finishes}
+use Rattle.dc_run.specs.Headline.{HasWorked}
+use Rattle.dc_run.specs.OneRound.{HasUsed}
+use Rattle.dc_run.specs.Rounds.{Job, Whole, RunState, Round, HasDone, Works, IsRound, AreRounds, HaveRounds, is_saved_at, report, status_by, jobs_done, state_after, end_after, status_in, saves_of}
+use Rattle.dc_run.specs.Running.{Awaits}
+use Rattle.dc_run.specs.Saves.{Save, HasSaved, HasNotSaved, Commits, kept_by}
+use Rattle.dc_run.specs.Starting.{HasStarted}
+use Rattle.dc_run.specs.World.{Stock, World}
+use Rattle.dc_run.proofs.FinishLemmas.{finished}
+use Rattle.dc_run.proofs.Saying.{said_then}
+
+pub most_none : (n : ℕ) → max n 0 ≡ n
+most_none n = omega arith
+
+-- ---- the save
+
+pub committed : (saves : Bool) (ended : ToolEnd) (how : End) (left new : Stock) (given : Result (Unit {0}) SaveError) → saves ≡ true → Saves (Rattle.dc_run.specs.Finishing.images_of left.used) left.files.told new.files.told given
+    → SaveCounts left.files.told new.files.told given left.files.counts new.files.counts → MatchResult given (λ _. new.used ≡ each saved left.used) (λ _. new.used ≡ left.used) → how ≡ end_by ended given
+    → (last : List Save) × Commits saves ended left new last how
+committed false ended how left new given is saves counts marked end_is = absurd (cc)
+committed true ended how left new given is saves counts marked end_is = (
+  (record { layers = left.used; before = left.files; after = new.files; answer = given }) ∷ [],
+  record { answer = given; saves_are = refl; is = record { saves = saves; counts = counts }; used_is = kept given marked; end_is = end_is },
+) where
+  kept : (answer : Result (Unit {0}) SaveError) → MatchResult answer (λ _. new.used ≡ each saved left.used) (λ _. new.used ≡ left.used) → new.used ≡ kept_by answer left.used
+  kept (Ok done) is = is
+  kept (Err error) is = is
+
+-- what is said of the save by how the tool ended
+marked : (left new : Stock) (given : Result (Unit {0}) SaveError) → new.used ≡ kept_by given left.used → MatchResult given (λ _. new.used ≡ each saved left.used) (λ _. new.used ≡ left.used)
+marked left new (Ok done) is = is
+marked left new (Err error) is = is
+
+module _ (left new : Stock) (last : List Save) (how : End) where
+  by_save : (ended : ToolEnd) → Rattle.dc_run.specs.Ends.IsEnded ended → HasSaved ended left new last how → Finishes left.used new.used ended left.files new.files how
+  by_save ended at has = subst (λ (h : End). Finishes left.used new.used ended left.files new.files h) (sym has.end_is)
+      (finished left.used new.used left.files new.files ended at has.answer has.is.saves has.is.counts (marked left new has.answer has.used_is))
+
+  pub finishes : (ended : ToolEnd) → Commits (comes_to_save ended) ended left new last how → Finishes left.used new.used ended left.files new.files how
+  finishes tool.Done has = by_save tool.Done tt has
+  finishes tool.LinkFault has = by_save tool.LinkFault tt has
+  finishes tool.TooLong has = by_save tool.TooLong tt has
+  finishes tool.TermFault has = record { end_is = has.end_is; files_are = ap (λ (s : Stock). s.files) has.stays; used_are = ap (λ (s : Stock). s.used) has.stays }
+  finishes tool.ChildFault has = record { end_is = has.end_is; files_are = ap (λ (s : Stock). s.files) has.stays; used_are = ap (λ (s : Stock). s.used) has.stays }
+  finishes tool.OutOfMemory has = record { end_is = has.end_is; files_are = ap (λ (s : Stock). s.files) has.stays; used_are = ap (λ (s : Stock). s.used) has.stays }
+  finishes (tool.FilesFault path) has = record { end_is = has.end_is; files_are = ap (λ (s : Stock). s.files) has.stays; used_are = ap (λ (s : Stock). s.used) has.stays }
+
+-- ---- one job has one round
+
+pub record IsOneRound (roots : Roots) (settings : Settings) (job : Job) (old new : RunState) (how : End) (status : ℕ) (saves : List Save) : Type 0 where
+  pub round : Round
+  pub job_is : round.job ≡ job
+  pub is : IsRound roots settings old round
+  pub new_is : new ≡ round.new
+  pub how_is : how ≡ round.how
+  pub status_is : status ≡ status_by job round.status
+  pub saves_are : saves ≡ round.inner ++ round.last
+
+no_job : (job : Job) (jobs : List Job) → job ∷ jobs ≡ [] → ⊥
+no_job job jobs e = absurd (cc)
+
+two_jobs : (job one other : Job) (jobs : List Job) → job ∷ [] ≡ one ∷ other ∷ jobs → ⊥
+two_jobs job one other jobs e = absurd (cc)
+
+same_job : (job one : Job) (jobs : List Job) → job ∷ [] ≡ one ∷ jobs → one ≡ job
+same_job job one jobs e = cc
+
+module _ (roots : Roots) (settings : Settings) (job : Job) (old new : RunState) (how : End) (status : ℕ) (saves : List Save) (rest : List Job) where
+  by_rounds : (rounds : List Round) → job ∷ [] ≡ jobs_done rounds ++ rest → AreRounds roots settings old rounds → (how ≡ Done → rest ≡ []) → new ≡ state_after old rounds → how ≡ end_after Done rounds → status ≡ status_in rounds
+      → saves ≡ saves_of rounds → IsOneRound roots settings job old new how status saves
+  by_rounds [] jobs are all new_is how_is status_is saves_are = absurd (no_job job [] (jobs ∙ all how_is))
+  by_rounds (round ∷ []) jobs are all new_is how_is status_is saves_are = record {
+    round = round;
+    job_is = same_job job round.job rest jobs;
+    is = are.0;
+    new_is = new_is;
+    how_is = how_is;
+    status_is = status_is ∙ most_none (status_by round.job round.status) ∙ ap (λ (j : Job). status_by j round.status) (same_job job round.job rest jobs);
+    saves_are = saves_are ∙ append-nil (round.inner ++ round.last);
+  }
+  by_rounds (round ∷ other ∷ rounds) jobs are all new_is how_is status_is saves_are = absurd (two_jobs job round.job other.job (jobs_done rounds ++ rest) jobs)
+
+pub one_round : (roots : Roots) (settings : Settings) (job : Job) (old new : RunState) (how : End) (status : ℕ) (saves : List Save) → HaveRounds roots settings (job ∷ []) old new how status saves
+    → IsOneRound roots settings job old new how status saves
+one_round roots settings job old new how status saves have =
+    by_rounds roots settings job old new how status saves have.rest have.rounds have.jobs_are have.are have.all have.new_is have.how_is have.status_is have.saves_are
+
+-- ---- what is said of it at once
+
+module _ (used : Tool) (settings : Settings) (roots : Roots) (old : World) (mid : Stock) (job : Job) (given : ToolAnswer) (left : RunState) (inner last : List Save) (finish : End) (status : ℕ) (how : End) (after : RunState) (job_is : job ≡ Whole used) where
+  abbrev start : RunState
+  start = record { world = record old { stock = mid }; code = 0 }
+
+  abbrev this : Round
+  this = record { job = job; answer = given; left = left; inner = inner; last = last; finish = finish; status = status; how = how; new = after }
+
+  module _ (is : IsRound roots settings start this) where
+    works : HasDone used roots settings start left given inner
+    works = subst (λ (j : Job). Works j roots settings start left given inner) job_is is.works
+
+    commits : Commits (comes_to_save given.ended) given.ended left.world.stock after.world.stock last finish
+    commits = subst (λ (j : Job). Commits (is_saved_at j given.ended) given.ended left.world.stock after.world.stock last finish) job_is is.commits
+
+    told : HasSaidOn [] left.world.err after.world.err
+    told = subst (λ (j : Job). HasSaidOn (report j how status) left.world.err after.world.err) job_is is.told
+
+    pub used_once : (outcome : Outcome) (new : World) → HasStarted settings.conf_path old.stock.files mid roots → outcome.end ≡ how → HasSaidOn (end_line outcome.end) after.world.err new.err → new ≡ record after.world { err = new.err }
+        → outcome.last_code ≡ after.code → outcome.status ≡ status_of outcome.end status → HasUsed used settings old new outcome
+    used_once outcome new started end_is said rest code_is status_is =
+        let behind = said_then [] (end_line outcome.end) left.world.err.talk after.world.err.talk new.err.talk left.world.err.counts after.world.err.counts new.err.counts told said in
+        record {
+          mid = mid;
+          roots = roots;
+          started = started;
+          answer = given;
+          told = works.told;
+          layers = left.world.stock.used;
+          files = left.world.stock.files;
+          links = left.world.links;
+          uses = works.uses;
+          how = finish;
+          finishes = subst (λ (s : Stock). Finishes left.world.stock.used s.used given.ended left.world.stock.files s.files finish) (sym (ap (λ (w : World). w.stock) rest)) (finishes left.world.stock after.world.stock last finish given.ended commits);
+          io_is = ap (λ (w : World). w.links.io) rest ∙ is.io_is;
+          status = status;
+          awaits = subst (λ (h : End). Awaits given.is_started left.world.links.child new.links.child finish h given.status status) (sym end_is)
+              (subst (λ (l : Rattle.dc_run.specs.World.ChildState). Awaits given.is_started left.world.links.child l finish how given.status status) (sym (ap (λ (w : World). w.links.child) rest)) is.awaits);
+          said = said_then works.told (end_line outcome.end) old.err.talk left.world.err.talk new.err.talk old.err.counts left.world.err.counts new.err.counts works.said behind;
+          code_is = code_is ∙ is.code_is ∙ works.code_is;
+          status_is = status_is;
+        }
+
+-- a run of a tool is one round
+pub as_used : (used : Tool) (settings : Settings) (old new : World) (outcome : Outcome) → HasWorked used settings old new outcome → HasUsed used settings old new outcome
+as_used used settings old new outcome worked =
+    let start : RunState = record { world = worked.mid; code = 0 } in
+    let one = one_round worked.roots settings (Whole used) start worked.left outcome.end worked.status worked.saves worked.rounds in
+    let r = one.round in
+    used_once used settings worked.roots old worked.mid.stock r.job r.answer r.left r.inner r.last r.finish r.status r.how r.new one.job_is
+    (subst (λ (w : World). IsRound worked.roots settings (record { world = w; code = 0 }) r) worked.mid_is one.is) outcome new worked.started one.how_is
+    (subst (λ (s : RunState). HasSaidOn (end_line outcome.end) s.world.err new.err) one.new_is worked.said)
+    (worked.rest_is ∙ ap (λ (s : RunState). record s.world { err = new.err }) one.new_is)
+    (worked.code_is ∙ ap (λ (s : RunState). s.code) one.new_is)
+    (worked.status_is ∙ ap (status_of outcome.end) one.status_is)

@@ -1,0 +1,38 @@
+-- A run of one round, as it is said of it at once.
+use Rattle.std.specs.Prelude.{◌≡◌, ℕ, List, ◌++◌}
+use Rattle.dc_layer.specs.State.{LayerState}
+use Rattle.dc_session.specs.SessionState.{FilesState}
+use Rattle.dc_run.specs.declared.outcome.End.{End}
+use Rattle.dc_run.specs.declared.outcome.Outcome.{Outcome}
+use Rattle.dc_run.specs.declared.outcome.ToolAnswer.{ToolAnswer}
+use Rattle.dc_run.specs.declared.settings.Settings.{Settings}
+use Rattle.dc_run.specs.declared.starting.Roots.{Roots}
+use Rattle.dc_usage.specs.declared.tool.Tool.{Tool}
+use Rattle.dc_run.specs.EndLines.{end_line, HasSaidOn}
+use Rattle.dc_run.specs.Ends.{status_of}
+use Rattle.dc_run.specs.Finishing.{Finishes}
+use Rattle.dc_run.specs.Jobs.{Uses}
+use Rattle.dc_run.specs.Running.{Awaits}
+use Rattle.dc_run.specs.Starting.{HasStarted, begun}
+use Rattle.dc_run.specs.World.{Links, Stock, World}
+
+-- The layers were loaded, the tool ran over them, and what it left was saved, or not, by how it ended. A program that was started is waited
+-- for then. The end is told behind what the tool told.
+pub record HasUsed (tool : Tool) (settings : Settings) (old new : World) (outcome : Outcome) : Type 0 where
+  pub mid : Stock
+  pub roots : Roots
+  pub started : HasStarted settings.conf_path old.stock.files mid roots
+  pub answer : ToolAnswer
+  pub told : List ℕ
+  pub layers : List LayerState
+  pub files : FilesState
+  pub links : Links
+  pub uses : Uses tool (begun tool mid roots settings old.links.io) old.links links answer told layers files
+  pub how : End
+  pub finishes : Finishes layers new.stock.used answer.ended files new.stock.files how
+  pub io_is : new.links.io ≡ links.io
+  pub status : ℕ
+  pub awaits : Awaits answer.is_started links.child new.links.child how outcome.end answer.status status
+  pub said : HasSaidOn (told ++ end_line outcome.end) old.err new.err
+  pub code_is : outcome.last_code ≡ answer.last_code
+  pub status_is : outcome.status ≡ status_of outcome.end status
