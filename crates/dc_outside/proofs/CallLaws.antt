@@ -1,7 +1,7 @@
 -- What one call leaves, at each moment.
 use Rattle.std.proofs.Common.{◌≡◌, ◌↔◌, inl, inr, ℕ, List, Option, Some, Result, Ok, Err, sym, ap, subst, ◌∙◌}
 use Rattle.std.specs.Option.{option_map}
-use Rattle.dc_outside.specs.Disk.{Disk, Standing, File, MayLeave, IsSound, HasLeftMore, Left, moment, then_stands}
+use Rattle.dc_outside.specs.Disk.{Disk, DiskState, File, MayLeave, IsSound, HasLeftMore, Left, moment, then_stands}
 use Rattle.dc_outside.specs.Told.{Told}
 use Rattle.dc_outside.specs.Steps.{Step, Writing, Syncing, Renaming, SyncingNames, Removing, Takes, Leaves, done}
 use Rattle.dc_outside.specs.declared.files.FilesError.{FilesError}
@@ -11,29 +11,29 @@ use Rattle.dc_outside.proofs.Moments.{none_more, more_then, left_now, sound_open
 same_some : {A : Type 0} (a b : A) → Some a ≡ Some b → a ≡ b
 same_some a b e = cc
 
-stood : (before after : Disk) → before ≡ after → HasLeftMore (MayLeave after.standing) before after
-stood before after e = subst (λ (d : Disk). HasLeftMore (MayLeave d.standing) before d) e (none_more (MayLeave before.standing) before)
+stood : (before after : Disk) → before ≡ after → HasLeftMore (MayLeave after.current) before after
+stood before after e = subst (λ (d : Disk). HasLeftMore (MayLeave d.current) before d) e (none_more (MayLeave before.current) before)
 
-moved_on : (before after : Disk) (standing : Standing) → then_stands before standing ≡ after → HasLeftMore (MayLeave after.standing) before after
-moved_on before after standing e = subst (λ (d : Disk). HasLeftMore (MayLeave d.standing) before d) e
-    (more_then (MayLeave standing) before before standing (none_more (MayLeave standing) before) (λ path entry left. inr left))
+moved_on : (before after : Disk) (current : DiskState) → then_stands before current ≡ after → HasLeftMore (MayLeave after.current) before after
+moved_on before after current e = subst (λ (d : Disk). HasLeftMore (MayLeave d.current) before d) e
+    (more_then (MayLeave current) before before current (none_more (MayLeave current) before) (λ path entry left. inr left))
 
-failed_join : (step : Step) (before after : Disk) (new : Option Disk) → new ≡ Some after → Leaves step (Some before) new → HasLeftMore (MayLeave after.standing) before after
+failed_join : (step : Step) (before after : Disk) (new : Option Disk) → new ≡ Some after → Leaves step (Some before) new → HasLeftMore (MayLeave after.current) before after
 failed_join step before after new is (inl same) = stood before after (same_some before after (sym same ∙ is))
 failed_join step before after new is (inr half) = moved_on before after half.0 (same_some (then_stands before half.0) after (sym half.2 ∙ is))
 
-pub join : (step : Step) (old new : Told) (result : Result (Unit {0}) FilesError) (before after : Disk) → Takes step old new result → old.disk ≡ Some before → new.disk ≡ Some after → HasLeftMore (MayLeave after.standing) before after
+pub join : (step : Step) (old new : Told) (result : Result (Unit {0}) FilesError) (before after : Disk) → Takes step old new result → old.disk ≡ Some before → new.disk ≡ Some after → HasLeftMore (MayLeave after.current) before after
 join step old new (Ok value) before after takes at is =
-    moved_on before after (done step before.standing) (same_some _ after (sym (ap (λ (o : Option Disk). option_map (λ disk. then_stands disk (done step disk.standing)) o) at) ∙ ap (λ (t : Told). t.disk) (sym takes) ∙ is))
+    moved_on before after (done step before.current) (same_some _ after (sym (ap (λ (o : Option Disk). option_map (λ disk. then_stands disk (done step disk.current)) o) at) ∙ ap (λ (t : Told). t.disk) (sym takes) ∙ is))
 join step old new (Err Failed) before after takes at is = failed_join step before after new.disk is (subst (λ (o : Option Disk). Leaves step o new.disk) at takes.disk)
 join step old new (Err OutOfMemory) before after takes at is = stood before after (same_some before after (sym at ∙ ap (λ (t : Told). t.disk) (sym takes) ∙ is))
 
-pub left_at : (disk : Disk) (path : List ℕ) (entry : Option File) → Left disk (moment disk) path entry ↔ MayLeave disk.standing path entry
+pub left_at : (disk : Disk) (path : List ℕ) (entry : Option File) → Left disk (moment disk) path entry ↔ MayLeave disk.current path entry
 left_at disk path entry = (left_now disk path entry, λ now. inr now)
 
-pub sound_done : (step : Step) (standing : Standing) → IsSound standing → IsSound (done step standing)
-sound_done (Writing path file) standing sound = sound_open standing path (Some file) sound
-sound_done (Syncing path) standing sound = sound_settled standing path sound
-sound_done (Renaming from to) standing sound = sound_renamed standing from to sound
-sound_done SyncingNames standing sound = sound_names standing sound
-sound_done (Removing path) standing sound = sound_removed standing path sound
+pub sound_done : (step : Step) (current : DiskState) → IsSound current → IsSound (done step current)
+sound_done (Writing path file) current sound = sound_open current path (Some file) sound
+sound_done (Syncing path) current sound = sound_settled current path sound
+sound_done (Renaming from to) current sound = sound_renamed current from to sound
+sound_done SyncingNames current sound = sound_names current sound
+sound_done (Removing path) current sound = sound_removed current path sound

@@ -5,7 +5,7 @@ use Rattle.std.specs.List.{list_any}
 use Rattle.std.specs.FinMap as map
 use Rattle.std.specs.FinMap.{contains_key-keys}
 use Rattle.dc_text.specs.Maps.{Texts}
-use Rattle.dc_outside.specs.Disk.{File, Outcome, OneOf, Disk, Among, Allows, outcome_at, with_entry}
+use Rattle.dc_outside.specs.Disk.{File, CrashOutcome, OneOf, Disk, Among, Allows, outcome_at, with_entry}
 use Rattle.dc_outside.specs.declared.crashing.Pick.{Pick}
 use Rattle.dc_outside.specs.declared.crashing.Pick.TheVariants.{Oldest, Newest, Junk}
 use Rattle.dc_outside.specs.Crash.{last_of, listed_by, unlisted_by, IsLeftBy}
@@ -33,13 +33,13 @@ pub among_got : (one : Option File) (more : List (Option File)) (found : Option 
 among_got one more found e = subst (Among (one ∷ more)) (sym (ap (λ o. unwrap_or o one) e ∙ last_is one more)) (among_last one more)
 
 -- where nothing is pending, what stands is left
-pub left_alone : (pick : Pick) (disk : Disk) (path : List ℕ) → map.get disk.standing.pending path ≡ None → IsLeftBy pick disk path (map.get disk.standing.files path)
+pub left_alone : (pick : Pick) (disk : Disk) (path : List ℕ) → map.get disk.current.pending path ≡ None → IsLeftBy pick disk path (map.get disk.current.files path)
 left_alone pick disk path none =
-    let here : outcome_at disk.standing path ≡ OneOf (map.get disk.standing.files path ∷ []) = ap (λ o. unwrap_or o (OneOf (map.get disk.standing.files path ∷ []))) none in
-    let listed : listed_by pick (OneOf (map.get disk.standing.files path ∷ [])) ≡ Some (map.get disk.standing.files path) = elim pick as (λ p. listed_by p (OneOf (map.get disk.standing.files path ∷ [])) ≡ Some (map.get disk.standing.files path)) [ Oldest ↦ refl | Newest ↦ refl | Junk ↦ refl ] in
+    let here : outcome_at disk.current path ≡ OneOf (map.get disk.current.files path ∷ []) = ap (λ o. unwrap_or o (OneOf (map.get disk.current.files path ∷ []))) none in
+    let listed : listed_by pick (OneOf (map.get disk.current.files path ∷ [])) ≡ Some (map.get disk.current.files path) = elim pick as (λ p. listed_by p (OneOf (map.get disk.current.files path ∷ [])) ≡ Some (map.get disk.current.files path)) [ Oldest ↦ refl | Newest ↦ refl | Junk ↦ refl ] in
     record {
       picked = sym (ap (λ o. unwrap_or o (unlisted_by pick disk path)) (ap (listed_by pick) here ∙ listed));
-      may = subst (λ (o : Outcome). Allows o (map.get disk.standing.files path)) (sym here) (inl refl);
+      may = subst (λ (o : CrashOutcome). Allows o (map.get disk.current.files path)) (sym here) (inl refl);
     }
 
 -- the entry at the path is the one that is left, or the path is to come
@@ -47,11 +47,11 @@ abbrev pub IsLeft : Pick → Disk → Texts File → List (List ℕ) → List �
 IsLeft pick disk files rest path = IsLeftBy pick disk path (map.get files path) ⊎ (list_any (same path) rest ≡ true)
 
 module _ (pick : Pick) (disk : Disk) where
-  pub none_left : (path : List ℕ) → IsLeft pick disk disk.standing.files (map.keys disk.standing.pending) path
+  pub none_left : (path : List ℕ) → IsLeft pick disk disk.current.files (map.keys disk.current.pending) path
   none_left path =
-      elim (map.get disk.standing.pending path) as (λ o. map.get disk.standing.pending path ≡ o → IsLeft pick disk disk.standing.files (map.keys disk.standing.pending) path) [
+      elim (map.get disk.current.pending path) as (λ o. map.get disk.current.pending path ≡ o → IsLeft pick disk disk.current.files (map.keys disk.current.pending) path) [
         | None ↦ λ e. inl (left_alone pick disk path e)
-        | Some outcome ↦ λ e. inr (sym (contains_key-keys disk.standing.pending path) ∙ ap is_some e)
+        | Some outcome ↦ λ e. inr (sym (contains_key-keys disk.current.pending path) ∙ ap is_some e)
       ] refl
 
   pub one_left : (files : Texts File) (path : List ℕ) (rest : List (List ℕ)) (entry : Option File) → IsLeftBy pick disk path entry → ((q : List ℕ) → IsLeft pick disk files (path ∷ rest) q) → (q : List ℕ) → IsLeft pick disk (with_entry files path entry) rest q

@@ -1,6 +1,6 @@
 -- What a crash leaves of files in memory, by the pick.
 use Rattle.std.specs.Prelude.{◌≡◌, ℕ, List, [], ◌∷◌, Option, None, Some, unwrap_or}
-use Rattle.dc_outside.specs.Disk.{File, Outcome, OneOf, Anything, Standing, Disk, Allows, MayLeave, file_at, outcome_at}
+use Rattle.dc_outside.specs.Disk.{File, CrashOutcome, OneOf, Anything, DiskState, Disk, Allows, MayLeave, file_at, outcome_at}
 use Rattle.dc_outside.specs.declared.crashing.Pick.{Pick}
 use Rattle.dc_outside.specs.declared.crashing.Pick.TheVariants.{Oldest, Newest, Junk}
 
@@ -10,31 +10,31 @@ last_of one [] = one
 last_of one (next ∷ more) = last_of next more
 
 -- the first entry that a crash may leave, where not anything is possible
-abbrev pub oldest_of : Outcome → Option (Option File)
+abbrev pub oldest_of : CrashOutcome → Option (Option File)
 oldest_of (OneOf []) = None
 oldest_of (OneOf (entry ∷ entries)) = Some entry
 oldest_of Anything = None
 
 -- the last one
-abbrev pub newest_of : Outcome → Option (Option File)
+abbrev pub newest_of : CrashOutcome → Option (Option File)
 newest_of (OneOf []) = None
 newest_of (OneOf (entry ∷ entries)) = Some (last_of entry entries)
 newest_of Anything = None
 
 -- the entry may be left, and where there is none anything may
-abbrev pub IsOneOf : Outcome → Option (Option File) → Type 0
+abbrev pub IsOneOf : CrashOutcome → Option (Option File) → Type 0
 IsOneOf outcome (Some entry) = Allows outcome entry
 IsOneOf outcome None = outcome ≡ Anything
 
-abbrev pub listed_by : Pick → Outcome → Option (Option File)
+abbrev pub listed_by : Pick → CrashOutcome → Option (Option File)
 listed_by Oldest outcome = oldest_of outcome
 listed_by Newest outcome = newest_of outcome
 listed_by Junk outcome = oldest_of outcome
 
 -- the first entry that was possible at the path at the last of these moments at which not anything was, and else this one
-abbrev pub entry_before : List ℕ → Option File → List Standing → Option File
+abbrev pub entry_before : List ℕ → Option File → List DiskState → Option File
 entry_before path last [] = last
-entry_before path last (standing ∷ later) = entry_before path (unwrap_or (oldest_of (outcome_at standing path)) last) later
+entry_before path last (current ∷ later) = entry_before path (unwrap_or (oldest_of (outcome_at current path)) last) later
 
 -- the empty text with mode 600
 abbrev pub junk : File
@@ -48,9 +48,9 @@ unlisted_by Junk disk path = Some junk
 
 -- the entry that a crash with this pick leaves at the path
 abbrev pub left_by : Pick → Disk → List ℕ → Option File
-left_by pick disk path = unwrap_or (listed_by pick (outcome_at disk.standing path)) (unlisted_by pick disk path)
+left_by pick disk path = unwrap_or (listed_by pick (outcome_at disk.current path)) (unlisted_by pick disk path)
 
 -- a crash with this pick leaves this at the path, and may leave it
 pub record IsLeftBy (pick : Pick) (disk : Disk) (path : List ℕ) (entry : Option File) : Type 0 where
   pub picked : entry ≡ left_by pick disk path
-  pub may : MayLeave disk.standing path entry
+  pub may : MayLeave disk.current path entry

@@ -12,23 +12,23 @@ pub record File : Type 0 where
   pub mode : ℕ
 
 -- what a crash may leave at a path: one of these entries, each a file or none, or anything
-pub data Outcome : Type 0 where
-  OneOf : List (Option File) → Outcome
-  Anything : Outcome
+pub data CrashOutcome : Type 0 where
+  OneOf : List (Option File) → CrashOutcome
+  Anything : CrashOutcome
 
 -- what stands at a moment: the files by their paths, and what a crash then may leave where it isn't just what stands there
-pub record Standing : Type 0 where
+pub record DiskState : Type 0 where
   pub files : Texts File
-  pub pending : Texts Outcome
+  pub pending : Texts CrashOutcome
 
 -- what stands now, and what stood at each moment before, in order
 pub record Disk : Type 0 where
-  pub standing : Standing
-  pub past : List Standing
+  pub current : DiskState
+  pub past : List DiskState
 
 -- the file that stands at the path
 abbrev pub file_at : Disk → List ℕ → Option File
-file_at disk path = map.get disk.standing.files path
+file_at disk path = map.get disk.current.files path
 
 -- what a read of the path gives
 abbrev pub bytes_at : Disk → List ℕ → Option (List ℕ)
@@ -37,35 +37,35 @@ bytes_at disk path = option_map (λ file. file.bytes) (file_at disk path)
 -- ---- crashes
 
 -- what a crash may leave at the path
-abbrev pub outcome_at : Standing → List ℕ → Outcome
-outcome_at standing path = unwrap_or (map.get standing.pending path) (OneOf (map.get standing.files path ∷ []))
+abbrev pub outcome_at : DiskState → List ℕ → CrashOutcome
+outcome_at current path = unwrap_or (map.get current.pending path) (OneOf (map.get current.files path ∷ []))
 
 -- this is one of them
 abbrev pub Among : {X : Type 0} → List X → X → Type 0
 Among [] x = ⊥
 Among (one ∷ others) x = (x ≡ one) ⊎ Among others x
 
-abbrev pub Allows : Outcome → Option File → Type 0
+abbrev pub Allows : CrashOutcome → Option File → Type 0
 Allows (OneOf entries) entry = Among entries entry
 Allows Anything entry = ⊤
 
 -- a crash then may leave this entry at the path
-abbrev pub MayLeave : Standing → List ℕ → Option File → Type 0
-MayLeave standing path entry = Allows (outcome_at standing path) entry
+abbrev pub MayLeave : DiskState → List ℕ → Option File → Type 0
+MayLeave current path entry = Allows (outcome_at current path) entry
 
 -- what stands at each path is among what a crash may leave there
-abbrev pub IsSound : Standing → Type 0
-IsSound standing = (path : List ℕ) → MayLeave standing path (map.get standing.files path)
+abbrev pub IsSound : DiskState → Type 0
+IsSound current = (path : List ℕ) → MayLeave current path (map.get current.files path)
 
 -- nothing is pending: a crash leaves at each path exactly what stands there
-pub record IsSettled (standing : Standing) : Type 0 where
-  pub sound : IsSound standing
-  pub alone : (path : List ℕ) (entry : Option File) → MayLeave standing path entry → entry ≡ map.get standing.files path
+pub record IsDurable (current : DiskState) : Type 0 where
+  pub sound : IsSound current
+  pub alone : (path : List ℕ) (entry : Option File) → MayLeave current path entry → entry ≡ map.get current.files path
 
 -- at one of these moments a crash would have left this entry at the path
-abbrev pub HasLeft : List Standing → List ℕ → Option File → Type 0
+abbrev pub HasLeft : List DiskState → List ℕ → Option File → Type 0
 HasLeft [] path entry = ⊥
-HasLeft (standing ∷ past) path entry = MayLeave standing path entry ⊎ HasLeft past path entry
+HasLeft (current ∷ past) path entry = MayLeave current path entry ⊎ HasLeft past path entry
 
 -- the clock
 abbrev pub moment : Disk → ℕ
@@ -74,10 +74,10 @@ moment disk = length disk.past
 -- At some moment from that one on a crash would have left this entry at the path. Inside a call it leaves what it might have
 -- left before the call, or what it may leave after it.
 abbrev pub Left : Disk → ℕ → List ℕ → Option File → Type 0
-Left disk since path entry = HasLeft (drop since disk.past) path entry ⊎ MayLeave disk.standing path entry
+Left disk since path entry = HasLeft (drop since disk.past) path entry ⊎ MayLeave disk.current path entry
 
 -- a crash may leave what it might have left before, and at most this more
-abbrev pub MayLeaveMore : (List ℕ → Option File → Type 0) → Standing → Standing → Type 0
+abbrev pub MayLeaveMore : (List ℕ → Option File → Type 0) → DiskState → DiskState → Type 0
 MayLeaveMore more old new = (path : List ℕ) (entry : Option File) → MayLeave new path entry → MayLeave old path entry ⊎ more path entry
 
 -- From each moment that isn't after the old disk's on, a crash would have left what it would have left by then, and at most
@@ -89,8 +89,8 @@ pub record HasLeftMore (more : List ℕ → Option File → Type 0) (old new : D
 -- ---- what changes
 
 -- a call leaves this, and time goes on
-abbrev pub then_stands : Disk → Standing → Disk
-then_stands disk standing = record { standing = standing; past = disk.past ++ disk.standing ∷ [] }
+abbrev pub then_stands : Disk → DiskState → Disk
+then_stands disk current = record { current = current; past = disk.past ++ disk.current ∷ [] }
 
 -- the files with this at the path, a file or none
 abbrev pub with_entry : Texts File → List ℕ → Option File → Texts File
@@ -102,43 +102,43 @@ abbrev pub renamed : Texts File → List ℕ → List ℕ → Texts File
 renamed files from to = with_entry (map.remove files from) to (map.get files from)
 
 -- either outcome
-abbrev pub either : Outcome → Outcome → Outcome
+abbrev pub either : CrashOutcome → CrashOutcome → CrashOutcome
 either (OneOf entries) (OneOf others) = OneOf (entries ++ others)
 either (OneOf entries) Anything = Anything
 either Anything other = Anything
 
 -- a crash may leave what it might have left at the path, or this
-abbrev pub with_outcome : Standing → List ℕ → Outcome → Standing
-with_outcome standing path outcome = record standing { pending = map.insert standing.pending path (either (outcome_at standing path) outcome) }
+abbrev pub with_outcome : DiskState → List ℕ → CrashOutcome → DiskState
+with_outcome current path outcome = record current { pending = map.insert current.pending path (either (outcome_at current path) outcome) }
 
 -- the path was written, and nothing is known of it after a crash
-abbrev pub open_at : Standing → List ℕ → Option File → Standing
-open_at standing path entry = record { files = with_entry standing.files path entry; pending = map.insert standing.pending path Anything }
+abbrev pub open_at : DiskState → List ℕ → Option File → DiskState
+open_at current path entry = record { files = with_entry current.files path entry; pending = map.insert current.pending path Anything }
 
 -- a crash leaves what stands at the path
-abbrev pub settled_at : Standing → List ℕ → Standing
-settled_at standing path = record standing { pending = map.remove standing.pending path }
+abbrev pub durable_at : DiskState → List ℕ → DiskState
+durable_at current path = record current { pending = map.remove current.pending path }
 
-abbrev pub is_anything : Option Outcome → Bool
+abbrev pub is_anything : Option CrashOutcome → Bool
 is_anything (Some Anything) = true
 is_anything (Some (OneOf entries)) = false
 is_anything None = false
 
 -- what a crash may leave where the file at the path is put: that file, or anything where it isn't synced
-abbrev pub moved_outcome : Standing → List ℕ → Outcome
-moved_outcome standing path = if is_anything (map.get standing.pending path) then Anything else OneOf (map.get standing.files path ∷ [])
+abbrev pub moved_outcome : DiskState → List ℕ → CrashOutcome
+moved_outcome current path = if is_anything (map.get current.pending path) then Anything else OneOf (map.get current.files path ∷ [])
 
 -- a crash may leave at `to` the file at `from` too, and at `from` none too
-abbrev pub with_rename : Standing → List ℕ → List ℕ → Standing
-with_rename standing from to = with_outcome (with_outcome standing to (moved_outcome standing from)) from (OneOf (None ∷ []))
+abbrev pub with_rename : DiskState → List ℕ → List ℕ → DiskState
+with_rename current from to = with_outcome (with_outcome current to (moved_outcome current from)) from (OneOf (None ∷ []))
 
 -- a crash may leave none at the path too
-abbrev pub with_removal : Standing → List ℕ → Standing
-with_removal standing path = with_outcome standing path (OneOf (None ∷ []))
+abbrev pub with_removal : DiskState → List ℕ → DiskState
+with_removal current path = with_outcome current path (OneOf (None ∷ []))
 
 -- a crash leaves what stands at each path where it doesn't leave anything
-abbrev pub names_settled : Standing → Standing
-names_settled standing = record standing { pending = map.retain_keys standing.pending (λ path. is_anything (map.get standing.pending path)) }
+abbrev pub names_durable : DiskState → DiskState
+names_durable current = record current { pending = map.retain_keys current.pending (λ path. is_anything (map.get current.pending path)) }
 
 -- ---- codes
 
@@ -146,27 +146,27 @@ names_settled standing = record standing { pending = map.retain_keys standing.pe
 abbrev pub file_code : Coded File
 file_code = code_by (List ℕ × ℕ) (coded× (coded_list coded_ℕ) coded_ℕ) (λ f. (f.bytes, f.mode)) (λ p. record { bytes = p.0; mode = p.1 }) (λ _. refl)
 
-abbrev pub entries_in : Outcome → Option (List (Option File))
+abbrev pub entries_in : CrashOutcome → Option (List (Option File))
 entries_in (OneOf entries) = Some entries
 entries_in Anything = None
 
-abbrev pub outcome_of : Option (List (Option File)) → Outcome
+abbrev pub outcome_of : Option (List (Option File)) → CrashOutcome
 outcome_of (Some entries) = OneOf entries
 outcome_of None = Anything
 
-pub outcome_back : (outcome : Outcome) → outcome_of (entries_in outcome) ≡ outcome
+pub outcome_back : (outcome : CrashOutcome) → outcome_of (entries_in outcome) ≡ outcome
 outcome_back (OneOf entries) = refl
 outcome_back Anything = refl
 
 -- an outcome is stored as its entries, or none
-abbrev pub outcome_code : Coded Outcome
+abbrev pub outcome_code : Coded CrashOutcome
 outcome_code = code_by (Option (List (Option File))) (coded_option (coded_list (coded_option file_code))) entries_in outcome_of outcome_back
 
-abbrev pub standing_code : Coded Standing
-standing_code = code_by (Texts File × Texts Outcome) (coded× (map.code (coded_list coded_ℕ) file_code) (map.code (coded_list coded_ℕ) outcome_code)) (λ s. (s.files, s.pending)) (λ p. record { files = p.0; pending = p.1 }) (λ _. refl)
+abbrev pub standing_code : Coded DiskState
+standing_code = code_by (Texts File × Texts CrashOutcome) (coded× (map.code (coded_list coded_ℕ) file_code) (map.code (coded_list coded_ℕ) outcome_code)) (λ s. (s.files, s.pending)) (λ p. record { files = p.0; pending = p.1 }) (λ _. refl)
 
 abbrev pub disk_code : Coded Disk
-disk_code = code_by (Standing × List Standing) (coded× standing_code (coded_list standing_code)) (λ d. (d.standing, d.past)) (λ p. record { standing = p.0; past = p.1 }) (λ _. refl)
+disk_code = code_by (DiskState × List DiskState) (coded× standing_code (coded_list standing_code)) (λ d. (d.current, d.past)) (λ p. record { current = p.0; past = p.1 }) (λ _. refl)
 
 -- ---- folders
 
@@ -181,4 +181,4 @@ after_front (byte ∷ front) (other ∷ text) = if byte == other then after_fron
 
 -- the paths of all files at any depth below the folder, without its own and the slash, in byte order
 abbrev pub paths_below : Disk → List ℕ → List (List ℕ)
-paths_below disk folder = filter_map (after_front (folder ++ slash ∷ [])) (map.keys disk.standing.files)
+paths_below disk folder = filter_map (after_front (folder ++ slash ∷ [])) (map.keys disk.current.files)

@@ -100,4 +100,4 @@ files_from entries = map.from_entries (reverse (each (λ entry. (entry.0, record
 
 -- these files, of which no call was made yet
 abbrev pub fresh : Texts File → List ℕ → Option ℕ → FilesState
-fresh files failing stopped = record { disk = record { standing = record { files = files; pending = map.empty }; past = [] }; failing = failing; stopped = stopped; calls = []; faults = 0; refusals = 0 }
+fresh files failing stopped = record { disk = record { current = record { files = files; pending = map.empty }; past = [] }; failing = failing; stopped = stopped; calls = []; faults = 0; refusals = 0 }

@@ -1,7 +1,7 @@
 -- What a call of the files does to what they tell.
 use Rattle.std.specs.Prelude.{◌≡◌, ◌⊎◌, ℕ, Bool, true, false, List, [], ◌∷◌, ◌++◌, Option, None, Some, option_map, Result, Ok, Err}
 use Rattle.std.specs.FinMap as map
-use Rattle.dc_outside.specs.Disk.{Disk, Standing, File, renamed, then_stands, open_at, settled_at, with_rename, with_removal, names_settled}
+use Rattle.dc_outside.specs.Disk.{Disk, DiskState, File, renamed, then_stands, open_at, durable_at, with_rename, with_removal, names_durable}
 use Rattle.dc_outside.specs.Told.{Told}
 use Rattle.dc_outside.specs.declared.files.FilesOp.{FilesOp}
 use Rattle.dc_outside.specs.declared.files.FilesOp.TheVariants.{Write, Sync, Rename, SyncNames, Remove}
@@ -43,16 +43,16 @@ call_of ok SyncingNames = record { op = SyncNames; path = []; ok = ok }
 call_of ok (Removing path) = record { op = Remove; path = path; ok = ok }
 
 -- what stands after a step that is done
-abbrev pub done : Step → Standing → Standing
-done (Writing path file) standing = open_at standing path (Some file)
-done (Syncing path) standing = settled_at standing path
-done (Renaming from to) standing = record (with_rename standing from to) { files = renamed standing.files from to }
-done SyncingNames standing = names_settled standing
-done (Removing path) standing = record (with_removal standing path) { files = map.remove standing.files path }
+abbrev pub done : Step → DiskState → DiskState
+done (Writing path file) current = open_at current path (Some file)
+done (Syncing path) current = durable_at current path
+done (Renaming from to) current = record (with_rename current from to) { files = renamed current.files from to }
+done SyncingNames current = names_durable current
+done (Removing path) current = record (with_removal current path) { files = map.remove current.files path }
 
 -- what may stand after a step that failed, where it did something: at a write anything or nothing at its path, and a rename or a
 -- removal was done or not, and a crash may leave either
-abbrev pub HalfDone : Step → Standing → Standing → Type 0
+abbrev pub HalfDone : Step → DiskState → DiskState → Type 0
 HalfDone (Writing path file) old new = (left : Option File) × (new ≡ open_at old path left)
 HalfDone (Syncing path) old new = ⊥
 HalfDone (Renaming from to) old new = (new ≡ with_rename old from to) ⊎ (new ≡ done (Renaming from to) old)
@@ -60,12 +60,12 @@ HalfDone SyncingNames old new = ⊥
 HalfDone (Removing path) old new = (new ≡ with_removal old path) ⊎ (new ≡ done (Removing path) old)
 
 abbrev pub after_step : Told → Step → Told
-after_step told step = record { disk = option_map (λ disk. then_stands disk (done step disk.standing)) told.disk; calls = then_calls told.calls (call_of true step ∷ []) }
+after_step told step = record { disk = option_map (λ disk. then_stands disk (done step disk.current)) told.disk; calls = then_calls told.calls (call_of true step ∷ []) }
 
 -- what a step that failed leaves of the disk: nothing changed, or it was done by half
 abbrev pub Leaves : Step → Option Disk → Option Disk → Type 0
 Leaves step None new = new ≡ None
-Leaves step (Some old) new = (new ≡ Some old) ⊎ ((half : Standing) × HalfDone step old.standing half × (new ≡ Some (then_stands old half)))
+Leaves step (Some old) new = (new ≡ Some old) ⊎ ((half : DiskState) × HalfDone step old.current half × (new ≡ Some (then_stands old half)))
 
 pub record FailsAt (step : Step) (old new : Told) : Type 0 where
   pub calls : new.calls ≡ then_calls old.calls (call_of false step ∷ [])

@@ -5,7 +5,7 @@ ghost use Rattle.std.specs.FinMap as map;
 ghost use Rattle.dc_outside.specs.Disk.{Allows, with_entry, outcome_at};
 ghost use Rattle.dc_outside.specs.Crash.{oldest_of, listed_by, entry_before, unlisted_by, IsLeftBy};
 
-use crate::standing::{Outcome, Standing, Stored, copied_entry};
+use crate::disk_state::{CrashOutcome, DiskState, Stored, copied_entry};
 use dc_text::{Mem, Text, TextMap};
 use std::alloc::Global;
 
@@ -23,25 +23,25 @@ pub enum Pick {
 const JUNK_MODE: u16 = 0o600;
 
 // The oldest entry that a crash may leave at the path, where not anything is possible there.
-fn oldest_at<'a>(path: &[u8], standing: &'a Standing) -> Option<Option<&'a Stored>>
-    ensures { option_map option_copied result ≡ oldest_of (outcome_at standing.now path.now) }
+fn oldest_at<'a>(path: &[u8], current: &'a DiskState) -> Option<Option<&'a Stored>>
+    ensures { option_map option_copied result ≡ oldest_of (outcome_at current.now path.now) }
 {
-    match standing.pending.get(path) {
+    match current.pending.get(path) {
         Some(outcome) => match outcome.oldest() {
             Some(entry) => Some(entry.as_ref()),
             None => None,
         },
-        None => Some(standing.files.get(path)),
+        None => Some(current.files.get(path)),
     }
 }
 
 // The entry from before the path was written.
-fn entry_before<'a>(path: &[u8], past: &'a [Standing]) -> Option<&'a Stored>
+fn entry_before<'a>(path: &[u8], past: &'a [DiskState]) -> Option<&'a Stored>
     ensures { option_copied result ≡ entry_before path.now None past.now }
 {
     let mut last = None;
-    for standing in past {
-        match oldest_at(path, standing) {
+    for current in past {
+        match oldest_at(path, current) {
             Some(entry) => last = entry,
             None => {}
         }
@@ -54,14 +54,14 @@ fn unlisted(
     alloc: Global,
     pick: Pick,
     path: &[u8],
-    standing: &Standing,
-    past: &[Standing],
+    current: &DiskState,
+    past: &[DiskState],
 ) -> Mem<Option<Stored>>
-    ensures { IfOk result (λ entry. entry ≡ unlisted_by pick (record { standing = standing.now; past = past.now }) path.now) }
+    ensures { IfOk result (λ entry. entry ≡ unlisted_by pick (record { current = current.now; past = past.now }) path.now) }
 {
     match pick {
         Pick::Oldest => copied_entry(entry_before(path, past)),
-        Pick::Newest => copied_entry(standing.files.get(path)),
+        Pick::Newest => copied_entry(current.files.get(path)),
         Pick::Junk => Ok(Some(Stored {
             bytes: Text::new(alloc),
             mode: JUNK_MODE,
@@ -74,11 +74,11 @@ fn picked(
     alloc: Global,
     pick: Pick,
     path: &[u8],
-    outcome: &Outcome,
-    standing: &Standing,
-    past: &[Standing],
+    outcome: &CrashOutcome,
+    current: &DiskState,
+    past: &[DiskState],
 ) -> Mem<Option<Stored>>
-    ensures picked { IfOk result (λ entry. entry ≡ unwrap_or (listed_by pick outcome.now) (unlisted_by pick (record { standing = standing.now; past = past.now }) path.now)) }
+    ensures picked { IfOk result (λ entry. entry ≡ unwrap_or (listed_by pick outcome.now) (unlisted_by pick (record { current = current.now; past = past.now }) path.now)) }
     ensures allowed { IfOk result (λ entry. Allows outcome.now entry) }
 {
     let listed = match pick {
@@ -87,7 +87,7 @@ fn picked(
     };
     match listed {
         Some(entry) => copied_entry(entry.as_ref()),
-        None => unlisted(alloc, pick, path, standing, past),
+        None => unlisted(alloc, pick, path, current, past),
     }
 }
 
@@ -96,14 +96,14 @@ fn picked_at(
     alloc: Global,
     pick: Pick,
     path: &[u8],
-    standing: &Standing,
-    past: &[Standing],
+    current: &DiskState,
+    past: &[DiskState],
 ) -> Mem<Option<Stored>>
-    ensures { IfOk result (λ entry. IsLeftBy pick (record { standing = standing.now; past = past.now }) path.now entry) }
+    ensures { IfOk result (λ entry. IsLeftBy pick (record { current = current.now; past = past.now }) path.now entry) }
 {
-    match standing.pending.get(path) {
-        Some(outcome) => picked(alloc, pick, path, outcome, standing, past),
-        None => copied_entry(standing.files.get(path)),
+    match current.pending.get(path) {
+        Some(outcome) => picked(alloc, pick, path, outcome, current, past),
+        None => copied_entry(current.files.get(path)),
     }
 }
 
@@ -124,14 +124,14 @@ fn put(files: &mut TextMap<Stored>, path: Text, entry: Option<Stored>) -> Mem<()
 pub(crate) fn left_files(
     alloc: Global,
     pick: Pick,
-    standing: &Standing,
-    past: &[Standing],
+    current: &DiskState,
+    past: &[DiskState],
 ) -> Mem<TextMap<Stored>>
-    ensures { IfOk result (λ files. (path : List ℕ) → IsLeftBy pick (record { standing = standing.now; past = past.now }) path (map.get files path)) }
+    ensures { IfOk result (λ files. (path : List ℕ) → IsLeftBy pick (record { current = current.now; past = past.now }) path (map.get files path)) }
 {
-    let mut files = standing.files.copy()?;
-    for (path, _) in standing.pending.iter() {
-        let entry = picked_at(alloc, pick, path, standing, past)?;
+    let mut files = current.files.copy()?;
+    for (path, _) in current.pending.iter() {
+        let entry = picked_at(alloc, pick, path, current, past)?;
         put(&mut files, Text::from_bytes(alloc, path)?, entry)?;
     }
     Ok(files)

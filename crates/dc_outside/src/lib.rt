@@ -3,13 +3,13 @@
 
 pub mod child;
 pub mod crashing;
+mod disk_state;
 pub mod files;
 pub mod laws;
 pub mod link;
 pub mod memory_child;
 pub mod memory_files;
 pub mod memory_link;
-mod standing;
 
 pub use child::{Child, WaitFault};
 pub use crashing::Pick;

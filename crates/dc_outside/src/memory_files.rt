@@ -9,7 +9,7 @@ ghost use Rattle.dc_outside.specs.Counts.{Counted};
 ghost use Rattle.dc_outside.specs.Memory.{files_from, fresh, fails_next, told_by, counted_by, FilesFailsWhere, IsLogged};
 
 use crate::crashing::{Pick, left_files};
-use crate::standing::{Standing, Stored};
+use crate::disk_state::{DiskState, Stored};
 use crate::{Files, FilesCall, FilesError, FilesOp};
 use dc_text::{Copied, List, Mem, Text, TextMap};
 use std::alloc::Global;
@@ -20,8 +20,8 @@ const PLAIN_MODE: u16 = 0o644;
 #[derive(Drop)]
 pub struct MemFiles {
     alloc: Global,
-    standing: Standing,
-    past: List<Standing>,
+    current: DiskState,
+    past: List<DiskState>,
     failing: Vec<u64>,
     // The number of a call from which on each fails.
     stopped: Option<u64>,
@@ -39,7 +39,7 @@ impl Model for MemFiles {
 
     ghost coded = { Prim.hlevel (codes, disk_code) };
 
-    ghost view = { λ m. record { disk = record { standing = m.standing; past = m.past }; failing = m.failing.items; stopped = m.stopped; calls = m.calls; faults = m.faults; refusals = m.refusals } };
+    ghost view = { λ m. record { disk = record { current = m.current; past = m.past }; failing = m.failing.items; stopped = m.stopped; calls = m.calls; faults = m.faults; refusals = m.refusals } };
 }
 
 impl MemFiles {
@@ -68,7 +68,7 @@ impl MemFiles {
     {
         Ok(MemFiles {
             alloc,
-            standing: Standing {
+            current: DiskState {
                 files,
                 pending: TextMap::new(alloc),
             },
@@ -92,7 +92,7 @@ impl MemFiles {
     pub fn mode(&self, path: &Text) -> Option<u16>
         ensures { result ≡ option_map (λ file. file.mode) (file_at self.now.disk path.now) }
     {
-        match self.standing.files.get(path.bytes()) {
+        match self.current.files.get(path.bytes()) {
             Some(file) => Some(file.mode),
             None => None,
         }
@@ -100,10 +100,10 @@ impl MemFiles {
 
     /// The files after a crash now, on which nothing is pending. No call fails then.
     pub fn after_crash(&self, pick: Pick) -> Mem<MemFiles>
-        ensures fresh { IfOk result (λ files. files ≡ fresh files.disk.standing.files [] None) }
+        ensures fresh { IfOk result (λ files. files ≡ fresh files.disk.current.files [] None) }
         ensures left { IfOk result (λ files. (path : List ℕ) → IsLeftBy pick self.now.disk path (file_at files.disk path)) }
     {
-        let files = left_files(self.alloc, pick, &self.standing, self.past.as_slice())?;
+        let files = left_files(self.alloc, pick, &self.current, self.past.as_slice())?;
         MemFiles::made(self.alloc, files, &[], None)
     }
 
@@ -160,7 +160,7 @@ impl MemFiles {
     fn bytes_at(&self, path: &Text) -> Mem<Option<Text>>
         ensures { IfOk result (λ found. found ≡ bytes_at self.now.disk path.now) }
     {
-        match self.standing.files.get(path.bytes()) {
+        match self.current.files.get(path.bytes()) {
             Some(file) => Ok(Some(file.bytes.copy()?)),
             None => Ok(None),
         }
@@ -170,7 +170,7 @@ impl MemFiles {
     fn file_at(&self, path: &Text) -> Mem<Option<Stored>>
         ensures { IfOk result (λ found. found ≡ file_at self.now.disk path.now) }
     {
-        match self.standing.files.get(path.bytes()) {
+        match self.current.files.get(path.bytes()) {
             Some(file) => Ok(Some(file.copied()?)),
             None => Ok(None),
         }
@@ -183,7 +183,7 @@ impl MemFiles {
         let mut front = dir.copy()?;
         front.push(b'/')?;
         let mut found = List::new(self.alloc);
-        for (path, _) in self.standing.files.iter() {
+        for (path, _) in self.current.files.iter() {
             if let Some(rest) = after_front(path, front.bytes()) {
                 found.push(Text::from_bytes(self.alloc, rest)?)?;
             }
@@ -192,11 +192,11 @@ impl MemFiles {
     }
 
     // Keeps a call that was done, and what stands after it.
-    fn stand(&mut self, op: FilesOp, path: &Text, standing: Standing) -> Mem<()>
-        ensures ok { OnOk result (self.new ≡ record self.old { disk = then_stands self.old.disk standing; calls = self.old.calls ++ record { op = op; path = path.now; ok = true } ∷ [] }) }
+    fn stand(&mut self, op: FilesOp, path: &Text, current: DiskState) -> Mem<()>
+        ensures ok { OnOk result (self.new ≡ record self.old { disk = then_stands self.old.disk current; calls = self.old.calls ++ record { op = op; path = path.now; ok = true } ∷ [] }) }
         ensures err { OnErr result (self.new ≡ self.old) }
     {
-        let before = self.standing.copy()?;
+        let before = self.current.copy()?;
         self.log(op, path, true)?;
         match self.past.push(before) {
             Ok(()) => {}
@@ -205,7 +205,7 @@ impl MemFiles {
                 return Err(error);
             }
         }
-        self.standing = standing;
+        self.current = current;
         Ok(())
     }
 }
@@ -238,42 +238,42 @@ impl MemFiles {
 
     fn write_call(&mut self, path: &Text, bytes: &[u8], mode: u16) -> Result<(), FilesError>
         ensures fails { FilesFailsWhere (fails_next self.old) result }
-        ensures ok { OnOk result (self.new ≡ record self.old { disk = then_stands self.old.disk (done (Writing path.now (record { bytes = bytes.now; mode = mode })) self.old.disk.standing); calls = self.old.calls ++ call_of true (Writing path.now (record { bytes = bytes.now; mode = mode })) ∷ [] }) }
+        ensures ok { OnOk result (self.new ≡ record self.old { disk = then_stands self.old.disk (done (Writing path.now (record { bytes = bytes.now; mode = mode })) self.old.disk.current); calls = self.old.calls ++ call_of true (Writing path.now (record { bytes = bytes.now; mode = mode })) ∷ [] }) }
         ensures calls { OnErr result (IsLogged FilesOp.Write path.now self.old.calls self.new.calls result) }
         ensures err { OnErr result (self.new ≡ record self.old { calls = self.new.calls }) }
     {
         self.begin(FilesOp::Write, path)?;
         let bytes = Text::from_bytes(self.alloc, bytes)?;
-        let now = self.standing.copy()?;
-        let standing = now.written(self.alloc, path, Stored { bytes, mode })?;
-        self.stand(FilesOp::Write, path, standing)?;
+        let now = self.current.copy()?;
+        let current = now.written(self.alloc, path, Stored { bytes, mode })?;
+        self.stand(FilesOp::Write, path, current)?;
         Ok(())
     }
 
     fn sync_call(&mut self, path: &Text) -> Result<(), FilesError>
         ensures fails { FilesFailsWhere (fails_next self.old) result }
-        ensures ok { OnOk result (self.new ≡ record self.old { disk = then_stands self.old.disk (done (Syncing path.now) self.old.disk.standing); calls = self.old.calls ++ call_of true (Syncing path.now) ∷ [] }) }
+        ensures ok { OnOk result (self.new ≡ record self.old { disk = then_stands self.old.disk (done (Syncing path.now) self.old.disk.current); calls = self.old.calls ++ call_of true (Syncing path.now) ∷ [] }) }
         ensures calls { OnErr result (IsLogged FilesOp.Sync path.now self.old.calls self.new.calls result) }
         ensures err { OnErr result (self.new ≡ record self.old { calls = self.new.calls }) }
     {
         self.begin(FilesOp::Sync, path)?;
-        let standing = self.standing.copy()?.synced(path);
-        self.stand(FilesOp::Sync, path, standing)?;
+        let current = self.current.copy()?.synced(path);
+        self.stand(FilesOp::Sync, path, current)?;
         Ok(())
     }
 
     fn rename_call(&mut self, from: &Text, to: &Text) -> Result<(), FilesError>
         ensures fails { FilesFailsWhere (fails_next self.old || is_none (file_at self.old.disk from.now)) result }
-        ensures ok { OnOk result (self.new ≡ record self.old { disk = then_stands self.old.disk (done (Renaming from.now to.now) self.old.disk.standing); calls = self.old.calls ++ call_of true (Renaming from.now to.now) ∷ [] }) }
+        ensures ok { OnOk result (self.new ≡ record self.old { disk = then_stands self.old.disk (done (Renaming from.now to.now) self.old.disk.current); calls = self.old.calls ++ call_of true (Renaming from.now to.now) ∷ [] }) }
         ensures calls { OnErr result (IsLogged FilesOp.Rename to.now self.old.calls self.new.calls result) }
         ensures err { OnErr result (self.new ≡ record self.old { calls = self.new.calls }) }
     {
         self.begin(FilesOp::Rename, to)?;
         match self.file_at(from)? {
             Some(file) => {
-                let now = self.standing.copy()?;
-                let standing = now.renamed(self.alloc, from, to, file)?;
-                self.stand(FilesOp::Rename, to, standing)?;
+                let now = self.current.copy()?;
+                let current = now.renamed(self.alloc, from, to, file)?;
+                self.stand(FilesOp::Rename, to, current)?;
                 Ok(())
             }
             None => {
@@ -286,27 +286,27 @@ impl MemFiles {
     fn sync_names_call(&mut self, no_path: &Text) -> Result<(), FilesError>
         requires { no_path.now ≡ [] }
         ensures fails { FilesFailsWhere (fails_next self.old) result }
-        ensures ok { OnOk result (self.new ≡ record self.old { disk = then_stands self.old.disk (done (SyncingNames) self.old.disk.standing); calls = self.old.calls ++ call_of true (SyncingNames) ∷ [] }) }
+        ensures ok { OnOk result (self.new ≡ record self.old { disk = then_stands self.old.disk (done (SyncingNames) self.old.disk.current); calls = self.old.calls ++ call_of true (SyncingNames) ∷ [] }) }
         ensures calls { OnErr result (IsLogged FilesOp.SyncNames no_path.now self.old.calls self.new.calls result) }
         ensures err { OnErr result (self.new ≡ record self.old { calls = self.new.calls }) }
     {
         self.begin(FilesOp::SyncNames, no_path)?;
-        let now = self.standing.copy()?;
-        let standing = now.names_synced(self.alloc)?;
-        self.stand(FilesOp::SyncNames, no_path, standing)?;
+        let now = self.current.copy()?;
+        let current = now.names_synced(self.alloc)?;
+        self.stand(FilesOp::SyncNames, no_path, current)?;
         Ok(())
     }
 
     fn remove_call(&mut self, path: &Text) -> Result<(), FilesError>
         ensures fails { FilesFailsWhere (fails_next self.old) result }
-        ensures ok { OnOk result (self.new ≡ record self.old { disk = then_stands self.old.disk (done (Removing path.now) self.old.disk.standing); calls = self.old.calls ++ call_of true (Removing path.now) ∷ [] }) }
+        ensures ok { OnOk result (self.new ≡ record self.old { disk = then_stands self.old.disk (done (Removing path.now) self.old.disk.current); calls = self.old.calls ++ call_of true (Removing path.now) ∷ [] }) }
         ensures calls { OnErr result (IsLogged FilesOp.Remove path.now self.old.calls self.new.calls result) }
         ensures err { OnErr result (self.new ≡ record self.old { calls = self.new.calls }) }
     {
         self.begin(FilesOp::Remove, path)?;
-        let now = self.standing.copy()?;
-        let standing = now.removed(self.alloc, path)?;
-        self.stand(FilesOp::Remove, path, standing)?;
+        let now = self.current.copy()?;
+        let current = now.removed(self.alloc, path)?;
+        self.stand(FilesOp::Remove, path, current)?;
         Ok(())
     }
 }

@@ -14,14 +14,14 @@ use Rattle.dc_item.specs.declared.op.Op.TheVariants.{SetField}
 use Rattle.dc_item.proofs.AfterLemmas.{after_gone}
 use Rattle.dc_layer.specs.State.{LayerState}
 use Rattle.dc_store.specs.Plans.{StoreState, look}
-use Rattle.dc_store.specs.Rows.{Write, AreDistinct, AllDistinct, AreOver, names_of, is_refused, all_done}
+use Rattle.dc_store.specs.Batches.{Write, AreDistinct, AllDistinct, AreOver, names_of, is_refused, all_done}
 use Rattle.dc_store.proofs.LawLemmas.{changeable_taken}
 use Rattle.dc_question.specs.Changes.{value_write, values_set}
-use Rattle.dc_question.specs.Questions.{Setting, IsSetOver, kind, can_change}
+use Rattle.dc_question.specs.Questions.{QuestionContext, IsSetOver, kind, can_change}
 use Rattle.dc_question.proofs.ApartLemmas.{no_pairs}
 use Rattle.dc_question.proofs.RefusalLemmas.{row_left}
 
-module _ (ls : List LayerState) (at : Setting) where
+module _ (ls : List LayerState) (at : QuestionContext) where
   pub values_over : (answers : List (List ℕ × List ℕ)) (count : ℕ) → IsSetOver at count → AreOver (each (value_write ls at) answers) count
   values_over answers count over = All-map (λ (w : Write). IsOver w.plan count) (value_write ls at) answers (λ k d h. over.config)
 
@@ -49,11 +49,11 @@ set_stays key value None e = cc
 set_stays key value (Some parts) e = (after_gone (SetField key value) parts).0 e
 
 -- the write that gives one its value isn't refused
-value_taken : (ls : List LayerState) (at : Setting) (a : List ℕ × List ℕ) → can_change ls at a.0 ≡ true → is_refused ls (value_write ls at a) ≡ false
+value_taken : (ls : List LayerState) (at : QuestionContext) (a : List ℕ × List ℕ) → can_change ls at a.0 ≡ true → is_refused ls (value_write ls at a) ≡ false
 value_taken ls at a h =
     ap not (changeable_taken ls (places at.config.base) a.0 (kind ls at a.0) (SetField (codes "value") (settled a.1)) h (set_stays (codes "value") (settled a.1) (look ls at.config a.0)))
 
-values_taken : (ls : List LayerState) (at : Setting) (answers : List (List ℕ × List ℕ)) → All (λ a. can_change ls at a.0 ≡ true) answers
+values_taken : (ls : List LayerState) (at : QuestionContext) (answers : List (List ℕ × List ℕ)) → All (λ a. can_change ls at a.0 ≡ true) answers
     → list_any (is_refused ls) (each (value_write ls at) answers) ≡ false
 values_taken ls at [] all = refl
 values_taken ls at (a ∷ answers) all =
@@ -61,6 +61,6 @@ values_taken ls at (a ∷ answers) all =
     ∙ values_taken ls at answers (All-tail (λ a. can_change ls at a.0 ≡ true) a answers all)
 
 -- all of them get their values
-pub values_left : (store : StoreState) (at : Setting) (answers : List (List ℕ × List ℕ)) → All (λ a. can_change store.layers at a.0 ≡ true) answers
+pub values_left : (store : StoreState) (at : QuestionContext) (answers : List (List ℕ × List ℕ)) → All (λ a. can_change store.layers at a.0 ≡ true) answers
     → values_set store at answers ≡ Ok (all_done store (each (value_write store.layers at) answers))
 values_left store at answers all = row_left store (each (λ a. a.0) answers) (each (value_write store.layers at) answers) (values_taken store.layers at answers all)

@@ -6,7 +6,7 @@ use Rattle.std.proofs.lemmas.List.Elements.{All-nil, All-cons, All-contains}
 use Rattle.std.proofs.lemmas.List.Kept.{AllPairs-cons}
 use Rattle.dc_conf.specs.declared.plans.Plan.{Plan}
 use Rattle.dc_conf.specs.Plans.{are_disjoint}
-use Rattle.dc_store.specs.Rows.{Write, all_places, AreApart, AreDistinct, AllDistinct}
+use Rattle.dc_store.specs.Batches.{Write, all_places, AreApart, AreDistinct, AllDistinct}
 
 all_pass : {X : Type 0} (p : X → Bool) (xs : List X) → list_all p xs ≡ true → All (λ x. p x ≡ true) xs
 all_pass p [] e = All-nil (λ x. p x ≡ true)

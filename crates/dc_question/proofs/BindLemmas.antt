@@ -9,11 +9,11 @@ use Rattle.dc_template.specs.declared.kinds.Kind.{Kind}
 use Rattle.dc_conf.specs.Plans.{IsOver, are_disjoint}
 use Rattle.dc_layer.specs.State.{LayerState}
 use Rattle.dc_store.specs.Plans.{StoreState}
-use Rattle.dc_store.specs.Rows.{Write, AllDistinct}
-use Rattle.dc_question.specs.Changes.{row_for, Does}
+use Rattle.dc_store.specs.Batches.{Write, AllDistinct}
+use Rattle.dc_question.specs.Changes.{batch_for, Does}
 use Rattle.dc_question.specs.KindsLeft.{with_kinds, write_by}
-use Rattle.dc_question.specs.Ownership.{template_write, write_beside, binding, bind_row, has_other_template, register_row, registered}
-use Rattle.dc_question.specs.Questions.{Setting, IsSetOver, question, named_template, read_template}
+use Rattle.dc_question.specs.Ownership.{template_write, write_beside, binding, bind_batch, has_other_template, register_batch, registered}
+use Rattle.dc_question.specs.Questions.{QuestionContext, IsSetOver, question, named_template, read_template}
 use Rattle.dc_question.specs.declared.errors.QuestionError.{QuestionError}
 use Rattle.dc_question.specs.declared.errors.QuestionError.TheVariants.{Twice}
 use Rattle.dc_question.proofs.ApartLemmas.{apart_too, two_distinct}
@@ -21,7 +21,7 @@ use Rattle.dc_question.proofs.KindLemmas.{beside}
 
 -- ---- two writes are added
 
-module _ (ls : List LayerState) (at : Setting) where
+module _ (ls : List LayerState) (at : QuestionContext) where
   pub as_written : (t : List ℕ) (op : Op) (questions : List (List ℕ)) (first : Write) → first ≡ template_write ls at t op questions → first ≡ template_write ls at first.name first.op questions
   as_written t op questions first f = f ∙ sym (λ i. template_write ls at (f i).name (f i).op questions)
 
@@ -34,25 +34,25 @@ module _ (ls : List LayerState) (at : Setting) where
     bound_beside kinds item b second k q bi s =
         s ∙ (λ i. write_by ls at (k i) n ((bi ∙ ap (binding first.name o) q) i)) ∙ beside ls at (first ∷ []) n (binding first.name o (question ls at n))
 
-    pub both_added : (second : Write) (old row whole : List Write) → first ≡ template_write ls at first.name first.op (n ∷ [])
-        → second ≡ write_beside ls at (first ∷ []) n (binding first.name o (question ls at n)) → row ≡ old ++ first ∷ [] → whole ≡ row ++ second ∷ []
-        → whole ≡ old ++ bind_row ls at first.name first.op n o
-    both_added second old row whole f s r w =
+    pub both_added : (second : Write) (old batch whole : List Write) → first ≡ template_write ls at first.name first.op (n ∷ [])
+        → second ≡ write_beside ls at (first ∷ []) n (binding first.name o (question ls at n)) → batch ≡ old ++ first ∷ [] → whole ≡ batch ++ second ∷ []
+        → whole ≡ old ++ bind_batch ls at first.name first.op n o
+    both_added second old batch whole f s r w =
         let last : second ≡ write_beside ls at (template_write ls at first.name first.op (n ∷ []) ∷ []) n (binding first.name o (question ls at n))
         = s ∙ ap (λ x. write_beside ls at (x ∷ []) n (binding first.name o (question ls at n))) f in
         w ∙ ap (λ l. l ++ second ∷ []) r ∙ append_assoc old (first ∷ []) (second ∷ []) ∙ (λ i. old ++ f i ∷ last i ∷ [])
 
-    pub added_for : (t : List ℕ) (op : Op) (old whole : List Write) → first ≡ template_write ls at t op (n ∷ []) → whole ≡ old ++ bind_row ls at first.name first.op n o
-        → whole ≡ old ++ bind_row ls at t op n o
-    added_for t op old whole f w = w ∙ (λ i. old ++ bind_row ls at (f i).name (f i).op n o)
+    pub added_for : (t : List ℕ) (op : Op) (old whole : List Write) → first ≡ template_write ls at t op (n ∷ []) → whole ≡ old ++ bind_batch ls at first.name first.op n o
+        → whole ≡ old ++ bind_batch ls at t op n o
+    added_for t op old whole f w = w ∙ (λ i. old ++ bind_batch ls at (f i).name (f i).op n o)
 
-pub bound_distinct : (ls : List LayerState) (at : Setting) (t n o : List ℕ) (op : Op) (row : List Write) → are_disjoint at.config at.templates ≡ true → row ≡ bind_row ls at t op n o → AllDistinct row
-bound_distinct ls at t n o op row h is = subst AllDistinct (sym is) (two_distinct _ _ (inr (apart_too at.config at.templates h)))
+pub bound_distinct : (ls : List LayerState) (at : QuestionContext) (t n o : List ℕ) (op : Op) (batch : List Write) → are_disjoint at.config at.templates ≡ true → batch ≡ bind_batch ls at t op n o → AllDistinct batch
+bound_distinct ls at t n o op batch h is = subst AllDistinct (sym is) (two_distinct _ _ (inr (apart_too at.config at.templates h)))
 
 -- the same row for the same questions
-pub does_row : {A : Type 0} (r : Result A QuestionError) (old new : StoreState) (names others : List (List ℕ)) (row rows : List Write)
-    → names ≡ others → row ≡ rows → Does r (row_for old names row) old new → Does r (row_for old others rows) old new
-does_row r old new names others row rows a b = subst (λ x. Does r x old new) (λ i. row_for old (a i) (b i))
+pub does_row : {A : Type 0} (r : Result A QuestionError) (old new : StoreState) (names others : List (List ℕ)) (batch batches : List Write)
+    → names ≡ others → batch ≡ batches → Does r (batch_for old names batch) old new → Does r (batch_for old others batches) old new
+does_row r old new names others batch batches a b = subst (λ x. Does r x old new) (λ i. batch_for old (a i) (b i))
 
 pub does_same : {A : Type 0} (r : Result A QuestionError) (old new : StoreState) (a b : Result StoreState QuestionError) → a ≡ b → Does r a old new → Does r b old new
 does_same r old new a b is = subst (λ x. Does r x old new) is
@@ -62,14 +62,14 @@ there : {A : Type 0} (n t t' : List ℕ) (found : Option ItemParts) (answer : Re
 there n t t' None answer h = absurd (cc)
 there n t t' (Some item) answer h = (cc, refl)
 
-pub registers : (old : StoreState) (at : Setting) (t n o t' : List ℕ) (found : Option (List ℕ)) (item : Option ItemParts) (has : Bool)
+pub registers : (old : StoreState) (at : QuestionContext) (t n o t' : List ℕ) (found : Option (List ℕ)) (item : Option ItemParts) (has : Bool)
     → found ≡ option_map (λ _. t) (named_template old.layers at t) → found ≡ Some t' → item ≡ question old.layers at n → has ≡ has_other_template t' item → has ≡ false
-    → row_for old (n ∷ []) (register_row old.layers at t' n o) ≡ registered old at t n o
+    → batch_for old (n ∷ []) (register_batch old.layers at t' n o) ≡ registered old at t n o
 registers old at t n o t' found item has named some q other none =
     let answer : Result StoreState QuestionError
-    = if has_other_template t (question old.layers at n) then Err (Twice n) else row_for old (n ∷ []) (register_row old.layers at t n o) in
+    = if has_other_template t (question old.layers at n) then Err (Twice n) else batch_for old (n ∷ []) (register_batch old.layers at t n o) in
     let is = there n t t' (named_template old.layers at t) answer (sym named ∙ some) in
     let bare : has_other_template t (question old.layers at n) ≡ false = (λ i. has_other_template (sym is.0 i) (sym q i)) ∙ sym other ∙ none in
-    ap (λ x. row_for old (n ∷ []) (register_row old.layers at x n o)) is.0
-    ∙ ap (λ b. if b then Err (Twice n) else row_for old (n ∷ []) (register_row old.layers at t n o)) (sym bare)
+    ap (λ x. batch_for old (n ∷ []) (register_batch old.layers at x n o)) is.0
+    ∙ ap (λ b. if b then Err (Twice n) else batch_for old (n ∷ []) (register_batch old.layers at t n o)) (sym bare)
     ∙ is.1

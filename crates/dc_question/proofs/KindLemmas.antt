@@ -22,10 +22,10 @@ use Rattle.dc_template.specs.declared.kinds.Kind.{Kind}
 use Rattle.dc_conf.specs.declared.plans.Plan.{Plan}
 use Rattle.dc_layer.specs.State.{LayerState}
 use Rattle.dc_store.specs.Plans.{look, look_below, look_after, seen_after}
-use Rattle.dc_store.specs.Rows.{Write, is_refused}
+use Rattle.dc_store.specs.Batches.{Write, is_refused}
 use Rattle.dc_question.specs.KindsLeft.{kind_left, with_kind, with_kinds, known_kind, item_kind, write_by, is_on_owners}
 use Rattle.dc_question.specs.Ownership.{is_gone, kept_after, is_taken_on, template_then, write_beside}
-use Rattle.dc_question.specs.Questions.{Setting}
+use Rattle.dc_question.specs.Questions.{QuestionContext}
 use Rattle.dc_template.specs.Kinds.{kind_of}
 use Rattle.dc_question.specs.Readings.{kind_by, template_of}
 
@@ -55,7 +55,7 @@ ReadsFields f = (i j : ItemParts) → i.fields ≡ j.fields → f (Some i) ≡ f
 pub kind_reads : ReadsFields kind_by
 kind_reads i j e = ap (λ fields. option_and_then kind_of (get fields (codes "type"))) e
 
-pub item_kind_reads : (ls : List LayerState) (at : Setting) (kinds : Texts (Option Kind)) → ReadsFields (item_kind ls at kinds)
+pub item_kind_reads : (ls : List LayerState) (at : QuestionContext) (kinds : Texts (Option Kind)) → ReadsFields (item_kind ls at kinds)
 item_kind_reads ls at kinds i j e = ap (λ fields. option_and_then (known_kind ls at kinds) (get fields (codes "template"))) e
 
 module _ {A : Type 0} (f : Option ItemParts → A) (reads : ReadsFields f) where
@@ -161,13 +161,13 @@ fresh_or None x h = refl
 fresh_or (Some y) x h = cc
 
 -- what a taken write to the name leaves
-abbrev left_to : List LayerState → Setting → List ℕ → Option Write → Option (Option Kind)
+abbrev left_to : List LayerState → QuestionContext → List ℕ → Option Write → Option (Option Kind)
 left_to ls at name found = option_map (λ (w : Write). kind_left ls at name w.op) found
 
-abbrev by_write : List LayerState → Setting → Write → List ℕ → Bool → Option (Option Kind)
+abbrev by_write : List LayerState → QuestionContext → Write → List ℕ → Bool → Option (Option Kind)
 by_write ls at w name b = cond b (Some (kind_left ls at name w.op)) None
 
-module _ (ls : List LayerState) (at : Setting) (kinds : Texts (Option Kind)) (w : Write) (name : List ℕ) where
+module _ (ls : List LayerState) (at : QuestionContext) (kinds : Texts (Option Kind)) (w : Write) (name : List ℕ) where
   -- the name has a kind already
   there_first : contains_key kinds w.name ≡ true → (same : Bool) → bytes_eq name w.name ≡ same → (b : Bool) → get kinds name ≡ option_or (get kinds name) (by_write ls at w name (same && b))
   there_first has false other b = or_none (get kinds name)
@@ -197,53 +197,53 @@ module _ (ls : List LayerState) (at : Setting) (kinds : Texts (Option Kind)) (w 
   with_kind_is : get (with_kind ls at kinds w) name ≡ option_or (get kinds name) (by_write ls at w name (is_taken_on ls name w))
   with_kind_is = by_cases (contains_key kinds w.name) (is_refused ls w) refl refl
 
-or_then : (ls : List LayerState) (at : Setting) (name : List ℕ) (w : Write) (had : Option (Option Kind)) (taken : Bool) (rest : Option Write)
+or_then : (ls : List LayerState) (at : QuestionContext) (name : List ℕ) (w : Write) (had : Option (Option Kind)) (taken : Bool) (rest : Option Write)
     → option_or (option_or had (by_write ls at w name taken)) (left_to ls at name rest) ≡ option_or had (left_to ls at name (cond taken (Some w) rest))
 or_then ls at name w (Some k) taken rest = refl
 or_then ls at name w None true rest = refl
 or_then ls at name w None false rest = refl
 
-kinds_are : (ls : List LayerState) (at : Setting) (row : List Write) (kinds : Texts (Option Kind)) (name : List ℕ)
-    → get (with_kinds ls at kinds row) name ≡ option_or (get kinds name) (left_to ls at name (find (is_taken_on ls name) row))
+kinds_are : (ls : List LayerState) (at : QuestionContext) (batch : List Write) (kinds : Texts (Option Kind)) (name : List ℕ)
+    → get (with_kinds ls at kinds batch) name ≡ option_or (get kinds name) (left_to ls at name (find (is_taken_on ls name) batch))
 kinds_are ls at [] kinds name = or_none (get kinds name)
-kinds_are ls at (w ∷ row) kinds name =
-    kinds_are ls at row (with_kind ls at kinds w) name
-    ∙ ap (λ o. option_or o (left_to ls at name (find (is_taken_on ls name) row))) (with_kind_is ls at kinds w name)
-    ∙ or_then ls at name w (get kinds name) (is_taken_on ls name w) (find (is_taken_on ls name) row)
+kinds_are ls at (w ∷ batch) kinds name =
+    kinds_are ls at batch (with_kind ls at kinds w) name
+    ∙ ap (λ o. option_or o (left_to ls at name (find (is_taken_on ls name) batch))) (with_kind_is ls at kinds w name)
+    ∙ or_then ls at name w (get kinds name) (is_taken_on ls name w) (find (is_taken_on ls name) batch)
 
 -- ---- a write beside others
 
-module _ (ls : List LayerState) (at : Setting) (row : List Write) where
+module _ (ls : List LayerState) (at : QuestionContext) (batch : List Write) where
   abbrev kinds : Texts (Option Kind)
-  kinds = with_kinds ls at empty row
+  kinds = with_kinds ls at empty batch
 
-  left : (name : List ℕ) → get kinds name ≡ left_to ls at name (find (is_taken_on ls name) row)
-  left name = kinds_are ls at row empty name ∙ ap (λ o. option_or o (left_to ls at name (find (is_taken_on ls name) row))) (get-empty text_cmp name)
+  left : (name : List ℕ) → get kinds name ≡ left_to ls at name (find (is_taken_on ls name) batch)
+  left name = kinds_are ls at batch empty name ∙ ap (λ o. option_or o (left_to ls at name (find (is_taken_on ls name) batch))) (get-empty text_cmp name)
 
   chosen : (name : List ℕ) (found : Option Write) (before : Option ItemParts)
       → unwrap_or (left_to ls at name found) (kind_by before) ≡ kind_by (option_map_or (λ w. look_after ls at.templates name w.op) found before)
   chosen name None before = refl
   chosen name (Some w) before = refl
 
-  kind_known : (name : List ℕ) → known_kind ls at kinds name ≡ kind_by (template_then ls at row name)
+  kind_known : (name : List ℕ) → known_kind ls at kinds name ≡ kind_by (template_then ls at batch name)
   kind_known name =
-      ap (λ o. unwrap_or o (kind_by (look ls at.templates name))) (left name) ∙ chosen name (find (is_taken_on ls name) row) (look ls at.templates name)
+      ap (λ o. unwrap_or o (kind_by (look ls at.templates name))) (left name) ∙ chosen name (find (is_taken_on ls name) batch) (look ls at.templates name)
 
-  kind_of_name : (name : Option (List ℕ)) → option_and_then (known_kind ls at kinds) name ≡ kind_by (option_and_then (template_then ls at row) name)
+  kind_of_name : (name : Option (List ℕ)) → option_and_then (known_kind ls at kinds) name ≡ kind_by (option_and_then (template_then ls at batch) name)
   kind_of_name None = refl
   kind_of_name (Some name) = kind_known name
 
-  kind_of_item : (item : Option ItemParts) → item_kind ls at kinds item ≡ option_and_then (λ i. kind_by (template_of (template_then ls at row) i)) item
+  kind_of_item : (item : Option ItemParts) → item_kind ls at kinds item ≡ option_and_then (λ i. kind_by (template_of (template_then ls at batch) i)) item
   kind_of_item None = refl
   kind_of_item (Some i) = kind_of_name (get i.fields (codes "template"))
 
   -- a write by the kinds that others leave is the write beside them
-  pub beside : (name : List ℕ) (op : Op) → write_by ls at kinds name op ≡ write_beside ls at row name op
-  beside name op = ap (λ k. record { plan = at.config; name = name; kind = k; op = op; behalf = name ∷ [] }) (kind_of_item (look_after ls at.config name op))
+  pub beside : (name : List ℕ) (op : Op) → write_by ls at kinds name op ≡ write_beside ls at batch name op
+  beside name op = ap (λ k. record { plan = at.config; name = name; kind = k; op = op; reported_for = name ∷ [] }) (kind_of_item (look_after ls at.config name op))
 
 -- ---- the kind that one write leaves
 
-module _ (ls : List LayerState) (at : Setting) (w : Write) (refused : Bool) (is : refused ≡ is_refused ls w) where
+module _ (ls : List LayerState) (at : QuestionContext) (w : Write) (refused : Bool) (is : refused ≡ is_refused ls w) where
   fresh : contains_key (empty {K = List ℕ} {X = Option Kind} {R = text_cmp}) w.name ≡ false
   fresh = ap is_some (get-empty text_cmp w.name)
 
@@ -255,7 +255,7 @@ module _ (ls : List LayerState) (at : Setting) (w : Write) (refused : Bool) (is 
       (λ i. insert empty (n i) (k i)) ∙ sym (λ i. if fresh i || (sym is ∙ h) i then empty else insert empty w.name (kind_left ls at w.name w.op))
 
 -- the kind by which a write is tested that puts an item is the one that it leaves
-pub put_taken : (ls : List LayerState) (at : Setting) (w : Write) (made : ItemParts) → w.op ≡ Put made
+pub put_taken : (ls : List LayerState) (at : QuestionContext) (w : Write) (made : ItemParts) → w.op ≡ Put made
     → w.kind ≡ kind_by (kept_after (look ls at.templates w.name) (after_at w.op (look ls at.templates w.name))) → w.kind ≡ kind_left ls at w.name w.op
 put_taken ls at w made op k = k ∙ sym (put_kept kind_by kind_reads w.op made (look ls at.templates w.name) op) ∙ put_seen kind_by kind_reads ls at.templates w.name w.op made op
 

@@ -17,11 +17,11 @@ use Rattle.dc_template.specs.declared.kinds.Kind.{Kind}
 use Rattle.dc_conf.specs.Plans.{IsOver, are_disjoint}
 use Rattle.dc_layer.specs.State.{LayerState}
 use Rattle.dc_store.specs.Plans.{has_below, look, is_owned, owned, names}
-use Rattle.dc_store.specs.Rows.{Write, AreDistinct, AllDistinct, AreOver}
+use Rattle.dc_store.specs.Batches.{Write, AreDistinct, AllDistinct, AreOver}
 use Rattle.dc_question.specs.KindsLeft.{with_kinds, write_by}
 use Rattle.dc_question.specs.Losses.{pairs_lost, behind, grouped, losses_of}
-use Rattle.dc_question.specs.Ownership.{template_write, write_beside, is_gone, goes_with, loser_of, losers, lost_by, losses, leave_row}
-use Rattle.dc_question.specs.Questions.{Setting, IsSetOver, question, read}
+use Rattle.dc_question.specs.Ownership.{template_write, write_beside, is_gone, goes_with, loser_of, losers, lost_by, losses, leave_batch}
+use Rattle.dc_question.specs.Questions.{QuestionContext, IsSetOver, question, read}
 use Rattle.dc_question.specs.declared.errors.QuestionError.{QuestionError}
 use Rattle.dc_question.proofs.ApartLemmas.{apart, no_pairs}
 use Rattle.dc_question.proofs.KindLemmas.{beside}
@@ -41,7 +41,7 @@ filter_map_more h xs i x lt is =
 
 -- ---- which questions go
 
-pub goes_is : (ls : List LayerState) (at : Setting) (o n : List ℕ) (owners : List (List ℕ)) (item : Option ItemParts) (goes lower : Bool)
+pub goes_is : (ls : List LayerState) (at : QuestionContext) (o n : List ℕ) (owners : List (List ℕ)) (item : Option ItemParts) (goes lower : Bool)
     → owners ≡ o ∷ [] → item ≡ question ls at n → goes ≡ is_gone (after_at (DropOwners owners) item) → lower ≡ has_below ls at.config n → (goes && not lower) ≡ goes_with ls at o n
 goes_is ls at o n owners item goes lower os is m b =
     (λ i. m i && not (b i)) ∙ (λ i. is_gone (after_at (DropOwners (os i)) (is i)) && not (has_below ls at.config n))
@@ -52,7 +52,7 @@ each_each : {X Y Z : Type 0} (f : Y → Z) (g : X → Y) (xs : List X) → each 
 each_each f g [] = refl
 each_each f g (x ∷ xs) = ap (λ l. f (g x) ∷ l) (each_each f g xs)
 
-module _ (ls : List LayerState) (at : Setting) (o : List ℕ) where
+module _ (ls : List LayerState) (at : QuestionContext) (o : List ℕ) where
   abbrev behind_own : List ℕ → Option (List ℕ) → Option (List ℕ × List ℕ)
   behind_own n loser = option_map (λ t. (t, n)) loser
 
@@ -82,14 +82,14 @@ module _ (ls : List LayerState) (at : Setting) (o : List ℕ) where
       each_each (λ (g : List ℕ × List (List ℕ)). loss g.0 g.1) (λ t. (t, behind t (pairs_lost ls at o ns))) (keys (set_of (each (λ p. p.0) (pairs_lost ls at o ns))))
       ∙ (λ i. each (λ t. loss t (behind_is t ns i)) (keys (set_of (firsts_are ns i))))
 
-  pub losses_made : (ns : List (List ℕ)) (pairs : List (List ℕ × List ℕ)) (groups : List (List ℕ × List (List ℕ))) (row : List Write)
-      → pairs ≡ pairs_lost ls at o ns → groups ≡ grouped pairs → row ≡ losses_of ls at groups → row ≡ losses ls at o ns
-  losses_made ns pairs groups row p g r = r ∙ ap (losses_of ls at) (g ∙ ap grouped p) ∙ losses_are ns
+  pub losses_made : (ns : List (List ℕ)) (pairs : List (List ℕ × List ℕ)) (groups : List (List ℕ × List (List ℕ))) (batch : List Write)
+      → pairs ≡ pairs_lost ls at o ns → groups ≡ grouped pairs → batch ≡ losses_of ls at groups → batch ≡ losses ls at o ns
+  losses_made ns pairs groups batch p g r = r ∙ ap (losses_of ls at) (g ∙ ap grouped p) ∙ losses_are ns
 
   -- ---- the row
 
   pub row_left : (ns : List (List ℕ)) (kinds : Texts (Option Kind)) (lost first whole : List Write) → lost ≡ losses ls at o ns → kinds ≡ with_kinds ls at empty lost
-      → first ≡ each (λ n. write_by ls at kinds n (DropOwners (o ∷ []))) ns → whole ≡ first ++ lost → whole ≡ leave_row ls at o ns
+      → first ≡ each (λ n. write_by ls at kinds n (DropOwners (o ∷ []))) ns → whole ≡ first ++ lost → whole ≡ leave_batch ls at o ns
   row_left ns kinds lost first whole l k f w =
       let beside' : (n : List ℕ) → write_by ls at kinds n (DropOwners (o ∷ [])) ≡ write_beside ls at (losses ls at o ns) n (DropOwners (o ∷ []))
       = λ n. ap (λ m. write_by ls at m n (DropOwners (o ∷ []))) (k ∙ ap (with_kinds ls at empty) l) ∙ beside ls at (losses ls at o ns) n (DropOwners (o ∷ [])) in
@@ -98,7 +98,7 @@ module _ (ls : List LayerState) (at : Setting) (o : List ℕ) where
   pub losses_over : (ns : List (List ℕ)) (count : ℕ) → IsSetOver at count → AreOver (losses ls at o ns) count
   losses_over ns count over = All-map (λ (w : Write). IsOver w.plan count) (λ t. loss t (lost_by ls at o ns t)) (losers ls at o ns) (λ k d h. over.templates)
 
-  pub row_over : (ns : List (List ℕ)) (count : ℕ) → IsSetOver at count → AreOver (leave_row ls at o ns) count
+  pub row_over : (ns : List (List ℕ)) (count : ℕ) → IsSetOver at count → AreOver (leave_batch ls at o ns) count
   row_over ns count over =
       All-append (λ (w : Write). IsOver w.plan count) (each (λ n. write_beside ls at (losses ls at o ns) n (DropOwners (o ∷ []))) ns) (losses ls at o ns)
       (All-map (λ (w : Write). IsOver w.plan count) (λ n. write_beside ls at (losses ls at o ns) n (DropOwners (o ∷ []))) ns (λ k d h. over.config)) (losses_over ns count over)
@@ -116,7 +116,7 @@ module _ (f : List ℕ → Write) (named : (k : List ℕ) → (f k).name ≡ k) 
   each_distinct (k ∷ ks) rest d across r =
       AllPairs-cons AreDistinct (f k) (each f ks ++ rest) (All-append (AreDistinct (f k)) (each f ks) rest (others k ks d.0) (across k)) (each_distinct ks rest d.1 across r)
 
-pub row_distinct : (ls : List LayerState) (at : Setting) (o : List ℕ) (ns : List (List ℕ)) → are_disjoint at.config at.templates ≡ true → AllDiffer ns → AllDistinct (leave_row ls at o ns)
+pub row_distinct : (ls : List LayerState) (at : QuestionContext) (o : List ℕ) (ns : List (List ℕ)) → are_disjoint at.config at.templates ≡ true → AllDiffer ns → AllDistinct (leave_batch ls at o ns)
 row_distinct ls at o ns h d =
     let own : List ℕ → Write = λ n. write_beside ls at (losses ls at o ns) n (DropOwners (o ∷ [])) in
     let lost : List ℕ → Write = λ t. template_write ls at t (DropOwners (lost_by ls at o ns t)) (lost_by ls at o ns t) in
@@ -136,7 +136,7 @@ differ_filter p (x ∷ xs) d = elim (p x) as (λ b. AllDiffer (cond b (x ∷ fil
   | false ↦ differ_filter p xs d.1
 ]
 
-pub owned_differ : (ls : List LayerState) (at : Setting) (o : List ℕ) → AllDiffer (owned ls at.config o)
+pub owned_differ : (ls : List LayerState) (at : QuestionContext) (o : List ℕ) → AllDiffer (owned ls at.config o)
 owned_differ ls at o = differ_filter (λ name. is_owned o (look ls at.config name)) (names ls at.config) (keys_apart _)
 
 -- ---- a question that is there

@@ -14,10 +14,10 @@ use Rattle.dc_template.specs.declared.kinds.Kind.{Kind}
 use Rattle.dc_conf.specs.Plans.{IsOver, are_disjoint}
 use Rattle.dc_layer.specs.State.{LayerState}
 use Rattle.dc_store.specs.Plans.{look}
-use Rattle.dc_store.specs.Rows.{Write, AreDistinct, AllDistinct, AreOver}
+use Rattle.dc_store.specs.Batches.{Write, AreDistinct, AllDistinct, AreOver}
 use Rattle.dc_template.specs.Stanzas.{Stanza}
-use Rattle.dc_question.specs.Ownership.{kept_after, template_write, write_beside, binding, loaded_template, load_row}
-use Rattle.dc_question.specs.Questions.{Setting, IsSetOver, question}
+use Rattle.dc_question.specs.Ownership.{kept_after, template_write, write_beside, binding, loaded_template, load_batch}
+use Rattle.dc_question.specs.Questions.{QuestionContext, IsSetOver, question}
 use Rattle.dc_question.specs.Readings.{kind_by}
 use Rattle.dc_question.proofs.ApartLemmas.{apart_too, no_pairs}
 use Rattle.dc_question.proofs.FieldLemmas.{of_fields}
@@ -44,15 +44,15 @@ load_made t old a b c fields name f n a' b' c' =
 
 -- ---- the write that puts a template
 
-pub put_made : (ls : List LayerState) (at : Setting) (t : Stanza) (old : Option ItemParts) (item : ItemParts) (name : List ℕ) (kind : Kind) → old ≡ look ls at.templates t.name
+pub put_made : (ls : List LayerState) (at : QuestionContext) (t : Stanza) (old : Option ItemParts) (item : ItemParts) (name : List ℕ) (kind : Kind) → old ≡ look ls at.templates t.name
     → item ≡ loaded_template t old → kind_by (Some item) ≡ Some t.kind → name ≡ t.name → kind ≡ t.kind
-    → record { plan = at.templates; name = name; kind = Some kind; op = Put item; behalf = name ∷ [] } ≡ template_write ls at t.name (Put (loaded_template t (look ls at.templates t.name))) (t.name ∷ [])
+    → record { plan = at.templates; name = name; kind = Some kind; op = Put item; reported_for = name ∷ [] } ≡ template_write ls at t.name (Put (loaded_template t (look ls at.templates t.name))) (t.name ∷ [])
 put_made ls at t old item name kind o m k n is =
     let found : Option ItemParts = look ls at.templates t.name in
     let made : item ≡ loaded_template t found = m ∙ ap (loaded_template t) o in
     let tested : Some kind ≡ kind_by (kept_after found (after_at (Put (loaded_template t found)) found))
     = ap Some is ∙ sym k ∙ put_kept kind_by kind_reads (Put item) item found refl ∙ ap (λ i. kind_by (kept_after found (after_at (Put i) found))) made in
-    λ i. record { plan = at.templates; name = n i; kind = tested i; op = Put (made i); behalf = n i ∷ [] }
+    λ i. record { plan = at.templates; name = n i; kind = tested i; op = Put (made i); reported_for = n i ∷ [] }
 
 -- ---- two writes for each template
 
@@ -80,7 +80,7 @@ module _ (first second : Stanza → Write) where
         (All-cons (AreDistinct (first t)) (second t) (flat_map both ts) (apart t) (others (first t) t.name (f_named t) ts d.0))
         (AllPairs-cons AreDistinct (second t) (flat_map both ts) (others (second t) t.name (s_named t) ts d.0) (pairs_distinct apart ts d.1))
 
-module _ (ls : List LayerState) (at : Setting) (o : List ℕ) where
+module _ (ls : List LayerState) (at : QuestionContext) (o : List ℕ) where
   abbrev put : Stanza → Write
   put t = template_write ls at t.name (Put (loaded_template t (look ls at.templates t.name))) (t.name ∷ [])
 
@@ -88,8 +88,8 @@ module _ (ls : List LayerState) (at : Setting) (o : List ℕ) where
   bound t = write_beside ls at (put t ∷ []) t.name (binding t.name o (question ls at t.name))
 
   -- the writes that put templates of distinct names are on different items
-  pub load_distinct : (ts : List Stanza) → are_disjoint at.config at.templates ≡ true → AllDiffer (each (λ t. t.name) ts) → AllDistinct (load_row ls at o ts)
+  pub load_distinct : (ts : List Stanza) → are_disjoint at.config at.templates ≡ true → AllDiffer (each (λ t. t.name) ts) → AllDistinct (load_batch ls at o ts)
   load_distinct ts h d = pairs_distinct put bound (λ t. refl) (λ t. refl) (λ t. inr (apart_too at.config at.templates h)) ts d
 
-  pub load_over : (ts : List Stanza) (count : ℕ) → IsSetOver at count → AreOver (load_row ls at o ts) count
+  pub load_over : (ts : List Stanza) (count : ℕ) → IsSetOver at count → AreOver (load_batch ls at o ts) count
   load_over ts count over = pairs_over put bound count (λ t. over.templates) (λ t. over.config) ts

@@ -18,11 +18,11 @@ use Rattle.dc_item.proofs.AfterLemmas.{parts_eq-Decides}
 use Rattle.dc_item.proofs.ItemLemmas.{contains_key-set_of}
 use Rattle.dc_conf.specs.Plans.{are_disjoint}
 use Rattle.dc_store.specs.Plans.{StoreState, look, look_below, seen_after, is_owned, owned}
-use Rattle.dc_store.specs.Rows.{Write, AreDistinct, is_refused, all_done}
+use Rattle.dc_store.specs.Batches.{Write, AreDistinct, is_refused, all_done}
 use Rattle.dc_store.proofs.ListingLemmas.{is_in, same_text, owned_listed}
 use Rattle.dc_store.proofs.TakenLemmas.{row_stays, row_seen}
-use Rattle.dc_question.specs.Ownership.{template_write, write_beside, losers, lost_by, losses, leave_row, purged}
-use Rattle.dc_question.specs.Questions.{Setting}
+use Rattle.dc_question.specs.Ownership.{template_write, write_beside, losers, lost_by, losses, leave_batch, purged}
+use Rattle.dc_question.specs.Questions.{QuestionContext}
 use Rattle.dc_question.proofs.ApartLemmas.{apart_too}
 use Rattle.dc_question.proofs.LeaveLemmas.{owned_differ}
 use Rattle.dc_question.proofs.RefusalLemmas.{row_taken}
@@ -113,7 +113,7 @@ free_there p (v ∷ before) rest w h = free_there p before rest w ((or_false (p 
   or_false true b e = cc
   or_false false b e = (refl, e)
 
-module _ (store : StoreState) (at : Setting) (owner name : List ℕ) (disjoint : are_disjoint at.config at.templates ≡ true) (alone : at.config.backup ≡ None) where
+module _ (store : StoreState) (at : QuestionContext) (owner name : List ℕ) (disjoint : are_disjoint at.config at.templates ≡ true) (alone : at.config.backup ≡ None) where
   abbrev names : List (List ℕ)
   names = owned store.layers at.config owner
 
@@ -139,9 +139,9 @@ module _ (store : StoreState) (at : Setting) (owner name : List ℕ) (disjoint :
       → is_owned owner (look (all_done store (each own names ++ lost)).layers at.config name) ≡ true → is_owned owner (look_below store.layers at.config name) ≡ true
   had has free seen =
       let p = parts name names (owned_differ store.layers at owner) (owned_listed store.layers at.config owner name has) in
-      let row : each own names ++ lost ≡ each own p.higher ++ own name ∷ (each own p.lower ++ lost) = ap (λ ks. each own ks ++ lost) p.stands ∙ each_parts own p.higher p.lower name lost in
-      let taken = free_there (is_refused store.layers) (each own p.higher) (each own p.lower ++ lost) (own name) (ap (list_any (is_refused store.layers)) (sym row) ∙ free) in
-      let then' = ap (λ r. is_owned owner (look (all_done store r).layers at.config name)) (sym row) ∙ seen in
+      let batch : each own names ++ lost ≡ each own p.higher ++ own name ∷ (each own p.lower ++ lost) = ap (λ ks. each own ks ++ lost) p.stands ∙ each_parts own p.higher p.lower name lost in
+      let taken = free_there (is_refused store.layers) (each own p.higher) (each own p.lower ++ lost) (own name) (ap (list_any (is_refused store.layers)) (sym batch) ∙ free) in
+      let then' = ap (λ r. is_owned owner (look (all_done store r).layers at.config name)) (sym batch) ∙ seen in
       ⊎_elim (λ left. dropped owner (look store.layers at.config name) (look_below store.layers at.config name) (ap (is_owned owner) (sym left) ∙ then'))
       (λ itself. ap (is_owned owner) itself.1 ∙ has)
       (row_seen store (each own p.higher) (each own p.lower ++ lost) (own name) alone taken (own_apart p.higher p.above) (rest_apart p.lower p.below))
@@ -167,5 +167,5 @@ module _ (store : StoreState) (at : Setting) (owner name : List ℕ) (disjoint :
 
   pub purged_below : (new : StoreState) → purged store at owner ≡ Ok new → is_owned owner (look new.layers at.config name) ≡ true → is_owned owner (look_below store.layers at.config name) ≡ true
   purged_below new h seen =
-      let done = row_taken store names (leave_row store.layers at owner names) new h in
+      let done = row_taken store names (leave_batch store.layers at owner names) new h in
       either (is_owned owner (look store.layers at.config name)) refl done.0 (ap (λ (s : StoreState). is_owned owner (look s.layers at.config name)) (sym done.1) ∙ seen)

@@ -3,8 +3,8 @@ use Rattle.std.proofs.Common.{◌≡◌, ℕ, Bool, true, false, List, [], Optio
 use Rattle.std.specs.Prelude.{unwrap_or, if◌then◌else◌}
 use Rattle.std.specs.List.{list_any}
 use Rattle.dc_store.specs.Plans.{StoreState}
-use Rattle.dc_store.specs.Rows.{Write, is_refused, all_done, first_held_up}
-use Rattle.dc_question.specs.Changes.{told_by, row_for}
+use Rattle.dc_store.specs.Batches.{Write, is_refused, all_done, first_refused}
+use Rattle.dc_question.specs.Changes.{told_by, batch_for}
 use Rattle.dc_question.specs.declared.errors.QuestionError.{QuestionError}
 use Rattle.dc_question.specs.declared.errors.QuestionError.TheVariants.{CantChange}
 
@@ -17,16 +17,16 @@ refused_by : (b : Bool) (held : Option (List ℕ)) (done : StoreState) (error : 
 refused_by true held done error h = (refl, cc)
 refused_by false held done error h = cc
 
-module _ (store : StoreState) (names : List (List ℕ)) (row : List Write) where
-  pub row_taken : (new : StoreState) → row_for store names row ≡ Ok new → (list_any (is_refused store.layers) row ≡ false) × (new ≡ all_done store row)
-  row_taken new h = taken_by (list_any (is_refused store.layers) row) (first_held_up store.layers names row) (all_done store row) new h
+module _ (store : StoreState) (names : List (List ℕ)) (batch : List Write) where
+  pub row_taken : (new : StoreState) → batch_for store names batch ≡ Ok new → (list_any (is_refused store.layers) batch ≡ false) × (new ≡ all_done store batch)
+  row_taken new h = taken_by (list_any (is_refused store.layers) batch) (first_refused store.layers names batch) (all_done store batch) new h
 
-  pub row_left : list_any (is_refused store.layers) row ≡ false → row_for store names row ≡ Ok (all_done store row)
-  row_left free = ap (λ b. told_by (first_held_up store.layers names row) (if b then None else Some (all_done store row))) free
+  pub row_left : list_any (is_refused store.layers) batch ≡ false → batch_for store names batch ≡ Ok (all_done store batch)
+  row_left free = ap (λ b. told_by (first_refused store.layers names batch) (if b then None else Some (all_done store batch))) free
 
-  pub row_refused : (error : QuestionError) → row_for store names row ≡ Err error
-      → (list_any (is_refused store.layers) row ≡ true) × (error ≡ CantChange (unwrap_or (first_held_up store.layers names row) []))
-  row_refused error h = refused_by (list_any (is_refused store.layers) row) (first_held_up store.layers names row) (all_done store row) error h
+  pub row_refused : (error : QuestionError) → batch_for store names batch ≡ Err error
+      → (list_any (is_refused store.layers) batch ≡ true) × (error ≡ CantChange (unwrap_or (first_refused store.layers names batch) []))
+  row_refused error h = refused_by (list_any (is_refused store.layers) batch) (first_refused store.layers names batch) (all_done store batch) error h
 
-  pub row_told : list_any (is_refused store.layers) row ≡ true → row_for store names row ≡ Err (CantChange (unwrap_or (first_held_up store.layers names row) []))
-  row_told refused = ap (λ b. told_by (first_held_up store.layers names row) (if b then None else Some (all_done store row))) refused
+  pub row_told : list_any (is_refused store.layers) batch ≡ true → batch_for store names batch ≡ Err (CantChange (unwrap_or (first_refused store.layers names batch) []))
+  row_told refused = ap (λ b. told_by (first_refused store.layers names batch) (if b then None else Some (all_done store batch))) refused

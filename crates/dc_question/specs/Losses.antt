@@ -6,12 +6,12 @@ use Rattle.std.specs.FinMap as map
 use Rattle.dc_text.specs.Maps.{Texts, set_of}
 use Rattle.dc_item.specs.declared.op.Op.TheVariants.{DropOwners}
 use Rattle.dc_layer.specs.State.{LayerState}
-use Rattle.dc_store.specs.Rows.{Write}
+use Rattle.dc_store.specs.Batches.{Write}
 use Rattle.dc_question.specs.Ownership.{template_write, loser_of}
-use Rattle.dc_question.specs.Questions.{Setting}
+use Rattle.dc_question.specs.Questions.{QuestionContext}
 
 -- each question that a template loses with the owner, behind the name of the template
-abbrev pub pairs_lost : List LayerState → Setting → List ℕ → List (List ℕ) → List (List ℕ × List ℕ)
+abbrev pub pairs_lost : List LayerState → QuestionContext → List ℕ → List (List ℕ) → List (List ℕ × List ℕ)
 pairs_lost layers at owner names = filter_map (λ name. option_map (λ t. (t, name)) (loser_of layers at owner name)) names
 
 -- the names that stand behind a name
@@ -27,5 +27,5 @@ abbrev pub held_at : Texts (List (List ℕ)) → List ℕ → List (List ℕ)
 held_at held t = unwrap_or (map.get held t) []
 
 -- the writes by which templates lose questions
-abbrev pub losses_of : List LayerState → Setting → List (List ℕ × List (List ℕ)) → List Write
+abbrev pub losses_of : List LayerState → QuestionContext → List (List ℕ × List (List ℕ)) → List Write
 losses_of layers at groups = each (λ g. template_write layers at g.0 (DropOwners g.1) g.1) groups

@@ -15,39 +15,39 @@ use Rattle.dc_question.specs.declared.errors.QuestionError.{QuestionError}
 use Rattle.dc_question.specs.declared.errors.QuestionError.TheVariants.{NoQuestion, NoTemplate, NoField, OutOfMemory}
 
 -- where questions and templates stand, and the user's language
-pub record Setting : Type 0 where
+pub record QuestionContext : Type 0 where
   pub config : Plan
   pub templates : Plan
   pub lang : List ℕ
 
 -- both plans speak of so many layers
-pub record IsSetOver (at : Setting) (count : ℕ) : Type 0 where
+pub record IsSetOver (at : QuestionContext) (count : ℕ) : Type 0 where
   pub config : IsOver at.config count
   pub templates : IsOver at.templates count
 
 -- ---- what is there
 
 -- the item of a question
-abbrev pub question : List LayerState → Setting → List ℕ → Option ItemParts
+abbrev pub question : List LayerState → QuestionContext → List ℕ → Option ItemParts
 question layers at name = look layers at.config name
 
-abbrev pub exists : List LayerState → Setting → List ℕ → Bool
+abbrev pub exists : List LayerState → QuestionContext → List ℕ → Bool
 exists layers at name = is_some (question layers at name)
 
 -- the template of an item
-abbrev pub template : List LayerState → Setting → ItemParts → Option ItemParts
+abbrev pub template : List LayerState → QuestionContext → ItemParts → Option ItemParts
 template layers at item = template_of (look layers at.templates) item
 
 -- the template of a name; a text that isn't one names none
-abbrev pub named_template : List LayerState → Setting → List ℕ → Option ItemParts
+abbrev pub named_template : List LayerState → QuestionContext → List ℕ → Option ItemParts
 named_template layers at name = if is_name name then look layers at.templates name else None
 
 -- the kind of a question
-abbrev pub kind : List LayerState → Setting → List ℕ → Option Kind
+abbrev pub kind : List LayerState → QuestionContext → List ℕ → Option Kind
 kind layers at name = option_and_then (λ item. kind_by (template layers at item)) (question layers at name)
 
 -- whether a change of it is taken
-abbrev pub can_change : List LayerState → Setting → List ℕ → Bool
+abbrev pub can_change : List LayerState → QuestionContext → List ℕ → Bool
 can_change layers at name = can_change_in layers at.config name (kind layers at name)
 
 -- ---- what it says, or why it says nothing
@@ -68,29 +68,29 @@ read_field None = Err NoField
 read_field (Some text) = Ok text
 
 -- its own value, else its template's default in the user's language, else the empty text
-abbrev pub value : List LayerState → Setting → List ℕ → Result (List ℕ) QuestionError
+abbrev pub value : List LayerState → QuestionContext → List ℕ → Result (List ℕ) QuestionError
 value layers at name = read name (question layers at name) (λ item. Ok (value_of at.lang item (template layers at item)))
 
 -- a field of its template in the user's language
-abbrev pub field : List LayerState → Setting → List ℕ → List ℕ → Result (List ℕ) QuestionError
+abbrev pub field : List LayerState → QuestionContext → List ℕ → List ℕ → Result (List ℕ) QuestionError
 field layers at name key =
     read name (question layers at name) (λ item.
     read_template name (template layers at item) (λ template. read_field (localised at.lang template key)))
 
 -- the same with the question's variables put in
-abbrev pub expanded_field : List LayerState → Setting → List ℕ → List ℕ → Result (List ℕ) QuestionError
+abbrev pub expanded_field : List LayerState → QuestionContext → List ℕ → List ℕ → Result (List ℕ) QuestionError
 expanded_field layers at name key =
     read name (question layers at name) (λ item.
     read_template name (template layers at item) (λ template. read_field (field_of at.lang item template key)))
 
 -- its choices, each with its label
-abbrev pub choices : List LayerState → Setting → List ℕ → Result ChoicePair QuestionError
+abbrev pub choices : List LayerState → QuestionContext → List ℕ → Result ChoicePair QuestionError
 choices layers at name =
     read name (question layers at name) (λ item.
     read_template name (template layers at item) (λ template. Ok (choices_by at.lang item template)))
 
 -- whether a flag of it is true
-abbrev pub flag : List LayerState → Setting → List ℕ → List ℕ → Result Bool QuestionError
+abbrev pub flag : List LayerState → QuestionContext → List ℕ → List ℕ → Result Bool QuestionError
 flag layers at name key = read name (question layers at name) (λ item. Ok (map.contains_key item.flags key))
 
 -- A call answers what is read, unless memory runs out.

@@ -10,7 +10,7 @@ use crate::errors::QuestionError;
 use crate::questions::Questions;
 use dc_item::Op;
 use dc_layer::Layer;
-use dc_store::{Behalf, Row, Write};
+use dc_store::{Batch, ReportedFor, Write};
 use dc_text::{FieldKey, List, Mem, Name, Text, settle};
 use std::alloc::Global;
 
@@ -20,43 +20,43 @@ impl<'q> Questions<'q> {
     /// the first of them that can't be changed. A question that isn't there stays so.
     pub fn set_all(&mut self, answers: &[(Name, Text)]) -> Result<(), QuestionError>
         requires names { AreDistinct (each (λ a. a.0) answers.now) }
-        requires over { IsSetOver self.old.setting (length self.old.store.now.layers.items) }
-        ensures does { Does result (values_set (stored (each (λ b. state (b.vtable, b.value)) self.old.store.now.layers.items) self.old.store.now.told) self.old.setting answers.now) (stored (each (λ b. state (b.vtable, b.value)) self.old.store.now.layers.items) self.old.store.now.told) (stored (each (λ b. state (b.vtable, b.value)) self.new.store.now.layers.items) self.new.store.now.told) }
+        requires over { IsSetOver self.old.context (length self.old.store.now.layers.items) }
+        ensures does { Does result (values_set (stored (each (λ b. state (b.vtable, b.value)) self.old.store.now.layers.items) self.old.store.now.told) self.old.context answers.now) (stored (each (λ b. state (b.vtable, b.value)) self.old.store.now.layers.items) self.old.store.now.told) (stored (each (λ b. state (b.vtable, b.value)) self.new.store.now.layers.items) self.new.store.now.told) }
         ensures others { AreSameButAll (each (λ a. a.0) answers.now) (each (λ b. state (b.vtable, b.value)) self.old.store.now.layers.items) (each (λ b. state (b.vtable, b.value)) self.new.store.now.layers.items) }
         ensures count { length self.new.store.now.layers.items ≡ length self.old.store.now.layers.items }
-        ensures setting { self.new.setting ≡ self.old.setting }
+        ensures context { self.new.context ≡ self.old.context }
         ensures held { self.new.store.ghost_name ≡ self.old.store.ghost_name }
     {
-        let mut row = self.value_row(answers)?;
+        let mut batch = self.value_batch(answers)?;
         let names = names(self.alloc, answers)?;
-        self.do_row(names.as_slice(), &mut row)
+        self.do_batch(names.as_slice(), &mut batch)
     }
 
     // The writes that give the questions their values.
-    fn value_row(&self, answers: &[(Name, Text)]) -> Mem<Row<'q>>
-        requires over { IsSetOver self.now.setting (length self.now.store.now.layers.items) }
-        ensures { IfOk result (λ row. row ≡ each (value_write_of (each (λ b. state (b.vtable, b.value)) self.now.store.now.layers.items) self.now.setting) answers.now) }
+    fn value_batch(&self, answers: &[(Name, Text)]) -> Mem<Batch<'q>>
+        requires over { IsSetOver self.now.context (length self.now.store.now.layers.items) }
+        ensures { IfOk result (λ batch. batch ≡ each (value_write_of (each (λ b. state (b.vtable, b.value)) self.now.store.now.layers.items) self.now.context) answers.now) }
     {
-        let mut row = Row::new(self.alloc);
+        let mut batch = Batch::new(self.alloc);
         for answer in answers {
-            row.push(self.value_write(&answer.0, &answer.1)?)?;
+            batch.push(self.value_write(&answer.0, &answer.1)?)?;
         }
-        Ok(row)
+        Ok(batch)
     }
 
     // The write that gives a question a value.
     fn value_write(&self, name: &Name, value: &Text) -> Mem<Write<'q>>
-        requires over { IsSetOver self.now.setting (length self.now.store.now.layers.items) }
-        ensures { IfOk result (λ w. w ≡ value_write_of (each (λ b. state (b.vtable, b.value)) self.now.store.now.layers.items) self.now.setting (name.now, value.now)) }
+        requires over { IsSetOver self.now.context (length self.now.store.now.layers.items) }
+        ensures { IfOk result (λ w. w ≡ value_write_of (each (λ b. state (b.vtable, b.value)) self.now.store.now.layers.items) self.now.context (name.now, value.now)) }
     {
         let key = FieldKey::known(self.alloc, b"value")?;
         let value = settle(self.alloc, value.bytes())?;
         Ok(Write {
-            plan: self.setting.config,
+            plan: self.context.config,
             name: name.copy()?,
             kind: self.kind(name),
             op: Op::SetField(key, value),
-            behalf: Behalf::Itself,
+            reported_for: ReportedFor::Itself,
         })
     }
 }

@@ -4,7 +4,7 @@ ghost use Rattle.std.specs.FinMap as map;
 ghost use Rattle.std.specs.Option.{option_copied};
 ghost use Rattle.dc_item.specs.After.{after_at};
 ghost use Rattle.dc_conf.specs.Plans.{IsOver};
-ghost use Rattle.dc_store.specs.Rows.{AreOver, is_refused};
+ghost use Rattle.dc_store.specs.Batches.{AreOver, is_refused};
 ghost use Rattle.dc_question.specs.KindsLeft.{kind_left as kind_left_of, with_kind, with_kinds, item_kind as item_kind_of, write_by, is_on_owners as is_on_owners_of};
 ghost use Rattle.dc_question.specs.Ownership.{kept_after, template_write, is_gone};
 ghost use Rattle.dc_question.specs.Questions.{IsSetOver};
@@ -16,7 +16,7 @@ use crate::questions::Questions;
 use crate::values::kind;
 use dc_item::{After, Effect, Item, Op};
 use dc_layer::Layer;
-use dc_store::{Behalf, Write};
+use dc_store::{ReportedFor, Write};
 use dc_template::Kind;
 use dc_text::{List, Mem, Name, TextMap};
 use std::alloc::Global;
@@ -24,23 +24,23 @@ use std::alloc::Global;
 impl<'q> Questions<'q> {
     // A write to a template, for some questions.
     pub(crate) fn template_write(&self, name: Name, op: Op, questions: List<Name>) -> Mem<Write<'q>>
-        requires over { IsSetOver self.now.setting (length self.now.store.now.layers.items) }
-        ensures { IfOk result (λ w. w ≡ template_write (each (λ b. state (b.vtable, b.value)) self.now.store.now.layers.items) self.now.setting name op questions) }
+        requires over { IsSetOver self.now.context (length self.now.store.now.layers.items) }
+        ensures { IfOk result (λ w. w ≡ template_write (each (λ b. state (b.vtable, b.value)) self.now.store.now.layers.items) self.now.context name op questions) }
     {
         let kind = self.kind_tested(&name, &op)?;
         Ok(Write {
-            plan: self.setting.templates,
+            plan: self.context.templates,
             name,
             kind,
             op,
-            behalf: Behalf::Names(questions),
+            reported_for: ReportedFor::Names(questions),
         })
     }
 
     // The kind by which a write to a template is tested. An item that is put says it by itself.
     fn kind_tested(&self, name: &Name, op: &Op) -> Mem<Option<Kind>>
-        requires over { IsSetOver self.now.setting (length self.now.store.now.layers.items) }
-        ensures { IfOk result (λ kind. kind ≡ kind_by (kept_after (look (each (λ b. state (b.vtable, b.value)) self.now.store.now.layers.items) self.now.setting.templates name.now) (after_at op.now (look (each (λ b. state (b.vtable, b.value)) self.now.store.now.layers.items) self.now.setting.templates name.now)))) }
+        requires over { IsSetOver self.now.context (length self.now.store.now.layers.items) }
+        ensures { IfOk result (λ kind. kind ≡ kind_by (kept_after (look (each (λ b. state (b.vtable, b.value)) self.now.store.now.layers.items) self.now.context.templates name.now) (after_at op.now (look (each (λ b. state (b.vtable, b.value)) self.now.store.now.layers.items) self.now.context.templates name.now)))) }
     {
         if let Op::Put(made) = op {
             return Ok(kind(Some(made)));
@@ -49,13 +49,13 @@ impl<'q> Questions<'q> {
     }
 
     // The kinds that writes to templates leave, of those that are taken.
-    pub(crate) fn kinds_left<'k>(&self, row: &[Write<'_>]) -> Mem<KindsLeft<'k>>
-        requires over { IsSetOver self.now.setting (length self.now.store.now.layers.items) }
-        requires row { AreOver row.now (length self.now.store.now.layers.items) }
-        ensures { IfOk result (λ kinds. kinds ≡ with_kinds (each (λ b. state (b.vtable, b.value)) self.now.store.now.layers.items) self.now.setting map.empty row.now) }
+    pub(crate) fn kinds_left<'k>(&self, batch: &[Write<'_>]) -> Mem<KindsLeft<'k>>
+        requires over { IsSetOver self.now.context (length self.now.store.now.layers.items) }
+        requires batch { AreOver batch.now (length self.now.store.now.layers.items) }
+        ensures { IfOk result (λ kinds. kinds ≡ with_kinds (each (λ b. state (b.vtable, b.value)) self.now.store.now.layers.items) self.now.context map.empty batch.now) }
     {
         let mut kinds = TextMap::new(self.alloc);
-        for write in row {
+        for write in batch {
             self.add_kind(&mut kinds, write)?;
         }
         Ok(KindsLeft::in_map(kinds))
@@ -63,10 +63,10 @@ impl<'q> Questions<'q> {
 
     // The kind that a write to a template leaves, where it is taken.
     pub(crate) fn kind_left_by<'k>(&self, write: &'k Write<'_>) -> Mem<KindsLeft<'k>>
-        requires over { IsSetOver self.now.setting (length self.now.store.now.layers.items) }
+        requires over { IsSetOver self.now.context (length self.now.store.now.layers.items) }
         requires write { IsOver write.now.plan (length self.now.store.now.layers.items) }
-        requires tested { write.now.kind ≡ kind_by (kept_after (look (each (λ b. state (b.vtable, b.value)) self.now.store.now.layers.items) self.now.setting.templates write.now.name) (after_at write.now.op (look (each (λ b. state (b.vtable, b.value)) self.now.store.now.layers.items) self.now.setting.templates write.now.name))) }
-        ensures { IfOk result (λ kinds. kinds ≡ with_kinds (each (λ b. state (b.vtable, b.value)) self.now.store.now.layers.items) self.now.setting map.empty (write.now ∷ [])) }
+        requires tested { write.now.kind ≡ kind_by (kept_after (look (each (λ b. state (b.vtable, b.value)) self.now.store.now.layers.items) self.now.context.templates write.now.name) (after_at write.now.op (look (each (λ b. state (b.vtable, b.value)) self.now.store.now.layers.items) self.now.context.templates write.now.name))) }
+        ensures { IfOk result (λ kinds. kinds ≡ with_kinds (each (λ b. state (b.vtable, b.value)) self.now.store.now.layers.items) self.now.context map.empty (write.now ∷ [])) }
     {
         if self.refuses(write)? {
             return Ok(KindsLeft::none(self.alloc));
@@ -77,9 +77,9 @@ impl<'q> Questions<'q> {
 
     // The kind that a write to a template leaves that is taken. Of an item that is put it is the one by which the write is tested.
     fn kind_taken(&self, write: &Write<'_>) -> Mem<Option<Kind>>
-        requires over { IsSetOver self.now.setting (length self.now.store.now.layers.items) }
-        requires tested { write.now.kind ≡ kind_by (kept_after (look (each (λ b. state (b.vtable, b.value)) self.now.store.now.layers.items) self.now.setting.templates write.now.name) (after_at write.now.op (look (each (λ b. state (b.vtable, b.value)) self.now.store.now.layers.items) self.now.setting.templates write.now.name))) }
-        ensures { IfOk result (λ kind. kind ≡ kind_left_of (each (λ b. state (b.vtable, b.value)) self.now.store.now.layers.items) self.now.setting write.now.name write.now.op) }
+        requires over { IsSetOver self.now.context (length self.now.store.now.layers.items) }
+        requires tested { write.now.kind ≡ kind_by (kept_after (look (each (λ b. state (b.vtable, b.value)) self.now.store.now.layers.items) self.now.context.templates write.now.name) (after_at write.now.op (look (each (λ b. state (b.vtable, b.value)) self.now.store.now.layers.items) self.now.context.templates write.now.name))) }
+        ensures { IfOk result (λ kind. kind ≡ kind_left_of (each (λ b. state (b.vtable, b.value)) self.now.store.now.layers.items) self.now.context write.now.name write.now.op) }
     {
         if let Op::Put(_) = &write.op {
             return Ok(write.kind);
@@ -89,9 +89,9 @@ impl<'q> Questions<'q> {
 
     // Adds the kind that a write leaves, where it is taken and the first to its name.
     fn add_kind(&self, kinds: &mut TextMap<Option<Kind>>, write: &Write<'_>) -> Mem<()>
-        requires over { IsSetOver self.now.setting (length self.now.store.now.layers.items) }
+        requires over { IsSetOver self.now.context (length self.now.store.now.layers.items) }
         requires write { IsOver write.now.plan (length self.now.store.now.layers.items) }
-        ensures { OnOk result (kinds.new ≡ with_kind (each (λ b. state (b.vtable, b.value)) self.now.store.now.layers.items) self.now.setting kinds.old write.now) }
+        ensures { OnOk result (kinds.new ≡ with_kind (each (λ b. state (b.vtable, b.value)) self.now.store.now.layers.items) self.now.context kinds.old write.now) }
     {
         if kinds.contains(write.name.bytes()) || self.refuses(write)? {
             return Ok(());
@@ -112,8 +112,8 @@ impl<'q> Questions<'q> {
 
     // The kind of a template once an operation on it is done.
     fn kind_left(&self, name: &Name, op: &Op) -> Mem<Option<Kind>>
-        requires over { IsSetOver self.now.setting (length self.now.store.now.layers.items) }
-        ensures { IfOk result (λ kind. kind ≡ kind_left_of (each (λ b. state (b.vtable, b.value)) self.now.store.now.layers.items) self.now.setting name.now op.now) }
+        requires over { IsSetOver self.now.context (length self.now.store.now.layers.items) }
+        ensures { IfOk result (λ kind. kind ≡ kind_left_of (each (λ b. state (b.vtable, b.value)) self.now.store.now.layers.items) self.now.context name.now op.now) }
     {
         if let Op::Put(made) = op {
             return Ok(kind(Some(made)));
@@ -130,8 +130,8 @@ impl<'q> Questions<'q> {
 
     // The same by the item that the operation makes.
     fn kind_made(&self, name: &Name, op: &Op) -> Mem<Option<Kind>>
-        requires over { IsSetOver self.now.setting (length self.now.store.now.layers.items) }
-        ensures { IfOk result (λ kind. kind ≡ kind_left_of (each (λ b. state (b.vtable, b.value)) self.now.store.now.layers.items) self.now.setting name.now op.now) }
+        requires over { IsSetOver self.now.context (length self.now.store.now.layers.items) }
+        ensures { IfOk result (λ kind. kind ≡ kind_left_of (each (λ b. state (b.vtable, b.value)) self.now.store.now.layers.items) self.now.context name.now op.now) }
     {
         let item = self.template_seen(name);
         match op.at(item)? {
@@ -143,47 +143,47 @@ impl<'q> Questions<'q> {
 
     // What is seen of a template.
     fn template_seen(&self, name: &Name) -> Option<&Item>
-        requires over { IsSetOver self.now.setting (length self.now.store.now.layers.items) }
-        ensures { option_copied result ≡ look (each (λ b. state (b.vtable, b.value)) self.now.store.now.layers.items) self.now.setting.templates name.now }
+        requires over { IsSetOver self.now.context (length self.now.store.now.layers.items) }
+        ensures { option_copied result ≡ look (each (λ b. state (b.vtable, b.value)) self.now.store.now.layers.items) self.now.context.templates name.now }
     {
-        self.store.look(self.setting.templates, name)
+        self.store.look(self.context.templates, name)
     }
 
     // What is seen below the holder of a template.
     fn template_below(&self, name: &Name) -> Option<&Item>
-        requires over { IsSetOver self.now.setting (length self.now.store.now.layers.items) }
-        ensures { option_copied result ≡ look_below (each (λ b. state (b.vtable, b.value)) self.now.store.now.layers.items) self.now.setting.templates name.now }
+        requires over { IsSetOver self.now.context (length self.now.store.now.layers.items) }
+        ensures { option_copied result ≡ look_below (each (λ b. state (b.vtable, b.value)) self.now.store.now.layers.items) self.now.context.templates name.now }
     {
-        self.store.look_below(self.setting.templates, name)
+        self.store.look_below(self.context.templates, name)
     }
 
     // What is seen below the holder of a question.
     fn question_below(&self, name: &Name) -> Option<&Item>
-        requires over { IsSetOver self.now.setting (length self.now.store.now.layers.items) }
-        ensures { option_copied result ≡ look_below (each (λ b. state (b.vtable, b.value)) self.now.store.now.layers.items) self.now.setting.config name.now }
+        requires over { IsSetOver self.now.context (length self.now.store.now.layers.items) }
+        ensures { option_copied result ≡ look_below (each (λ b. state (b.vtable, b.value)) self.now.store.now.layers.items) self.now.context.config name.now }
     {
-        self.store.look_below(self.setting.config, name)
+        self.store.look_below(self.context.config, name)
     }
 
     // A write to a question beside writes that leave these kinds to templates.
     pub(crate) fn write_beside(&self, kinds: &KindsLeft<'_>, name: &Name, op: Op) -> Mem<Write<'q>>
-        requires over { IsSetOver self.now.setting (length self.now.store.now.layers.items) }
-        ensures { IfOk result (λ w. w ≡ write_by (each (λ b. state (b.vtable, b.value)) self.now.store.now.layers.items) self.now.setting kinds.now name.now op) }
+        requires over { IsSetOver self.now.context (length self.now.store.now.layers.items) }
+        ensures { IfOk result (λ w. w ≡ write_by (each (λ b. state (b.vtable, b.value)) self.now.store.now.layers.items) self.now.context kinds.now name.now op) }
     {
         let kind = self.kind_then(kinds, name, &op)?;
         Ok(Write {
-            plan: self.setting.config,
+            plan: self.context.config,
             name: name.copy()?,
             kind,
             op,
-            behalf: Behalf::Itself,
+            reported_for: ReportedFor::Itself,
         })
     }
 
     // The kind of a question once an operation on it is done.
     fn kind_then(&self, kinds: &KindsLeft<'_>, name: &Name, op: &Op) -> Mem<Option<Kind>>
-        requires over { IsSetOver self.now.setting (length self.now.store.now.layers.items) }
-        ensures { IfOk result (λ kind. kind ≡ item_kind_of (each (λ b. state (b.vtable, b.value)) self.now.store.now.layers.items) self.now.setting kinds.now (look_after (each (λ b. state (b.vtable, b.value)) self.now.store.now.layers.items) self.now.setting.config name.now op.now)) }
+        requires over { IsSetOver self.now.context (length self.now.store.now.layers.items) }
+        ensures { IfOk result (λ kind. kind ≡ item_kind_of (each (λ b. state (b.vtable, b.value)) self.now.store.now.layers.items) self.now.context kinds.now (look_after (each (λ b. state (b.vtable, b.value)) self.now.store.now.layers.items) self.now.context.config name.now op.now)) }
     {
         if let Op::Put(made) = op {
             return Ok(self.item_kind(kinds, Some(made)));
@@ -200,8 +200,8 @@ impl<'q> Questions<'q> {
 
     // The same by the item that the operation makes.
     fn item_kind_made(&self, kinds: &KindsLeft<'_>, name: &Name, op: &Op) -> Mem<Option<Kind>>
-        requires over { IsSetOver self.now.setting (length self.now.store.now.layers.items) }
-        ensures { IfOk result (λ kind. kind ≡ item_kind_of (each (λ b. state (b.vtable, b.value)) self.now.store.now.layers.items) self.now.setting kinds.now (look_after (each (λ b. state (b.vtable, b.value)) self.now.store.now.layers.items) self.now.setting.config name.now op.now)) }
+        requires over { IsSetOver self.now.context (length self.now.store.now.layers.items) }
+        ensures { IfOk result (λ kind. kind ≡ item_kind_of (each (λ b. state (b.vtable, b.value)) self.now.store.now.layers.items) self.now.context kinds.now (look_after (each (λ b. state (b.vtable, b.value)) self.now.store.now.layers.items) self.now.context.config name.now op.now)) }
     {
         let item = self.question(name);
         match op.at(item)? {
@@ -213,8 +213,8 @@ impl<'q> Questions<'q> {
 
     // The kind of a question's item.
     fn item_kind(&self, kinds: &KindsLeft<'_>, item: Option<&Item>) -> Option<Kind>
-        requires over { IsSetOver self.now.setting (length self.now.store.now.layers.items) }
-        ensures { result ≡ item_kind_of (each (λ b. state (b.vtable, b.value)) self.now.store.now.layers.items) self.now.setting kinds.now (option_copied item.entry) }
+        requires over { IsSetOver self.now.context (length self.now.store.now.layers.items) }
+        ensures { result ≡ item_kind_of (each (λ b. state (b.vtable, b.value)) self.now.store.now.layers.items) self.now.context kinds.now (option_copied item.entry) }
     {
         let template = item?.field(b"template")?;
         match kinds.get(template) {

@@ -5,8 +5,8 @@ ghost use Rattle.dc_item.specs.Item.{no_parts};
 ghost use Rattle.dc_conf.specs.Plans.{are_disjoint};
 ghost use Rattle.dc_store.specs.Plans.{stored};
 ghost use Rattle.dc_store.specs.StoreLaws.{AreSameButAll};
-ghost use Rattle.dc_question.specs.Changes.{Does, row_for};
-ghost use Rattle.dc_question.specs.Ownership.{register_row, binding as binding_of, new_question as new_question_of, has_other_template as has_other_template_of, bind_row as bind_row_of, template_write as template_write_of, write_beside as write_beside_of};
+ghost use Rattle.dc_question.specs.Changes.{Does, batch_for};
+ghost use Rattle.dc_question.specs.Ownership.{register_batch, binding as binding_of, new_question as new_question_of, has_other_template as has_other_template_of, bind_batch as bind_row_of, template_write as template_write_of, write_beside as write_beside_of};
 ghost use Rattle.dc_question.specs.Questions.{IsSetOver, named_template as named_template_of, question as question_of};
 
 use crate::beside::only;
@@ -14,14 +14,14 @@ use crate::errors::QuestionError;
 use crate::questions::Questions;
 use dc_item::{Item, ItemBuilder, Op};
 use dc_layer::Layer;
-use dc_store::{Row, Write};
+use dc_store::{Batch, Write};
 use dc_text::{List, Mem, Name, NameRefused, OutOfMemory};
 
 impl<'q> Questions<'q> {
     // The name of a template that is there.
     pub(crate) fn template_named(&self, bytes: &[u8]) -> Mem<Option<Name>>
-        requires over { IsSetOver self.now.setting (length self.now.store.now.layers.items) }
-        ensures { IfOk result (λ found. found ≡ option_map (λ _. bytes.now) (named_template_of (each (λ b. state (b.vtable, b.value)) self.now.store.now.layers.items) self.now.setting bytes.now)) }
+        requires over { IsSetOver self.now.context (length self.now.store.now.layers.items) }
+        ensures { IfOk result (λ found. found ≡ option_map (λ _. bytes.now) (named_template_of (each (λ b. state (b.vtable, b.value)) self.now.store.now.layers.items) self.now.context bytes.now)) }
     {
         match Name::read(self.alloc, bytes) {
             Err(NameRefused::OutOfMemory) => Err(OutOfMemory),
@@ -41,50 +41,50 @@ impl<'q> Questions<'q> {
         name: &Name,
         owner: &Name,
     ) -> Result<(), QuestionError>
-        requires over { IsSetOver self.old.setting (length self.old.store.now.layers.items) }
-        requires apart { are_disjoint self.old.setting.config self.old.setting.templates ≡ true }
-        ensures does { Does result (row_for (stored (each (λ b. state (b.vtable, b.value)) self.old.store.now.layers.items) self.old.store.now.told) (name.now ∷ []) (register_row (each (λ b. state (b.vtable, b.value)) self.old.store.now.layers.items) self.old.setting template.now name.now owner.now)) (stored (each (λ b. state (b.vtable, b.value)) self.old.store.now.layers.items) self.old.store.now.told) (stored (each (λ b. state (b.vtable, b.value)) self.new.store.now.layers.items) self.new.store.now.told) }
+        requires over { IsSetOver self.old.context (length self.old.store.now.layers.items) }
+        requires apart { are_disjoint self.old.context.config self.old.context.templates ≡ true }
+        ensures does { Does result (batch_for (stored (each (λ b. state (b.vtable, b.value)) self.old.store.now.layers.items) self.old.store.now.told) (name.now ∷ []) (register_batch (each (λ b. state (b.vtable, b.value)) self.old.store.now.layers.items) self.old.context template.now name.now owner.now)) (stored (each (λ b. state (b.vtable, b.value)) self.old.store.now.layers.items) self.old.store.now.told) (stored (each (λ b. state (b.vtable, b.value)) self.new.store.now.layers.items) self.new.store.now.told) }
         ensures others { AreSameButAll (template.now ∷ name.now ∷ []) (each (λ b. state (b.vtable, b.value)) self.old.store.now.layers.items) (each (λ b. state (b.vtable, b.value)) self.new.store.now.layers.items) }
         ensures count { length self.new.store.now.layers.items ≡ length self.old.store.now.layers.items }
-        ensures setting { self.new.setting ≡ self.old.setting }
+        ensures context { self.new.context ≡ self.old.context }
         ensures held { self.new.store.ghost_name ≡ self.old.store.ghost_name }
     {
         let op = Op::AddOwner(name.copy()?);
-        let mut row = self.bind_row(template, op, name, owner)?;
+        let mut batch = self.bind_batch(template, op, name, owner)?;
         let names = only(self.alloc, name)?;
-        self.do_row(names.as_slice(), &mut row)
+        self.do_batch(names.as_slice(), &mut batch)
     }
 
     // The two writes that bind a question to a template, on which an operation is done, and to an owner.
-    fn bind_row(&self, template: &Name, op: Op, name: &Name, owner: &Name) -> Mem<Row<'q>>
-        requires over { IsSetOver self.now.setting (length self.now.store.now.layers.items) }
-        ensures { IfOk result (λ row. row ≡ bind_row_of (each (λ b. state (b.vtable, b.value)) self.now.store.now.layers.items) self.now.setting template.now op name.now owner.now) }
+    fn bind_batch(&self, template: &Name, op: Op, name: &Name, owner: &Name) -> Mem<Batch<'q>>
+        requires over { IsSetOver self.now.context (length self.now.store.now.layers.items) }
+        ensures { IfOk result (λ batch. batch ≡ bind_row_of (each (λ b. state (b.vtable, b.value)) self.now.store.now.layers.items) self.now.context template.now op name.now owner.now) }
     {
         let first = self.template_write(template.copy()?, op, only(self.alloc, name)?)?;
-        let mut row = Row::new(self.alloc);
+        let mut batch = Batch::new(self.alloc);
         let mut builder = ItemBuilder::new(self.alloc);
-        self.add_bound(&mut row, &mut builder, first, name, owner)?;
-        Ok(row)
+        self.add_bound(&mut batch, &mut builder, first, name, owner)?;
+        Ok(batch)
     }
 
     // Adds the write to a template for a question, and the one that binds the question to it and to the owner.
     pub(crate) fn add_bound(
         &self,
-        row: &mut Row<'q>,
+        batch: &mut Batch<'q>,
         builder: &mut ItemBuilder,
         first: Write<'q>,
         name: &Name,
         owner: &Name,
     ) -> Mem<()>
-        requires over { IsSetOver self.now.setting (length self.now.store.now.layers.items) }
-        requires first { first ≡ template_write_of (each (λ b. state (b.vtable, b.value)) self.now.store.now.layers.items) self.now.setting first.name first.op (name.now ∷ []) }
+        requires over { IsSetOver self.now.context (length self.now.store.now.layers.items) }
+        requires first { first ≡ template_write_of (each (λ b. state (b.vtable, b.value)) self.now.store.now.layers.items) self.now.context first.name first.op (name.now ∷ []) }
         requires empty { builder.old ≡ no_parts }
-        ensures row { OnOk result (row.new ≡ row.old ++ bind_row_of (each (λ b. state (b.vtable, b.value)) self.now.store.now.layers.items) self.now.setting first.entry.name first.entry.op name.now owner.now) }
+        ensures batch { OnOk result (batch.new ≡ batch.old ++ bind_row_of (each (λ b. state (b.vtable, b.value)) self.now.store.now.layers.items) self.now.context first.entry.name first.entry.op name.now owner.now) }
         ensures left { OnOk result (builder.new ≡ no_parts) }
     {
         let second = self.bound_write(builder, &first, name, owner)?;
-        row.push(first)?;
-        row.push(second)?;
+        batch.push(first)?;
+        batch.push(second)?;
         Ok(())
     }
 
@@ -96,10 +96,10 @@ impl<'q> Questions<'q> {
         name: &Name,
         owner: &Name,
     ) -> Mem<Write<'q>>
-        requires over { IsSetOver self.now.setting (length self.now.store.now.layers.items) }
-        requires first { first.now ≡ template_write_of (each (λ b. state (b.vtable, b.value)) self.now.store.now.layers.items) self.now.setting first.now.name first.now.op (name.now ∷ []) }
+        requires over { IsSetOver self.now.context (length self.now.store.now.layers.items) }
+        requires first { first.now ≡ template_write_of (each (λ b. state (b.vtable, b.value)) self.now.store.now.layers.items) self.now.context first.now.name first.now.op (name.now ∷ []) }
         requires empty { builder.old ≡ no_parts }
-        ensures write { IfOk result (λ w. w ≡ write_beside_of (each (λ b. state (b.vtable, b.value)) self.now.store.now.layers.items) self.now.setting (first.now ∷ []) name.now (binding_of first.now.name owner.now (question_of (each (λ b. state (b.vtable, b.value)) self.now.store.now.layers.items) self.now.setting name.now))) }
+        ensures write { IfOk result (λ w. w ≡ write_beside_of (each (λ b. state (b.vtable, b.value)) self.now.store.now.layers.items) self.now.context (first.now ∷ []) name.now (binding_of first.now.name owner.now (question_of (each (λ b. state (b.vtable, b.value)) self.now.store.now.layers.items) self.now.context name.now))) }
         ensures left { OnOk result (builder.new ≡ no_parts) }
     {
         let kinds = self.kind_left_by(first)?;

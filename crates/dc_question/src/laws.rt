@@ -8,10 +8,10 @@ ghost use Rattle.dc_conf.specs.Plans.{are_disjoint};
 ghost use Rattle.dc_layer.specs.State.{LayerState};
 ghost use Rattle.dc_template.specs.Stanzas.{Stanza};
 ghost use Rattle.dc_store.specs.Plans.{StoreState, look, look_below, is_owned};
-ghost use Rattle.dc_store.specs.Rows.{Write, AllDistinct, is_refused, all_done, first_held_up};
-ghost use Rattle.dc_question.specs.Changes.{row_for, value_write, values_set};
-ghost use Rattle.dc_question.specs.Ownership.{register_row, leave_row, load_row, purged};
-ghost use Rattle.dc_question.specs.Questions.{Setting, exists, can_change};
+ghost use Rattle.dc_store.specs.Batches.{Write, AllDistinct, is_refused, all_done, first_refused};
+ghost use Rattle.dc_question.specs.Changes.{batch_for, value_write, values_set};
+ghost use Rattle.dc_question.specs.Ownership.{register_batch, leave_batch, load_batch, purged};
+ghost use Rattle.dc_question.specs.Questions.{QuestionContext, exists, can_change};
 ghost use Rattle.dc_question.specs.declared.errors.QuestionError.{QuestionError};
 ghost use Rattle.dc_question.specs.declared.errors.QuestionError.TheVariants.{CantChange};
 ghost use Rattle.dc_question.specs.Readings.{choices_by, localised, value_of};
@@ -28,29 +28,29 @@ pub fn types_are_in_no_language()
 
 /// The writes of a row are on different items, where questions and templates share no layer.
 pub fn writes_of_a_row_are_distinct()
-    ensures register { (layers : List LayerState) (at : Setting) (template name owner : List ℕ) → are_disjoint at.config at.templates ≡ true → AllDistinct (register_row layers at template name owner) }
-    ensures leave { (layers : List LayerState) (at : Setting) (owner : List ℕ) (names : List (List ℕ)) → are_disjoint at.config at.templates ≡ true → AreDistinct names → AllDistinct (leave_row layers at owner names) }
-    ensures load { (layers : List LayerState) (at : Setting) (owner : List ℕ) (templates : List Stanza) → are_disjoint at.config at.templates ≡ true → AreDistinct (each (λ t. t.name) templates) → AllDistinct (load_row layers at owner templates) }
+    ensures register { (layers : List LayerState) (at : QuestionContext) (template name owner : List ℕ) → are_disjoint at.config at.templates ≡ true → AllDistinct (register_batch layers at template name owner) }
+    ensures leave { (layers : List LayerState) (at : QuestionContext) (owner : List ℕ) (names : List (List ℕ)) → are_disjoint at.config at.templates ≡ true → AreDistinct names → AllDistinct (leave_batch layers at owner names) }
+    ensures load { (layers : List LayerState) (at : QuestionContext) (owner : List ℕ) (templates : List Stanza) → are_disjoint at.config at.templates ≡ true → AreDistinct (each (λ t. t.name) templates) → AllDistinct (load_batch layers at owner templates) }
 {}
 
 /// A row is done as a whole exactly where none of its writes is refused, and else none of it is.
 pub fn refused_rows_change_nothing()
-    ensures taken { (store new : StoreState) (names : List (List ℕ)) (row : List Write) → row_for store names row ≡ Ok new → (list_any (is_refused store.layers) row ≡ false) × (new ≡ all_done store row) }
-    ensures left { (store : StoreState) (names : List (List ℕ)) (row : List Write) → list_any (is_refused store.layers) row ≡ false → row_for store names row ≡ Ok (all_done store row) }
-    ensures refused { (store : StoreState) (names : List (List ℕ)) (row : List Write) (error : QuestionError) → row_for store names row ≡ Err error → (list_any (is_refused store.layers) row ≡ true) × (error ≡ CantChange (unwrap_or (first_held_up store.layers names row) [])) }
-    ensures told { (store : StoreState) (names : List (List ℕ)) (row : List Write) → list_any (is_refused store.layers) row ≡ true → row_for store names row ≡ Err (CantChange (unwrap_or (first_held_up store.layers names row) [])) }
+    ensures taken { (store new : StoreState) (names : List (List ℕ)) (batch : List Write) → batch_for store names batch ≡ Ok new → (list_any (is_refused store.layers) batch ≡ false) × (new ≡ all_done store batch) }
+    ensures left { (store : StoreState) (names : List (List ℕ)) (batch : List Write) → list_any (is_refused store.layers) batch ≡ false → batch_for store names batch ≡ Ok (all_done store batch) }
+    ensures refused { (store : StoreState) (names : List (List ℕ)) (batch : List Write) (error : QuestionError) → batch_for store names batch ≡ Err error → (list_any (is_refused store.layers) batch ≡ true) × (error ≡ CantChange (unwrap_or (first_refused store.layers names batch) [])) }
+    ensures told { (store : StoreState) (names : List (List ℕ)) (batch : List Write) → list_any (is_refused store.layers) batch ≡ true → batch_for store names batch ≡ Err (CantChange (unwrap_or (first_refused store.layers names batch) [])) }
 {}
 
 /// Once an owner's questions are purged, no question that is seen has it, unless one that another had hidden has come into sight:
 /// where questions and templates share no layer, and those of questions have no backup.
 pub fn purged_questions_lose_the_owner()
-    ensures { (store new : StoreState) (at : Setting) (owner name : List ℕ) → are_disjoint at.config at.templates ≡ true → at.config.backup ≡ None → purged store at owner ≡ Ok new
+    ensures { (store new : StoreState) (at : QuestionContext) (owner name : List ℕ) → are_disjoint at.config at.templates ≡ true → at.config.backup ≡ None → purged store at owner ≡ Ok new
         → is_owned owner (look new.layers at.config name) ≡ true → is_owned owner (look_below store.layers at.config name) ≡ true }
 {}
 
 /// A question that can be changed is there, and where each of some questions can be changed, all of them get their values.
 pub fn changeable_questions_are_set()
-    ensures there { (layers : List LayerState) (at : Setting) (name : List ℕ) → can_change layers at name ≡ true → exists layers at name ≡ true }
-    ensures set { (store : StoreState) (at : Setting) (answers : List (List ℕ × List ℕ)) → All (λ a. can_change store.layers at a.0 ≡ true) answers
+    ensures there { (layers : List LayerState) (at : QuestionContext) (name : List ℕ) → can_change layers at name ≡ true → exists layers at name ≡ true }
+    ensures set { (store : StoreState) (at : QuestionContext) (answers : List (List ℕ × List ℕ)) → All (λ a. can_change store.layers at a.0 ≡ true) answers
         → values_set store at answers ≡ Ok (all_done store (each (value_write store.layers at) answers)) }
 {}

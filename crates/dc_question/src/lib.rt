@@ -2,10 +2,12 @@
 #![tactic(auto)]
 
 mod answers;
+mod batches;
 mod beside;
 mod binding;
 mod changes;
 pub mod choices;
+pub mod context;
 pub mod errors;
 pub mod fields;
 mod grouping;
@@ -15,13 +17,11 @@ mod leaving;
 mod loading;
 mod ownership;
 pub mod questions;
-mod rows;
-pub mod setting;
 pub mod values;
 
 pub use choices::{ChoicePair, choice_pair};
+pub use context::QuestionContext;
 pub use errors::QuestionError;
 pub use fields::{field, localised};
 pub use questions::Questions;
-pub use setting::Setting;
 pub use values::{kind, value};

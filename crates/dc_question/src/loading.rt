@@ -8,10 +8,10 @@ ghost use Rattle.dc_text.specs.Settled.{settled};
 ghost use Rattle.dc_item.specs.Item.{no_parts};
 ghost use Rattle.dc_item.specs.declared.op.Op.TheVariants.{Put as PutOf};
 ghost use Rattle.dc_store.specs.Plans.{look, stored};
-ghost use Rattle.dc_store.specs.Rows.{AreOver, AllDistinct, names_of, first_held_up};
+ghost use Rattle.dc_store.specs.Batches.{AreOver, AllDistinct, names_of, first_refused};
 ghost use Rattle.dc_store.specs.StoreLaws.{AreSameButAll};
-ghost use Rattle.dc_question.specs.Changes.{Does, row_for};
-ghost use Rattle.dc_question.specs.Ownership.{bind_row as bind_row_of, template_write as template_write_of, bound_elsewhere as bound_elsewhere_of, load_row as load_row_of, loaded_template};
+ghost use Rattle.dc_question.specs.Changes.{Does, batch_for};
+ghost use Rattle.dc_question.specs.Ownership.{bind_batch as bind_row_of, template_write as template_write_of, bound_elsewhere as bound_elsewhere_of, load_batch as load_row_of, loaded_template};
 ghost use Rattle.dc_question.specs.Questions.{IsSetOver};
 ghost use Rattle.dc_question.specs.Readings.{kind_by};
 ghost use Rattle.dc_question.specs.declared.errors.QuestionError.{QuestionError};
@@ -21,7 +21,7 @@ use crate::errors::QuestionError;
 use crate::questions::Questions;
 use dc_item::{Item, ItemBuilder, Op};
 use dc_layer::Layer;
-use dc_store::{Behalf, Row, StoreError, Write};
+use dc_store::{Batch, ReportedFor, StoreError, Write};
 use dc_template::Template;
 use dc_text::{FieldKey, List, Mem, Name, Text};
 use std::alloc::Global;
@@ -29,8 +29,8 @@ use std::alloc::Global;
 impl<'q> Questions<'q> {
     // The first template whose question is bound to another.
     pub(crate) fn bound_elsewhere<'l>(&self, list: &'l [Template]) -> Option<&'l Template>
-        requires over { IsSetOver self.now.setting (length self.now.store.now.layers.items) }
-        ensures { option_copied result ≡ bound_elsewhere_of (each (λ b. state (b.vtable, b.value)) self.now.store.now.layers.items) self.now.setting list.now }
+        requires over { IsSetOver self.now.context (length self.now.store.now.layers.items) }
+        ensures { option_copied result ≡ bound_elsewhere_of (each (λ b. state (b.vtable, b.value)) self.now.store.now.layers.items) self.now.context list.now }
     {
         for template in list {
             if has_other_template(template.name(), self.question(template.name())) {
@@ -44,94 +44,94 @@ impl<'q> Questions<'q> {
     // Puts the templates, each with its question.
     pub(crate) fn load(&mut self, owner: &Name, list: &[Template]) -> Result<(), QuestionError>
         requires names { AreDistinct (each (λ t. t.name) list.now) }
-        requires over { IsSetOver self.old.setting (length self.old.store.now.layers.items) }
-        requires apart { are_disjoint self.old.setting.config self.old.setting.templates ≡ true }
-        ensures does { Does result (row_for (stored (each (λ b. state (b.vtable, b.value)) self.old.store.now.layers.items) self.old.store.now.told) (each (λ t. t.name) list.now) (load_row_of (each (λ b. state (b.vtable, b.value)) self.old.store.now.layers.items) self.old.setting owner.now list.now)) (stored (each (λ b. state (b.vtable, b.value)) self.old.store.now.layers.items) self.old.store.now.told) (stored (each (λ b. state (b.vtable, b.value)) self.new.store.now.layers.items) self.new.store.now.told) }
-        ensures others { AreSameButAll (names_of (load_row_of (each (λ b. state (b.vtable, b.value)) self.old.store.now.layers.items) self.old.setting owner.now list.now)) (each (λ b. state (b.vtable, b.value)) self.old.store.now.layers.items) (each (λ b. state (b.vtable, b.value)) self.new.store.now.layers.items) }
+        requires over { IsSetOver self.old.context (length self.old.store.now.layers.items) }
+        requires apart { are_disjoint self.old.context.config self.old.context.templates ≡ true }
+        ensures does { Does result (batch_for (stored (each (λ b. state (b.vtable, b.value)) self.old.store.now.layers.items) self.old.store.now.told) (each (λ t. t.name) list.now) (load_row_of (each (λ b. state (b.vtable, b.value)) self.old.store.now.layers.items) self.old.context owner.now list.now)) (stored (each (λ b. state (b.vtable, b.value)) self.old.store.now.layers.items) self.old.store.now.told) (stored (each (λ b. state (b.vtable, b.value)) self.new.store.now.layers.items) self.new.store.now.told) }
+        ensures others { AreSameButAll (names_of (load_row_of (each (λ b. state (b.vtable, b.value)) self.old.store.now.layers.items) self.old.context owner.now list.now)) (each (λ b. state (b.vtable, b.value)) self.old.store.now.layers.items) (each (λ b. state (b.vtable, b.value)) self.new.store.now.layers.items) }
         ensures count { length self.new.store.now.layers.items ≡ length self.old.store.now.layers.items }
-        ensures setting { self.new.setting ≡ self.old.setting }
+        ensures context { self.new.context ≡ self.old.context }
         ensures held { self.new.store.ghost_name ≡ self.old.store.ghost_name }
     {
-        let mut row = self.load_row(owner, list)?;
-        self.do_load(list, &mut row)
+        let mut batch = self.load_batch(owner, list)?;
+        self.do_load(list, &mut batch)
     }
 
     #[tactic(auto, using(dc_store::proofs::RowLemmas::same_all_refl))]
     // Does all the writes, or none. The names of the templates are asked for only where a write is refused.
-    fn do_load(&mut self, list: &[Template], row: &mut Row<'_>) -> Result<(), QuestionError>
-        requires over { AreOver row.old (length self.old.store.now.layers.items) }
-        requires distinct { AllDistinct row.old }
-        ensures does { Does result (row_for (stored (each (λ b. state (b.vtable, b.value)) self.old.store.now.layers.items) self.old.store.now.told) (each (λ t. t.name) list.now) row.old) (stored (each (λ b. state (b.vtable, b.value)) self.old.store.now.layers.items) self.old.store.now.told) (stored (each (λ b. state (b.vtable, b.value)) self.new.store.now.layers.items) self.new.store.now.told) }
-        ensures others { AreSameButAll (names_of row.old) (each (λ b. state (b.vtable, b.value)) self.old.store.now.layers.items) (each (λ b. state (b.vtable, b.value)) self.new.store.now.layers.items) }
+    fn do_load(&mut self, list: &[Template], batch: &mut Batch<'_>) -> Result<(), QuestionError>
+        requires over { AreOver batch.old (length self.old.store.now.layers.items) }
+        requires distinct { AllDistinct batch.old }
+        ensures does { Does result (batch_for (stored (each (λ b. state (b.vtable, b.value)) self.old.store.now.layers.items) self.old.store.now.told) (each (λ t. t.name) list.now) batch.old) (stored (each (λ b. state (b.vtable, b.value)) self.old.store.now.layers.items) self.old.store.now.told) (stored (each (λ b. state (b.vtable, b.value)) self.new.store.now.layers.items) self.new.store.now.told) }
+        ensures others { AreSameButAll (names_of batch.old) (each (λ b. state (b.vtable, b.value)) self.old.store.now.layers.items) (each (λ b. state (b.vtable, b.value)) self.new.store.now.layers.items) }
         ensures count { length self.new.store.now.layers.items ≡ length self.old.store.now.layers.items }
-        ensures setting { self.new.setting ≡ self.old.setting }
+        ensures context { self.new.context ≡ self.old.context }
         ensures held { self.new.store.ghost_name ≡ self.old.store.ghost_name }
     {
-        match self.write_row(row) {
+        match self.write_row(batch) {
             Ok(()) => Ok(()),
             Err(StoreError::OutOfMemory) => Err(QuestionError::OutOfMemory),
-            Err(StoreError::Refused) => Err(self.load_held_up(list, row.as_slice())),
+            Err(StoreError::Refused) => Err(self.load_held_up(list, batch.as_slice())),
         }
     }
 
     // The question of the first template for which a write of the row is refused.
-    fn load_held_up(&self, list: &[Template], row: &[Write<'_>]) -> QuestionError
-        requires { AreOver row.now (length self.now.store.now.layers.items) }
-        ensures { (result ≡ QuestionError.OutOfMemory) ⊎ (result ≡ QuestionError.CantChange (unwrap_or (first_held_up (each (λ b. state (b.vtable, b.value)) self.now.store.now.layers.items) (each (λ t. t.name) list.now) row.now) [])) }
+    fn load_held_up(&self, list: &[Template], batch: &[Write<'_>]) -> QuestionError
+        requires { AreOver batch.now (length self.now.store.now.layers.items) }
+        ensures { (result ≡ QuestionError.OutOfMemory) ⊎ (result ≡ QuestionError.CantChange (unwrap_or (first_refused (each (λ b. state (b.vtable, b.value)) self.now.store.now.layers.items) (each (λ t. t.name) list.now) batch.now) [])) }
     {
         match names(self.alloc, list) {
-            Ok(names) => self.held_up(names.as_slice(), row),
+            Ok(names) => self.refused_names(names.as_slice(), batch),
             Err(error) => error.into(),
         }
     }
 
     // The writes that put the templates, each with its question.
-    fn load_row(&self, owner: &Name, list: &[Template]) -> Mem<Row<'q>>
-        requires over { IsSetOver self.now.setting (length self.now.store.now.layers.items) }
-        ensures { IfOk result (λ row. row ≡ load_row_of (each (λ b. state (b.vtable, b.value)) self.now.store.now.layers.items) self.now.setting owner.now list.now) }
+    fn load_batch(&self, owner: &Name, list: &[Template]) -> Mem<Batch<'q>>
+        requires over { IsSetOver self.now.context (length self.now.store.now.layers.items) }
+        ensures { IfOk result (λ batch. batch ≡ load_row_of (each (λ b. state (b.vtable, b.value)) self.now.store.now.layers.items) self.now.context owner.now list.now) }
     {
-        let mut row = Row::with_capacity(self.alloc, list.len().saturating_mul(2))?;
+        let mut batch = Batch::with_capacity(self.alloc, list.len().saturating_mul(2))?;
         let mut builder = ItemBuilder::new(self.alloc);
         for template in list {
-            self.add_load(&mut row, &mut builder, owner, template)?;
+            self.add_load(&mut batch, &mut builder, owner, template)?;
         }
-        Ok(row)
+        Ok(batch)
     }
 
     // Adds the two writes that put a template and bind its question. Both items are put together in the builder.
     fn add_load(
         &self,
-        row: &mut Row<'q>,
+        batch: &mut Batch<'q>,
         builder: &mut ItemBuilder,
         owner: &Name,
         template: &Template,
     ) -> Mem<()>
-        requires over { IsSetOver self.now.setting (length self.now.store.now.layers.items) }
+        requires over { IsSetOver self.now.context (length self.now.store.now.layers.items) }
         requires empty { builder.old ≡ no_parts }
-        ensures row { OnOk result (row.new ≡ row.old ++ bind_row_of (each (λ b. state (b.vtable, b.value)) self.now.store.now.layers.items) self.now.setting template.now.name (PutOf (loaded_template template.now (look (each (λ b. state (b.vtable, b.value)) self.now.store.now.layers.items) self.now.setting.templates template.now.name))) template.now.name owner.now) }
+        ensures batch { OnOk result (batch.new ≡ batch.old ++ bind_row_of (each (λ b. state (b.vtable, b.value)) self.now.store.now.layers.items) self.now.context template.now.name (PutOf (loaded_template template.now (look (each (λ b. state (b.vtable, b.value)) self.now.store.now.layers.items) self.now.context.templates template.now.name))) template.now.name owner.now) }
         ensures left { OnOk result (builder.new ≡ no_parts) }
     {
         let first = self.put_write(builder, template)?;
-        self.add_bound(row, builder, first, template.name(), owner)?;
+        self.add_bound(batch, builder, first, template.name(), owner)?;
         Ok(())
     }
 
     // The write that puts a template for the question of its name.
     fn put_write(&self, builder: &mut ItemBuilder, template: &Template) -> Mem<Write<'q>>
-        requires over { IsSetOver self.now.setting (length self.now.store.now.layers.items) }
+        requires over { IsSetOver self.now.context (length self.now.store.now.layers.items) }
         requires empty { builder.old ≡ no_parts }
-        ensures write { IfOk result (λ w. w ≡ template_write_of (each (λ b. state (b.vtable, b.value)) self.now.store.now.layers.items) self.now.setting template.now.name (PutOf (loaded_template template.now (look (each (λ b. state (b.vtable, b.value)) self.now.store.now.layers.items) self.now.setting.templates template.now.name))) (template.now.name ∷ [])) }
+        ensures write { IfOk result (λ w. w ≡ template_write_of (each (λ b. state (b.vtable, b.value)) self.now.store.now.layers.items) self.now.context template.now.name (PutOf (loaded_template template.now (look (each (λ b. state (b.vtable, b.value)) self.now.store.now.layers.items) self.now.context.templates template.now.name))) (template.now.name ∷ [])) }
         ensures left { OnOk result (builder.new ≡ no_parts) }
     {
         let name = template.name();
         let old = self.named_template(name.bytes());
         let item = loaded_item(builder, template, old)?;
         Ok(Write {
-            plan: self.setting.templates,
+            plan: self.context.templates,
             name: name.copy()?,
             kind: Some(template.kind()),
             op: Op::Put(item),
-            behalf: Behalf::Itself,
+            reported_for: ReportedFor::Itself,
         })
     }
 }

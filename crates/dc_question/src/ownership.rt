@@ -3,10 +3,10 @@ ghost use Rattle.std.specs.Prelude.{◌≡◌, ◌∷◌, [], length, true, map 
 ghost use Rattle.dc_conf.specs.Plans.{are_disjoint};
 ghost use Rattle.dc_text.specs.Maps.{AreDistinct};
 ghost use Rattle.dc_store.specs.Plans.{stored, owned};
-ghost use Rattle.dc_store.specs.Rows.{names_of};
+ghost use Rattle.dc_store.specs.Batches.{names_of};
 ghost use Rattle.dc_store.specs.StoreLaws.{AreSameButAll};
 ghost use Rattle.dc_question.specs.Changes.{Does};
-ghost use Rattle.dc_question.specs.Ownership.{registered, loaded, unregistered, purged, load_row, leave_row};
+ghost use Rattle.dc_question.specs.Ownership.{registered, loaded, unregistered, purged, load_batch, leave_batch};
 ghost use Rattle.dc_question.specs.Questions.{IsSetOver};
 
 use crate::beside::only;
@@ -28,12 +28,12 @@ impl<'q> Questions<'q> {
         name: &Name,
         owner: &Name,
     ) -> Result<(), QuestionError>
-        requires over { IsSetOver self.old.setting (length self.old.store.now.layers.items) }
-        requires apart { are_disjoint self.old.setting.config self.old.setting.templates ≡ true }
-        ensures does { Does result (registered (stored (each (λ b. state (b.vtable, b.value)) self.old.store.now.layers.items) self.old.store.now.told) self.old.setting template.now name.now owner.now) (stored (each (λ b. state (b.vtable, b.value)) self.old.store.now.layers.items) self.old.store.now.told) (stored (each (λ b. state (b.vtable, b.value)) self.new.store.now.layers.items) self.new.store.now.told) }
+        requires over { IsSetOver self.old.context (length self.old.store.now.layers.items) }
+        requires apart { are_disjoint self.old.context.config self.old.context.templates ≡ true }
+        ensures does { Does result (registered (stored (each (λ b. state (b.vtable, b.value)) self.old.store.now.layers.items) self.old.store.now.told) self.old.context template.now name.now owner.now) (stored (each (λ b. state (b.vtable, b.value)) self.old.store.now.layers.items) self.old.store.now.told) (stored (each (λ b. state (b.vtable, b.value)) self.new.store.now.layers.items) self.new.store.now.told) }
         ensures others { AreSameButAll (template.now ∷ name.now ∷ []) (each (λ b. state (b.vtable, b.value)) self.old.store.now.layers.items) (each (λ b. state (b.vtable, b.value)) self.new.store.now.layers.items) }
         ensures count { length self.new.store.now.layers.items ≡ length self.old.store.now.layers.items }
-        ensures setting { self.new.setting ≡ self.old.setting }
+        ensures context { self.new.context ≡ self.old.context }
         ensures held { self.new.store.ghost_name ≡ self.old.store.ghost_name }
     {
         let Some(template) = self.template_named(template)? else {
@@ -48,12 +48,12 @@ impl<'q> Questions<'q> {
     #[tactic(auto, using(dc_store::proofs::RowLemmas::same_all_refl))]
     /// Takes the owner away from the question. With its last owner the question goes, and its template loses it.
     pub fn unregister(&mut self, name: &Name, owner: &Name) -> Result<(), QuestionError>
-        requires over { IsSetOver self.old.setting (length self.old.store.now.layers.items) }
-        requires apart { are_disjoint self.old.setting.config self.old.setting.templates ≡ true }
-        ensures does { Does result (unregistered (stored (each (λ b. state (b.vtable, b.value)) self.old.store.now.layers.items) self.old.store.now.told) self.old.setting name.now owner.now) (stored (each (λ b. state (b.vtable, b.value)) self.old.store.now.layers.items) self.old.store.now.told) (stored (each (λ b. state (b.vtable, b.value)) self.new.store.now.layers.items) self.new.store.now.told) }
-        ensures others { AreSameButAll (names_of (leave_row (each (λ b. state (b.vtable, b.value)) self.old.store.now.layers.items) self.old.setting owner.now (name.now ∷ []))) (each (λ b. state (b.vtable, b.value)) self.old.store.now.layers.items) (each (λ b. state (b.vtable, b.value)) self.new.store.now.layers.items) }
+        requires over { IsSetOver self.old.context (length self.old.store.now.layers.items) }
+        requires apart { are_disjoint self.old.context.config self.old.context.templates ≡ true }
+        ensures does { Does result (unregistered (stored (each (λ b. state (b.vtable, b.value)) self.old.store.now.layers.items) self.old.store.now.told) self.old.context name.now owner.now) (stored (each (λ b. state (b.vtable, b.value)) self.old.store.now.layers.items) self.old.store.now.told) (stored (each (λ b. state (b.vtable, b.value)) self.new.store.now.layers.items) self.new.store.now.told) }
+        ensures others { AreSameButAll (names_of (leave_batch (each (λ b. state (b.vtable, b.value)) self.old.store.now.layers.items) self.old.context owner.now (name.now ∷ []))) (each (λ b. state (b.vtable, b.value)) self.old.store.now.layers.items) (each (λ b. state (b.vtable, b.value)) self.new.store.now.layers.items) }
         ensures count { length self.new.store.now.layers.items ≡ length self.old.store.now.layers.items }
-        ensures setting { self.new.setting ≡ self.old.setting }
+        ensures context { self.new.context ≡ self.old.context }
         ensures held { self.new.store.ghost_name ≡ self.old.store.ghost_name }
     {
         if !self.exists(name) {
@@ -67,12 +67,12 @@ impl<'q> Questions<'q> {
     /// Takes the owner away from all its questions, or from none where a write is refused: `CantChange` names the first question,
     /// in byte order, of which its own is or that of the template that it leaves.
     pub fn purge(&mut self, owner: &Name) -> Result<(), QuestionError>
-        requires over { IsSetOver self.old.setting (length self.old.store.now.layers.items) }
-        requires apart { are_disjoint self.old.setting.config self.old.setting.templates ≡ true }
-        ensures does { Does result (purged (stored (each (λ b. state (b.vtable, b.value)) self.old.store.now.layers.items) self.old.store.now.told) self.old.setting owner.now) (stored (each (λ b. state (b.vtable, b.value)) self.old.store.now.layers.items) self.old.store.now.told) (stored (each (λ b. state (b.vtable, b.value)) self.new.store.now.layers.items) self.new.store.now.told) }
-        ensures others { AreSameButAll (names_of (leave_row (each (λ b. state (b.vtable, b.value)) self.old.store.now.layers.items) self.old.setting owner.now (owned (each (λ b. state (b.vtable, b.value)) self.old.store.now.layers.items) self.old.setting.config owner.now))) (each (λ b. state (b.vtable, b.value)) self.old.store.now.layers.items) (each (λ b. state (b.vtable, b.value)) self.new.store.now.layers.items) }
+        requires over { IsSetOver self.old.context (length self.old.store.now.layers.items) }
+        requires apart { are_disjoint self.old.context.config self.old.context.templates ≡ true }
+        ensures does { Does result (purged (stored (each (λ b. state (b.vtable, b.value)) self.old.store.now.layers.items) self.old.store.now.told) self.old.context owner.now) (stored (each (λ b. state (b.vtable, b.value)) self.old.store.now.layers.items) self.old.store.now.told) (stored (each (λ b. state (b.vtable, b.value)) self.new.store.now.layers.items) self.new.store.now.told) }
+        ensures others { AreSameButAll (names_of (leave_batch (each (λ b. state (b.vtable, b.value)) self.old.store.now.layers.items) self.old.context owner.now (owned (each (λ b. state (b.vtable, b.value)) self.old.store.now.layers.items) self.old.context.config owner.now))) (each (λ b. state (b.vtable, b.value)) self.old.store.now.layers.items) (each (λ b. state (b.vtable, b.value)) self.new.store.now.layers.items) }
         ensures count { length self.new.store.now.layers.items ≡ length self.old.store.now.layers.items }
-        ensures setting { self.new.setting ≡ self.old.setting }
+        ensures context { self.new.context ≡ self.old.context }
         ensures held { self.new.store.ghost_name ≡ self.old.store.ghost_name }
     {
         let names = self.owned(owner)?;
@@ -89,12 +89,12 @@ impl<'q> Questions<'q> {
         list: &List<Template>,
     ) -> Result<(), QuestionError>
         requires names { AreDistinct (each (λ t. t.name) list.now) }
-        requires over { IsSetOver self.old.setting (length self.old.store.now.layers.items) }
-        requires apart { are_disjoint self.old.setting.config self.old.setting.templates ≡ true }
-        ensures does { Does result (loaded (stored (each (λ b. state (b.vtable, b.value)) self.old.store.now.layers.items) self.old.store.now.told) self.old.setting owner.now list.now) (stored (each (λ b. state (b.vtable, b.value)) self.old.store.now.layers.items) self.old.store.now.told) (stored (each (λ b. state (b.vtable, b.value)) self.new.store.now.layers.items) self.new.store.now.told) }
-        ensures others { AreSameButAll (names_of (load_row (each (λ b. state (b.vtable, b.value)) self.old.store.now.layers.items) self.old.setting owner.now list.now)) (each (λ b. state (b.vtable, b.value)) self.old.store.now.layers.items) (each (λ b. state (b.vtable, b.value)) self.new.store.now.layers.items) }
+        requires over { IsSetOver self.old.context (length self.old.store.now.layers.items) }
+        requires apart { are_disjoint self.old.context.config self.old.context.templates ≡ true }
+        ensures does { Does result (loaded (stored (each (λ b. state (b.vtable, b.value)) self.old.store.now.layers.items) self.old.store.now.told) self.old.context owner.now list.now) (stored (each (λ b. state (b.vtable, b.value)) self.old.store.now.layers.items) self.old.store.now.told) (stored (each (λ b. state (b.vtable, b.value)) self.new.store.now.layers.items) self.new.store.now.told) }
+        ensures others { AreSameButAll (names_of (load_batch (each (λ b. state (b.vtable, b.value)) self.old.store.now.layers.items) self.old.context owner.now list.now)) (each (λ b. state (b.vtable, b.value)) self.old.store.now.layers.items) (each (λ b. state (b.vtable, b.value)) self.new.store.now.layers.items) }
         ensures count { length self.new.store.now.layers.items ≡ length self.old.store.now.layers.items }
-        ensures setting { self.new.setting ≡ self.old.setting }
+        ensures context { self.new.context ≡ self.old.context }
         ensures held { self.new.store.ghost_name ≡ self.old.store.ghost_name }
     {
         let list = list.as_slice();

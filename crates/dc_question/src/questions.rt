@@ -8,9 +8,9 @@ ghost use Rattle.dc_question.specs.Readings.{value_of as value_by};
 ghost use Rattle.dc_question.specs.Questions.{IsSetOver, question as question_of, template as template_of, exists as exists_of, kind as kind_of, can_change as can_change_of, value as value_of, field as field_of, expanded_field, choices as choices_of, flag as flag_of, read, read_template, Answers};
 
 use crate::choices::{ChoicePair, choice_pair};
+use crate::context::QuestionContext;
 use crate::errors::QuestionError;
 use crate::fields::{field, localised};
-use crate::setting::Setting;
 use crate::values::{default_value, kind};
 use dc_conf::plans::Plan;
 use dc_item::Item;
@@ -26,7 +26,7 @@ pub struct Questions<'q> {
     pub alloc: Global,
     pub store: &'q mut Store,
     /// The plans of questions and of templates, and the user's language.
-    pub setting: Setting<'q>,
+    pub context: QuestionContext<'q>,
 }
 
 impl<'q> Questions<'q> {
@@ -42,12 +42,12 @@ impl<'q> Questions<'q> {
         requires templates { IsOver templates.now (length store.old.layers.items) }
         ensures store { result.store.now ≡ store.old }
         ensures held { result.store.ghost_name ≡ store.entry.ghost_name }
-        ensures setting { result.setting ≡ record { config = config.now; templates = templates.now; lang = lang.now } }
+        ensures context { result.context ≡ record { config = config.now; templates = templates.now; lang = lang.now } }
     {
         Questions {
             alloc,
             store,
-            setting: Setting {
+            context: QuestionContext {
                 config,
                 templates,
                 lang,
@@ -57,16 +57,16 @@ impl<'q> Questions<'q> {
 
     /// Whether there is such a question.
     pub fn exists(&self, name: &Name) -> bool
-        requires { IsSetOver self.now.setting (length self.now.store.now.layers.items) }
-        ensures { result ≡ exists_of (each (λ b. state (b.vtable, b.value)) self.now.store.now.layers.items) self.now.setting name.now }
+        requires { IsSetOver self.now.context (length self.now.store.now.layers.items) }
+        ensures { result ≡ exists_of (each (λ b. state (b.vtable, b.value)) self.now.store.now.layers.items) self.now.context name.now }
     {
         self.question(name).is_some()
     }
 
     /// The kind of the question: `None` without a template, or where the template's type is no kind's word.
     pub fn kind(&self, name: &Name) -> Option<Kind>
-        requires { IsSetOver self.now.setting (length self.now.store.now.layers.items) }
-        ensures { result ≡ kind_of (each (λ b. state (b.vtable, b.value)) self.now.store.now.layers.items) self.now.setting name.now }
+        requires { IsSetOver self.now.context (length self.now.store.now.layers.items) }
+        ensures { result ≡ kind_of (each (λ b. state (b.vtable, b.value)) self.now.store.now.layers.items) self.now.context name.now }
     {
         kind(self.template(self.question(name)?))
     }
@@ -74,17 +74,17 @@ impl<'q> Questions<'q> {
     /// Whether a change of the question is taken: the topmost layer that has it is writable, or one above takes a question of its name
     /// and kind. It is false where there is no such question.
     pub fn can_change(&self, name: &Name) -> Mem<bool>
-        requires { IsSetOver self.now.setting (length self.now.store.now.layers.items) }
-        ensures { IfOk result (λ is. is ≡ can_change_of (each (λ b. state (b.vtable, b.value)) self.now.store.now.layers.items) self.now.setting name.now) }
+        requires { IsSetOver self.now.context (length self.now.store.now.layers.items) }
+        ensures { IfOk result (λ is. is ≡ can_change_of (each (λ b. state (b.vtable, b.value)) self.now.store.now.layers.items) self.now.context name.now) }
     {
         self.store
-            .can_change(self.setting.config, name, self.kind(name))
+            .can_change(self.context.config, name, self.kind(name))
     }
 
     /// The value of the question: its own, else its template's default in the user's language, else the empty text.
     pub fn value(&self, name: &Name) -> Result<Text, QuestionError>
-        requires { IsSetOver self.now.setting (length self.now.store.now.layers.items) }
-        ensures { Answers result (value_of (each (λ b. state (b.vtable, b.value)) self.now.store.now.layers.items) self.now.setting name.now) }
+        requires { IsSetOver self.now.context (length self.now.store.now.layers.items) }
+        ensures { Answers result (value_of (each (λ b. state (b.vtable, b.value)) self.now.store.now.layers.items) self.now.context name.now) }
     {
         match self.question(name) {
             None => Err(QuestionError::NoQuestion { name: name.copy()? }),
@@ -94,20 +94,20 @@ impl<'q> Questions<'q> {
 
     // The value of a question that is there. Its template is looked for only where it has none of its own.
     fn value_of(&self, item: &Item) -> Mem<Text>
-        requires { IsSetOver self.now.setting (length self.now.store.now.layers.items) }
-        ensures { IfOk result (λ value. value ≡ value_by self.now.setting.lang item.now (template_of (each (λ b. state (b.vtable, b.value)) self.now.store.now.layers.items) self.now.setting item.now)) }
+        requires { IsSetOver self.now.context (length self.now.store.now.layers.items) }
+        ensures { IfOk result (λ value. value ≡ value_by self.now.context.lang item.now (template_of (each (λ b. state (b.vtable, b.value)) self.now.store.now.layers.items) self.now.context item.now)) }
     {
         match item.field(b"value") {
             Some(value) => Text::from_bytes(self.alloc, value),
-            None => default_value(self.alloc, self.setting.lang.bytes(), self.template(item)),
+            None => default_value(self.alloc, self.context.lang.bytes(), self.template(item)),
         }
     }
 
     /// A field of the question's template in the user's language. `NoField` comes exactly where the template has it in no
     /// language that is tried.
     pub fn field(&self, name: &Name, key: &FieldKey) -> Result<Text, QuestionError>
-        requires { IsSetOver self.now.setting (length self.now.store.now.layers.items) }
-        ensures { Answers result (field_of (each (λ b. state (b.vtable, b.value)) self.now.store.now.layers.items) self.now.setting name.now key.now) }
+        requires { IsSetOver self.now.context (length self.now.store.now.layers.items) }
+        ensures { Answers result (field_of (each (λ b. state (b.vtable, b.value)) self.now.store.now.layers.items) self.now.context name.now key.now) }
     {
         let Some(item) = self.question(name) else {
             return Err(QuestionError::NoQuestion { name: name.copy()? });
@@ -115,7 +115,7 @@ impl<'q> Questions<'q> {
         let Some(template) = self.template(item) else {
             return Err(QuestionError::NoTemplate { name: name.copy()? });
         };
-        match localised(self.alloc, self.setting.lang.bytes(), template, key)? {
+        match localised(self.alloc, self.context.lang.bytes(), template, key)? {
             None => Err(QuestionError::NoField),
             Some(text) => Ok(Text::from_bytes(self.alloc, text)?),
         }
@@ -123,8 +123,8 @@ impl<'q> Questions<'q> {
 
     /// The same with the question's variables put in.
     pub fn expanded(&self, name: &Name, key: &FieldKey) -> Result<Text, QuestionError>
-        requires { IsSetOver self.now.setting (length self.now.store.now.layers.items) }
-        ensures { Answers result (expanded_field (each (λ b. state (b.vtable, b.value)) self.now.store.now.layers.items) self.now.setting name.now key.now) }
+        requires { IsSetOver self.now.context (length self.now.store.now.layers.items) }
+        ensures { Answers result (expanded_field (each (λ b. state (b.vtable, b.value)) self.now.store.now.layers.items) self.now.context name.now key.now) }
     {
         let Some(item) = self.question(name) else {
             return Err(QuestionError::NoQuestion { name: name.copy()? });
@@ -132,7 +132,7 @@ impl<'q> Questions<'q> {
         let Some(template) = self.template(item) else {
             return Err(QuestionError::NoTemplate { name: name.copy()? });
         };
-        match field(self.alloc, self.setting.lang.bytes(), item, template, key)? {
+        match field(self.alloc, self.context.lang.bytes(), item, template, key)? {
             None => Err(QuestionError::NoField),
             Some(text) => Ok(text),
         }
@@ -140,8 +140,8 @@ impl<'q> Questions<'q> {
 
     /// The choices of the question, each with its label.
     pub fn choices(&self, name: &Name) -> Result<ChoicePair, QuestionError>
-        requires { IsSetOver self.now.setting (length self.now.store.now.layers.items) }
-        ensures { Answers result (choices_of (each (λ b. state (b.vtable, b.value)) self.now.store.now.layers.items) self.now.setting name.now) }
+        requires { IsSetOver self.now.context (length self.now.store.now.layers.items) }
+        ensures { Answers result (choices_of (each (λ b. state (b.vtable, b.value)) self.now.store.now.layers.items) self.now.context name.now) }
     {
         let Some(item) = self.question(name) else {
             return Err(QuestionError::NoQuestion { name: name.copy()? });
@@ -149,13 +149,13 @@ impl<'q> Questions<'q> {
         let Some(template) = self.template(item) else {
             return Err(QuestionError::NoTemplate { name: name.copy()? });
         };
-        Ok(choice_pair(self.alloc, self.setting.lang.bytes(), item, template)?)
+        Ok(choice_pair(self.alloc, self.context.lang.bytes(), item, template)?)
     }
 
     /// Whether a flag of the question is true.
     pub fn flag(&self, name: &Name, flag: &FlagName) -> Result<bool, QuestionError>
-        requires { IsSetOver self.now.setting (length self.now.store.now.layers.items) }
-        ensures { Answers result (flag_of (each (λ b. state (b.vtable, b.value)) self.now.store.now.layers.items) self.now.setting name.now flag.now) }
+        requires { IsSetOver self.now.context (length self.now.store.now.layers.items) }
+        ensures { Answers result (flag_of (each (λ b. state (b.vtable, b.value)) self.now.store.now.layers.items) self.now.context name.now flag.now) }
     {
         match self.question(name) {
             None => Err(QuestionError::NoQuestion { name: name.copy()? }),
@@ -164,15 +164,15 @@ impl<'q> Questions<'q> {
     }
 
     pub(crate) fn question(&self, name: &Name) -> Option<&Item>
-        requires { IsSetOver self.now.setting (length self.now.store.now.layers.items) }
-        ensures { option_copied result ≡ question_of (each (λ b. state (b.vtable, b.value)) self.now.store.now.layers.items) self.now.setting name.now }
+        requires { IsSetOver self.now.context (length self.now.store.now.layers.items) }
+        ensures { option_copied result ≡ question_of (each (λ b. state (b.vtable, b.value)) self.now.store.now.layers.items) self.now.context name.now }
     {
-        self.store.look(self.setting.config, name)
+        self.store.look(self.context.config, name)
     }
 
     pub(crate) fn template(&self, item: &Item) -> Option<&Item>
-        requires { IsSetOver self.now.setting (length self.now.store.now.layers.items) }
-        ensures { option_copied result ≡ template_of (each (λ b. state (b.vtable, b.value)) self.now.store.now.layers.items) self.now.setting item.now }
+        requires { IsSetOver self.now.context (length self.now.store.now.layers.items) }
+        ensures { option_copied result ≡ template_of (each (λ b. state (b.vtable, b.value)) self.now.store.now.layers.items) self.now.context item.now }
     {
         let name = item.field(b"template")?;
         self.named_template(name)
@@ -180,9 +180,9 @@ impl<'q> Questions<'q> {
 
     // The template of this name.
     pub(crate) fn named_template(&self, name: &[u8]) -> Option<&Item>
-        requires { IsSetOver self.now.setting (length self.now.store.now.layers.items) }
-        ensures { option_copied result ≡ look (each (λ b. state (b.vtable, b.value)) self.now.store.now.layers.items) self.now.setting.templates name.now }
+        requires { IsSetOver self.now.context (length self.now.store.now.layers.items) }
+        ensures { option_copied result ≡ look (each (λ b. state (b.vtable, b.value)) self.now.store.now.layers.items) self.now.context.templates name.now }
     {
-        self.store.seek(self.setting.templates, name)
+        self.store.seek(self.context.templates, name)
     }
 }

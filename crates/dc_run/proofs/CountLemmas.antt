@@ -15,19 +15,19 @@ use Rattle.dc_layer.specs.declared.pattern.PatternError.{PatternError}
 use Rattle.dc_layer.specs.declared.pattern.PatternError.TheVariants as pattern
 use Rattle.dc_save.specs.declared.loading.LoadError.{LoadError}
 use Rattle.dc_save.specs.declared.loading.LoadError.TheVariants as load
-use Rattle.dc_serve.specs.Course.{Turn, state_after, IsCourse}
+use Rattle.dc_serve.specs.Execution.{Transition, state_after, IsExecution}
 use Rattle.dc_serve.specs.Ends.{LinkFaults, LinkRefusals}
-use Rattle.dc_serve.specs.Run.{Answered}
+use Rattle.dc_serve.specs.LinkRun.{Answered}
 use Rattle.dc_serve.specs.declared.outcome.LinkEnd.{LinkEnd}
 use Rattle.dc_serve.specs.declared.outcome.LinkEnd.TheVariants as link
-use Rattle.dc_session.specs.Machine.{Heeds, Breaks}
+use Rattle.dc_session.specs.Machine.{Handles, Aborts}
 use Rattle.dc_session.specs.Serving.{IsServed}
 use Rattle.dc_session.specs.SessionState.{FilesState, SessionState}
 use Rattle.dc_session.specs.declared.stepped.StepError.{StepError}
 use Rattle.dc_session.specs.declared.stepped.StepError.TheVariants as step
 use Rattle.dc_session.proofs.TerminalLaws.{CountsBreak, AsksNobody, breaks_count, course_counts, course_nobody, never_fails}
-use Rattle.dc_usage.specs.declared.tool.Tool.{Tool}
-use Rattle.dc_usage.specs.declared.tool.Tool.TheVariants.{Communicate, LoadTemplate, Run}
+use Rattle.dc_cli.specs.declared.tool.Tool.{Tool}
+use Rattle.dc_cli.specs.declared.tool.Tool.TheVariants.{Communicate, LoadTemplate, Run}
 use Rattle.dc_run.specs.declared.outcome.End.{End}
 use Rattle.dc_run.specs.declared.outcome.End.TheVariants as end
 use Rattle.dc_run.specs.declared.outcome.Outcome.{Outcome}
@@ -150,14 +150,14 @@ abbrev TerminalCounts : LinkEnd StepError → Counts → Counts → Type 0
 TerminalCounts (link.Broken error) before now = CountsBreak error before now
 TerminalCounts ended before now = Stays before now
 
-module _ (start new : SessionState) (turns : List (Turn SessionState)) (rest : List Line) (talk : List Piece) (input : Option (List ℕ)) (code : ℕ) (course : IsCourse Heeds start turns) where
+module _ (start new : SessionState) (turns : List (Transition SessionState)) (rest : List Line) (talk : List Piece) (input : Option (List ℕ)) (code : ℕ) (course : IsExecution Handles start turns) where
   unused : new ≡ state_after start turns → new.terminal.link.counts ≡ start.terminal.link.counts
   unused is = ap (λ (s : SessionState). s.terminal.link.counts) is ∙ course_counts start turns course
 
   moved : (error : StepError) (before mid now : Counts) → mid ≡ before → CountsBreak error mid now → CountsBreak error before now
   moved error before mid now same counts = subst (λ (c : Counts). CountsBreak error c now) same counts
 
-  terminal_counts : (ended : LinkEnd StepError) → Answered Breaks ended start turns rest talk input new code → TerminalCounts ended start.terminal.link.counts new.terminal.link.counts
+  terminal_counts : (ended : LinkEnd StepError) → Answered Aborts ended start turns rest talk input new code → TerminalCounts ended start.terminal.link.counts new.terminal.link.counts
   terminal_counts link.Done answered = unused (state_left start new turns rest talk input code link.Done tt answered)
   terminal_counts link.LinkFault answered = unused (state_left start new turns rest talk input code link.LinkFault tt answered)
   terminal_counts link.TooLong answered = unused (state_left start new turns rest talk input code link.TooLong tt answered)
@@ -167,7 +167,7 @@ module _ (start new : SessionState) (turns : List (Turn SessionState)) (rest : L
       (breaks_count (state_after start turns) new answered.line error answered.broke)
 
   -- a session that asks nobody doesn't break off at its terminal
-  unbroken : AsksNobody start → (error : StepError) → error ≡ step.Term → Answered Breaks (link.Broken error) start turns rest talk input new code → ⊥
+  unbroken : AsksNobody start → (error : StepError) → error ≡ step.Term → Answered Aborts (link.Broken error) start turns rest talk input new code → ⊥
   unbroken nobody step.Term is answered = never_fails (state_after start turns) new answered.line (course_nobody start turns nobody course) answered.broke
   unbroken nobody step.OutOfMemory is answered = cc
 
@@ -211,8 +211,8 @@ communicated_links start before now answer layers files nobody is child =
     rw is.ended_is
     (own_links before now child (tool_end_of is.ended)
     (no_term served.served is.ended (ends_so served.served served.state layers is.ended served.finishes)
-    (λ broken. unbroken start served.state ran.turns ran.rest ran.pieces before.io.input answer.last_code ran.course nobody step.Term refl
-    (subst (λ (e : LinkEnd StepError). Answered Breaks e start ran.turns ran.rest ran.pieces before.io.input served.state answer.last_code) broken ran.answered)))
+    (λ broken. unbroken start served.state ran.transitions ran.rest ran.pieces before.io.input answer.last_code ran.course nobody step.Term refl
+    (subst (λ (e : LinkEnd StepError). Answered Aborts e start ran.transitions ran.rest ran.pieces before.io.input served.state answer.last_code) broken ran.answered)))
     (served_counts start layers files is.terminal before.io now.io is.ended answer.last_code served))
 
 silent_links : (ended : ToolEnd) (state : SessionState) (rest : List (List ℕ)) (new : SessionState) (links : Links) → EndsAt ended state rest new → ToolLinks ended links links
@@ -255,7 +255,7 @@ started_links : (command : List (List ℕ)) (start : SessionState) (before now :
 started_links command start before now answer layers files asks is =
     let served = is.served in
     let ran = served.ran in
-    let shown = terminal_counts start served.state ran.turns ran.rest ran.pieces before.child.link.input answer.last_code ran.course served.served ran.answered in
+    let shown = terminal_counts start served.state ran.transitions ran.rest ran.pieces before.child.link.input answer.last_code ran.course served.served ran.answered in
     rw is.ended_is
     (program_links before now served.served is.ended (ends_so served.served served.state layers is.ended served.finishes)
     (served_counts start layers files now.io before.child.link now.child.link is.ended answer.last_code served)

@@ -4,7 +4,7 @@ use Rattle.std.specs.Prelude.{codes, fold, Result, Ok, Err}
 use Rattle.std.specs.Result.{result_unwrap_or}
 use Rattle.dc_words.specs.declared.stream.Line.{Line}
 use Rattle.dc_words.specs.declared.stream.Line.TheVariants.{Whole, TooLong}
-use Rattle.dc_outside.specs.Disk.{Disk, IsSettled}
+use Rattle.dc_outside.specs.Disk.{Disk, IsDurable}
 use Rattle.dc_outside.specs.Told.{Told, Counts}
 use Rattle.dc_outside.specs.declared.link.Piece.{Piece}
 use Rattle.dc_outside.proofs.Moments.{none_more}
@@ -22,9 +22,9 @@ use Rattle.dc_item.specs.declared.op.Op.TheVariants.{SetFlag}
 use Rattle.dc_layer.specs.State.{Table, LayerState}
 use Rattle.dc_layer.specs.declared.image.Image.{Image}
 use Rattle.dc_question.specs.Changes.{question_write, done_or}
-use Rattle.dc_question.specs.Questions.{Setting, question, read}
+use Rattle.dc_question.specs.Questions.{QuestionContext, question, read}
 use Rattle.dc_store.specs.Plans.{StoreState}
-use Rattle.dc_store.specs.Rows.{Write, row_done, names_of}
+use Rattle.dc_store.specs.Batches.{Write, commit, names_of}
 use Rattle.dc_store.specs.StoreLaws.{AreSameButAll}
 use Rattle.dc_teletype.specs.declared.teletype.Asked.TheVariants.{Answers}
 use Rattle.dc_save.specs.FolderLoading.{its_files, after_reads, FailsOn, LoadsFolder, LoadsFolderFiles}
@@ -40,19 +40,19 @@ use Rattle.dc_save.specs.declared.loading.LoadError.{LoadError}
 use Rattle.dc_save.specs.declared.loading.LoadError.TheVariants as load
 use Rattle.dc_save.specs.declared.saving.SaveError.{SaveError}
 use Rattle.dc_save.specs.declared.saving.SaveError.TheVariants as save
-use Rattle.dc_save.proofs.Standing.{same_some, every_moment}
+use Rattle.dc_save.proofs.DiskState.{same_some, every_moment}
 use Rattle.dc_save.proofs.Ends.{ends, keeps_paths, stand_saved}
 use Rattle.dc_save.proofs.PlaceLemmas.{places_apart, layers_of}
 use Rattle.dc_shelf.specs.Shelves.{all_set_up, GoesOn, LoadsAll}
-use Rattle.dc_serve.specs.Course.{Turn, state_after, IsCourse}
-use Rattle.dc_serve.specs.Run.{Answered}
+use Rattle.dc_serve.specs.Execution.{Transition, state_after, IsExecution}
+use Rattle.dc_serve.specs.LinkRun.{Answered}
 use Rattle.dc_serve.specs.Said.{said, BreaksOff}
-use Rattle.dc_serve.specs.declared.heeds.Heeded.{Heeded}
+use Rattle.dc_serve.specs.declared.machine.Response.{Response}
 use Rattle.dc_serve.specs.declared.outcome.LinkEnd.{LinkEnd}
 use Rattle.dc_serve.specs.declared.outcome.LinkEnd.TheVariants as link
-use Rattle.dc_session.specs.Answers.{Given, answer, after_command, names_on}
+use Rattle.dc_session.specs.Answers.{CommandInputs, answer, after_command, names_on}
 use Rattle.dc_session.specs.Asking.{with_seen}
-use Rattle.dc_session.specs.Machine.{Heeds, Steps, StepsHeard, Breaks, HasDone, GivesInPart, IsDoneInPart}
+use Rattle.dc_session.specs.Machine.{Handles, Steps, StepsHeard, Aborts, HasDone, GivesInPart, IsDoneInPart}
 use Rattle.dc_session.specs.declared.stepped.StepError.TheVariants as step
 use Rattle.dc_session.specs.Serving.{IsFinished, Finishes as FinishesSession, IsServed}
 use Rattle.dc_session.specs.SessionState.{FilesState, SessionState}
@@ -79,8 +79,8 @@ use Rattle.dc_run.specs.declared.outcome.ToolAnswer.{ToolAnswer}
 use Rattle.dc_run.specs.declared.outcome.ToolEnd.{ToolEnd}
 use Rattle.dc_run.specs.declared.outcome.ToolEnd.TheVariants as tool
 use Rattle.dc_run.specs.declared.settings.Settings.{Settings}
-use Rattle.dc_usage.specs.declared.tool.Tool.{Tool}
-use Rattle.dc_usage.specs.declared.tool.Tool.TheVariants.{Communicate, LoadTemplate, Run}
+use Rattle.dc_cli.specs.declared.tool.Tool.{Tool}
+use Rattle.dc_cli.specs.declared.tool.Tool.TheVariants.{Communicate, LoadTemplate, Run}
 use Rattle.dc_run.proofs.RoundLemmas.{as_used}
 use Rattle.dc_run.proofs.RunLemmas.{ends_so}
 use Rattle.dc_run.specs.Crashes.{KeepsDatabases}
@@ -230,19 +230,19 @@ steps_keep : (old new : SessionState) (line : Line) (did : Stepped) → Steps ol
 steps_keep old new TooLong did steps = ap specs_of steps.1
 steps_keep old new (Whole line) did steps = heard_keeps (heard old.asking.escape line) old new did steps
 
-heeds_keep : (old new : SessionState) (line : Line) (did : Heeded) → Heeds old line did new → specs_of new ≡ specs_of old
-heeds_keep old new line did heeds = steps_keep old new line heeds.stepped heeds.steps
+heeds_keep : (old new : SessionState) (line : Line) (did : Response) → Handles old line did new → specs_of new ≡ specs_of old
+heeds_keep old new line did steps = steps_keep old new line steps.stepped steps.steps
 
-course_keeps : (start : SessionState) (turns : List (Turn SessionState)) → IsCourse Heeds start turns → specs_of (state_after start turns) ≡ specs_of start
+course_keeps : (start : SessionState) (turns : List (Transition SessionState)) → IsExecution Handles start turns → specs_of (state_after start turns) ≡ specs_of start
 course_keeps start [] is = refl
 course_keeps start (turn ∷ turns) is = course_keeps turn.new turns is.2 ∙ heeds_keep start turn.new turn.line turn.did is.0
 
-last_after : (start : SessionState) (gone : List (Turn SessionState)) (last : Turn SessionState) → state_after start (gone ++ last ∷ []) ≡ last.new
+last_after : (start : SessionState) (gone : List (Transition SessionState)) (last : Transition SessionState) → state_after start (gone ++ last ∷ []) ≡ last.new
 last_after start [] last = refl
 last_after start (turn ∷ gone) last = last_after turn.new gone last
 
-module _ (start new : SessionState) (turns : List (Turn SessionState)) (rest : List Line) (talk : List Piece) (input : Option (List ℕ)) (code : ℕ) where
-  behind : (gone : List (Turn SessionState)) (last : Turn SessionState) → turns ≡ gone ++ last ∷ [] → new ≡ last.new → new ≡ state_after start turns
+module _ (start new : SessionState) (turns : List (Transition SessionState)) (rest : List Line) (talk : List Piece) (input : Option (List ℕ)) (code : ℕ) where
+  behind : (gone : List (Transition SessionState)) (last : Transition SessionState) → turns ≡ gone ++ last ∷ [] → new ≡ last.new → new ≡ state_after start turns
   behind gone last are is = is ∙ sym (last_after start gone last) ∙ ap (state_after start) (sym are)
 
   pub broken_off : BreaksOff start turns (said talk) 0 new code → new ≡ state_after start turns
@@ -250,7 +250,7 @@ module _ (start new : SessionState) (turns : List (Turn SessionState)) (rest : L
   broken_off (inr unsaid) = behind unsaid.gone unsaid.last unsaid.turns_are unsaid.state_is
 
   -- the state is the one that the turns leave, where the layers are saved
-  pub state_left : (ended : LinkEnd StepError) → IsEnded (tool_end_of ended) → Answered Breaks ended start turns rest talk input new code → new ≡ state_after start turns
+  pub state_left : (ended : LinkEnd StepError) → IsEnded (tool_end_of ended) → Answered Aborts ended start turns rest talk input new code → new ≡ state_after start turns
   state_left link.Done is answered = answered.are_said.state_is
   state_left link.LinkFault is (inl lost) = lost.answered.are_said.state_is
   state_left link.LinkFault is (inr cut) = behind cut.answered.gone cut.answered.last cut.answered.turns_are cut.answered.state_is
@@ -259,11 +259,11 @@ module _ (start new : SessionState) (turns : List (Turn SessionState)) (rest : L
   state_left (link.Broken step.Term) is answered = absurd is
   state_left (link.Broken step.OutOfMemory) is answered = absurd is
 
-  reads_to : IsCourse Heeds start turns → new ≡ state_after start turns → new.files.told.disk ≡ start.files.told.disk
+  reads_to : IsExecution Handles start turns → new ≡ state_after start turns → new.files.told.disk ≡ start.files.told.disk
   reads_to course is = ap (λ (s : SessionState). s.files.told.disk) is ∙ course_reads start turns course
 
   -- at each end the session has only read files
-  session_reads : IsCourse Heeds start turns → (ended : LinkEnd StepError) → Answered Breaks ended start turns rest talk input new code → new.files.told.disk ≡ start.files.told.disk
+  session_reads : IsExecution Handles start turns → (ended : LinkEnd StepError) → Answered Aborts ended start turns rest talk input new code → new.files.told.disk ≡ start.files.told.disk
   session_reads course link.Done answered = reads_to course (state_left link.Done tt answered)
   session_reads course link.LinkFault answered = reads_to course (state_left link.LinkFault tt answered)
   session_reads course link.TooLong answered = reads_to course (state_left link.TooLong tt answered)
@@ -273,21 +273,21 @@ module _ (start new : SessionState) (turns : List (Turn SessionState)) (rest : L
 -- ---- a session that is finished
 
 -- the row that sets `seen` on a question
-abbrev seen_row : Setting → StoreState → List ℕ → ItemParts → List Write
+abbrev seen_row : QuestionContext → StoreState → List ℕ → ItemParts → List Write
 seen_row at store name item = question_write store.layers at name item (SetFlag (codes "seen") true) ∷ []
 
 -- it is set, or not
-seen_keeps : (at : Setting) (store : StoreState) (name : List ℕ) → specs_in (with_seen at store name).layers ≡ specs_in store.layers
+seen_keeps : (at : QuestionContext) (store : StoreState) (name : List ℕ) → specs_in (with_seen at store name).layers ≡ specs_in store.layers
 seen_keeps at store name = by_item (question store.layers at name) where
-  by_row : (item : ItemParts) (done : Option StoreState) → row_done store (seen_row at store name item) ≡ done → specs_in (result_unwrap_or (done_or name done) store).layers ≡ specs_in store.layers
+  by_row : (item : ItemParts) (done : Option StoreState) → commit store (seen_row at store name item) ≡ done → specs_in (result_unwrap_or (done_or name done) store).layers ≡ specs_in store.layers
   by_row item None is = refl
   by_row item (Some new) is = same_specs (names_of (seen_row at store name item)) store.layers new.layers (row_keeps store new (seen_row at store name item) is)
 
-  by_item : (item : Option ItemParts) → specs_in (result_unwrap_or (read name item (λ i. done_or name (row_done store (seen_row at store name i)))) store).layers ≡ specs_in store.layers
+  by_item : (item : Option ItemParts) → specs_in (result_unwrap_or (read name item (λ i. done_or name (commit store (seen_row at store name i)))) store).layers ≡ specs_in store.layers
   by_item None = refl
-  by_item (Some item) = by_row item (row_done store (seen_row at store name item)) refl
+  by_item (Some item) = by_row item (commit store (seen_row at store name item)) refl
 
-all_seen_keep : (at : Setting) (store : StoreState) (names : List (List ℕ)) → specs_in (fold (with_seen at) store names).layers ≡ specs_in store.layers
+all_seen_keep : (at : QuestionContext) (store : StoreState) (names : List (List ℕ)) → specs_in (fold (with_seen at) store names).layers ≡ specs_in store.layers
 all_seen_keep at store [] = refl
 all_seen_keep at store (name ∷ names) = all_seen_keep at (with_seen at store name) names ∙ seen_keeps at store name
 
@@ -353,7 +353,7 @@ end_reads tool.ChildFault state rest new ends = absurd ends
 turn_keeps : (old : SessionState) (turn : FileTurn) → IsFileTurn old turn → specs_of turn.new ≡ specs_of old
 turn_keeps old turn is =
     let command : Command = LoadTemplateFile turn.path None in
-    let given : Given = record { found = turn.found; asked = Answers [] } in
+    let given : CommandInputs = record { found = turn.found; asked = Answers [] } in
     let left : SessionState = after_command old command given turn.new.files old.terminal in
     let done : HasDone command old (answer old command given).stepped left = record { given = given; gives = record { looks = is.finds; shows = (refl, refl) }; stepped_is = refl; new_is = refl } in
     ap specs_of is.new_is ∙ same_specs (names_on old command given) old.store.layers left.store.layers (others_stay command old left (answer old command given).stepped done)
@@ -383,12 +383,12 @@ served_keeps : (start : SessionState) (old new terminal : LinkState) (given : To
 served_keeps start old new terminal given layers files ended ended_is served =
     let ran = served.ran in
     record {
-      disk = ap (λ (f : FilesState). f.told.disk) served.files_are ∙ session_reads start served.state ran.turns ran.rest ran.pieces old.input given.last_code ran.course served.served ran.answered;
+      disk = ap (λ (f : FilesState). f.told.disk) served.files_are ∙ session_reads start served.state ran.transitions ran.rest ran.pieces old.input given.last_code ran.course served.served ran.answered;
       specs = λ is.
           let done : IsEnded (tool_end_of served.served) = was_served served.served ended (ends_so served.served served.state layers ended served.finishes) (subst IsEnded ended_is is) in
           session_keeps served.state layers served.served ended served.finishes
-          ∙ ap specs_of (state_left start served.state ran.turns ran.rest ran.pieces old.input given.last_code served.served done ran.answered)
-          ∙ course_keeps start ran.turns ran.course;
+          ∙ ap specs_of (state_left start served.state ran.transitions ran.rest ran.pieces old.input given.last_code served.served done ran.answered)
+          ∙ course_keeps start ran.transitions ran.course;
     }
 
 pub tool_keeps : (used : Tool) (start : SessionState) (old new : Links) (given : ToolAnswer) (told : List ℕ) (layers : List LayerState) (files : FilesState) → Uses used start old new given told layers files → KeepsAll start given.ended layers files
@@ -457,16 +457,16 @@ saved_before images files new how ended before save = record { saves = save.save
 
 -- ---- the whole run
 
-module _ (path : List ℕ) (how : End) (before after : Disk) (settled : IsSettled before.standing) where
+module _ (path : List ℕ) (how : End) (before after : Disk) (durable : IsDurable before.current) where
   none_saved : after ≡ before → KeepsDatabases path before after how
   none_saved same = subst (λ (disk : Disk). KeepsDatabases path before disk how) (sym same) (record {
     images = [];
     are_of = inl refl;
-    keeps = keeps_paths [] before before tt settled (none_more (MayAddAny []) before);
+    keeps = keeps_paths [] before before tt durable (none_more (MayAddAny []) before);
     saves = Ok tt;
     ends = refl;
     all_done = λ done. refl;
-    stands = λ ok. stand_saved [] before.standing tt;
+    stands = λ ok. stand_saved [] before.current tt;
   })
 
   module _ (conf : Configuration) (is : IsConfiguration (Some before) path conf) (layers : List LayerState) (specs : specs_in layers ≡ set_for (databases_of conf)) where
@@ -474,23 +474,23 @@ module _ (path : List ℕ) (how : End) (before after : Disk) (settled : IsSettle
     apart = places_apart (databases_of conf) (images_of layers) (fit_kept conf (roots conf) (sound_answer is.text conf is.reads))
         (places_kept_apart conf (roots conf) (sound_answer is.text conf is.reads)) (layers_of layers (databases_of conf) (set_up_for layers (databases_of conf) specs))
 
-    all_stand : after.standing ≡ all_saved before.standing (images_of layers) → StandSaved (images_of layers) before.standing after.standing
-    all_stand same = subst (StandSaved (images_of layers) before.standing) (sym same) (stand_saved (images_of layers) before.standing apart)
+    all_stand : after.current ≡ all_saved before.current (images_of layers) → StandSaved (images_of layers) before.current after.current
+    all_stand same = subst (StandSaved (images_of layers) before.current) (sym same) (stand_saved (images_of layers) before.current apart)
 
     some_saved : (files new : Told) → files.disk ≡ Some before → new.disk ≡ Some after → HasSaved (images_of layers) files new how → KeepsDatabases path before after how
     some_saved files new at to save = record {
       images = images_of layers;
       are_of = inr (record { conf = conf; conf_is = is; are_of = layers_of layers (databases_of conf) (set_up_for layers (databases_of conf) specs) });
-      keeps = keeps_paths (images_of layers) before after apart settled (every_moment (images_of layers) files new save.saves save.did before after at to settled);
+      keeps = keeps_paths (images_of layers) before after apart durable (every_moment (images_of layers) files new save.saves save.did before after at to durable);
       saves = save.saves;
-      ends = ends (images_of layers) files new save.saves save.did before after at to settled;
+      ends = ends (images_of layers) files new save.saves save.did before after at to durable;
       all_done = save.all_done;
-      stands = λ ok. all_stand (subst (λ (saves : Result (Unit {0}) SaveError). Ends (images_of layers) before.standing after.standing saves) ok (ends (images_of layers) files new save.saves save.did before after at to settled));
+      stands = λ ok. all_stand (subst (λ (saves : Result (Unit {0}) SaveError). Ends (images_of layers) before.current after.current saves) ok (ends (images_of layers) files new save.saves save.did before after at to durable));
     }
 
-module _ (settings : Settings) (old new : World) (outcome : Outcome) (before after : Disk) (at : old.stock.files.told.disk ≡ Some before) (to : new.stock.files.told.disk ≡ Some after) (settled : IsSettled before.standing) where
+module _ (settings : Settings) (old new : World) (outcome : Outcome) (before after : Disk) (at : old.stock.files.told.disk ≡ Some before) (to : new.stock.files.told.disk ≡ Some after) (durable : IsDurable before.current) where
   nothing_done : new.stock.files.told.disk ≡ old.stock.files.told.disk → KeepsDatabases settings.conf_path before after outcome.end
-  nothing_done same = none_saved settings.conf_path outcome.end before after settled (same_some after before (sym to ∙ same ∙ at))
+  nothing_done same = none_saved settings.conf_path outcome.end before after durable (same_some after before (sym to ∙ same ∙ at))
 
   module _ (used : Tool) (run : HasUsed used settings old new outcome) where
     keeps : KeepsAll (begun used run.mid run.roots settings old.links.io) run.answer.ended run.layers run.files
@@ -507,11 +507,11 @@ module _ (settings : Settings) (old new : World) (outcome : Outcome) (before aft
 
     kept_by : HasSaved (images_of run.layers) run.files.told new.stock.files.told outcome.end → specs_in run.layers ≡ set_for (databases_of run.started.conf) → KeepsDatabases settings.conf_path before after outcome.end
     kept_by save specs =
-        some_saved settings.conf_path outcome.end before after settled run.started.conf (subst (λ (disk : Option Disk). IsConfiguration disk settings.conf_path run.started.conf) at run.started.loaded.conf_is)
+        some_saved settings.conf_path outcome.end before after durable run.started.conf (subst (λ (disk : Option Disk). IsConfiguration disk settings.conf_path run.started.conf) at run.started.loaded.conf_is)
         run.layers specs run.files.told new.stock.files.told files_at to save
 
     none_by : new.stock.files ≡ run.files → KeepsDatabases settings.conf_path before after outcome.end
-    none_by same = none_saved settings.conf_path outcome.end before after settled (same_some after before (sym to ∙ ap (λ (files : FilesState). files.told.disk) same ∙ files_at))
+    none_by same = none_saved settings.conf_path outcome.end before after durable (same_some after before (sym to ∙ ap (λ (files : FilesState). files.told.disk) same ∙ files_at))
 
     saved_at : (ended : ToolEnd) → IsSaved run.layers new.stock.used run.files new.stock.files ended run.how ⊎ IsUnsaved run.layers new.stock.used run.files new.stock.files ended run.how ⊎ IsWithoutMemory run.layers new.stock.used run.files new.stock.files run.how
         → HasSaved (images_of run.layers) run.files.told new.stock.files.told outcome.end
@@ -538,9 +538,9 @@ module _ (settings : Settings) (old new : World) (outcome : Outcome) (before aft
 
 -- a run of a tool
 pub run_keeps : (used : Tool) (settings : Settings) (old new : World) (outcome : Outcome) (before after : Disk) → HasRunTool used settings old new outcome → old.stock.files.told.disk ≡ Some before
-    → new.stock.files.told.disk ≡ Some after → IsSettled before.standing → KeepsDatabases settings.conf_path before after outcome.end
-run_keeps used settings old new outcome before after run at to settled = tool_by settings old new outcome before after at to settled used run
+    → new.stock.files.told.disk ≡ Some after → IsDurable before.current → KeepsDatabases settings.conf_path before after outcome.end
+run_keeps used settings old new outcome before after run at to durable = tool_by settings old new outcome before after at to durable used run
 
 -- a run that did nothing on the files
-pub nothing_kept : (path : List ℕ) (how : End) (before after : Disk) (disk : Option Disk) → disk ≡ Some before → disk ≡ Some after → IsSettled before.standing → KeepsDatabases path before after how
-nothing_kept path how before after disk at to settled = none_saved path how before after settled (same_some after before (sym to ∙ at))
+pub nothing_kept : (path : List ℕ) (how : End) (before after : Disk) (disk : Option Disk) → disk ≡ Some before → disk ≡ Some after → IsDurable before.current → KeepsDatabases path before after how
+nothing_kept path how before after disk at to durable = none_saved path how before after durable (same_some after before (sym to ∙ at))

@@ -21,7 +21,7 @@ use Rattle.dc_run.specs.declared.outcome.ToolAnswer.{ToolAnswer}
 use Rattle.dc_run.specs.declared.outcome.ToolEnd.{ToolEnd}
 use Rattle.dc_run.specs.declared.outcome.ToolEnd.TheVariants as tool
 use Rattle.dc_run.proofs.Saying.{said_then, none_said}
-use Rattle.dc_usage.proofs.ToolLemmas.{rest_all}
+use Rattle.dc_cli.proofs.ToolLemmas.{rest_all}
 
 -- ---- one file
 

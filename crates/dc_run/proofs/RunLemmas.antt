@@ -7,14 +7,14 @@ use Rattle.dc_frontend.specs.declared.frontend.Frontend.TheVariants.{Noninteract
 use Rattle.dc_proto.specs.declared.priority.Priority.{Priority}
 use Rattle.dc_serve.specs.declared.outcome.LinkEnd.{LinkEnd}
 use Rattle.dc_serve.specs.declared.outcome.LinkEnd.TheVariants as link
-use Rattle.dc_session.specs.Asking.{manner_by}
+use Rattle.dc_session.specs.Asking.{policy_by}
 use Rattle.dc_session.specs.Serving.{IsFinished, Finishes as FinishesSession, IsServed}
 use Rattle.dc_session.specs.SessionState.{FilesState, SessionState}
 use Rattle.dc_session.specs.declared.stepped.StepError.{StepError}
 use Rattle.dc_session.specs.declared.stepped.StepError.TheVariants as step
-use Rattle.dc_usage.specs.Tools.{AreRefusedAt, IsToolWords, Names, NamesTool, IsCommand}
-use Rattle.dc_usage.specs.declared.tool.Tool.{Tool}
-use Rattle.dc_usage.specs.declared.tool.Tool.TheVariants.{Communicate, LoadTemplate, Run}
+use Rattle.dc_cli.specs.Tools.{AreRefusedAt, IsToolWords, Names, NamesTool, IsCommand}
+use Rattle.dc_cli.specs.declared.tool.Tool.{Tool}
+use Rattle.dc_cli.specs.declared.tool.Tool.TheVariants.{Communicate, LoadTemplate, Run}
 use Rattle.dc_run.specs.declared.outcome.End.{End}
 use Rattle.dc_run.specs.declared.outcome.End.TheVariants as end
 use Rattle.dc_run.specs.declared.outcome.Outcome.{Outcome}
@@ -29,7 +29,7 @@ use Rattle.dc_run.specs.Rounds.{Whole, RunState, Round, saves_of}
 use Rattle.dc_run.specs.Saves.{Save, Commits}
 use Rattle.dc_run.specs.Inside.{HasCommand, HasLoadedOver, HasServedProgram, HasUsedTool}
 use Rattle.dc_run.specs.Running.{HasRunProgram, Awaits}
-use Rattle.dc_run.specs.Starting.{EndsBefore, HasStarted, begun, chosen, chosen_frontend, chosen_priority, setting_of}
+use Rattle.dc_run.specs.Starting.{EndsBefore, HasStarted, begun, chosen, chosen_frontend, chosen_priority, context_of}
 use Rattle.dc_run.specs.World.{LinkState, ChildState, Links, Stock, World}
 use Rattle.dc_run.proofs.RoundLemmas.{most_none}
 use Rattle.dc_run.proofs.Saying.{none_said}
@@ -54,7 +54,7 @@ ends_so (link.Broken step.OutOfMemory) state layers ended finishes = inr finishe
 -- a session of a tool that begins with these as the frontend and the priority that were chosen
 abbrev begun_with : Tool → Stock → Roots → Settings → LinkState → Option Frontend → Option Priority → SessionState
 begun_with used stock roots settings io frontend priority =
-    record (begun used stock roots settings io) { manner = manner_by frontend priority settings.nonint_seen stock.used (setting_of roots settings) }
+    record (begun used stock roots settings io) { policy = policy_by frontend priority settings.nonint_seen stock.used (context_of roots settings) }
 
 module _ (used : Tool) (stock : Stock) (roots : Roots) (settings : Settings) (io terminal old new : LinkState) (layers : List LayerState) (files : FilesState) (ended : LinkEnd StepError) (code : ℕ) where
   -- it was served with these

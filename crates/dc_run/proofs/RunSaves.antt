@@ -6,7 +6,7 @@ use Rattle.dc_run.specs.declared.outcome.Outcome.{Outcome}
 use Rattle.dc_run.specs.declared.outcome.ToolEnd.{ToolEnd}
 use Rattle.dc_run.specs.declared.settings.Settings.{Settings}
 use Rattle.dc_run.specs.declared.starting.Roots.{Roots}
-use Rattle.dc_usage.specs.declared.tool.Tool.{Tool}
+use Rattle.dc_cli.specs.declared.tool.Tool.{Tool}
 use Rattle.dc_run.specs.Headline.{HasWorked}
 use Rattle.dc_run.specs.Rounds.{Job, Whole, RunState, Round, HasDone, Works, IsRound, is_saved_at}
 use Rattle.dc_run.specs.Saves.{Save, AreSaves, Commits}

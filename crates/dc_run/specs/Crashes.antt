@@ -25,6 +25,6 @@ pub record KeepsDatabases (path : List ℕ) (before after : Disk) (how : End) : 
   pub are_of : (images ≡ []) ⊎ AreOfConfiguration before path images
   pub keeps : KeepsPaths images before after
   pub saves : Result (Unit {0}) SaveError
-  pub ends : Ends images before.standing after.standing saves
+  pub ends : Ends images before.current after.current saves
   pub all_done : how ≡ end.Done → saves ≡ Ok tt
-  pub stands : saves ≡ Ok tt → StandSaved images before.standing after.standing
+  pub stands : saves ≡ Ok tt → StandSaved images before.current after.current

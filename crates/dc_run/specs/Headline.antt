@@ -5,8 +5,8 @@ use Rattle.dc_run.specs.declared.outcome.End.TheVariants as end
 use Rattle.dc_run.specs.declared.outcome.Outcome.{Outcome}
 use Rattle.dc_run.specs.declared.settings.Settings.{Settings}
 use Rattle.dc_run.specs.declared.starting.Roots.{Roots}
-use Rattle.dc_usage.specs.Tools.{Names, AreRefusedAt}
-use Rattle.dc_usage.specs.declared.tool.Tool.{Tool}
+use Rattle.dc_cli.specs.Tools.{Names, AreRefusedAt}
+use Rattle.dc_cli.specs.declared.tool.Tool.{Tool}
 use Rattle.dc_run.specs.EndLines.{end_line, HasSaidOn}
 use Rattle.dc_run.specs.Ends.{status_of}
 use Rattle.dc_run.specs.Rounds.{RunState, HaveRounds, jobs_of}

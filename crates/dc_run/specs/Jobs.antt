@@ -6,8 +6,8 @@ use Rattle.dc_session.specs.Serving.{IsServed}
 use Rattle.dc_session.specs.SessionState.{FilesState, SessionState}
 use Rattle.dc_session.specs.declared.stepped.StepError.{StepError}
 use Rattle.dc_run.specs.declared.outcome.ToolAnswer.{ToolAnswer}
-use Rattle.dc_usage.specs.declared.tool.Tool.{Tool}
-use Rattle.dc_usage.specs.declared.tool.Tool.TheVariants.{Communicate, LoadTemplate, Run}
+use Rattle.dc_cli.specs.declared.tool.Tool.{Tool}
+use Rattle.dc_cli.specs.declared.tool.Tool.TheVariants.{Communicate, LoadTemplate, Run}
 use Rattle.dc_run.specs.Ends.{tool_end_of}
 use Rattle.dc_run.specs.Running.{HasRunProgram}
 use Rattle.dc_run.specs.TemplateLoading.{HasLoadedFiles}

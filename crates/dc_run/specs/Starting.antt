@@ -15,10 +15,10 @@ use Rattle.dc_frontend.specs.declared.frontend.Frontend.{Frontend}
 use Rattle.dc_frontend.specs.declared.frontend.Frontend.TheVariants.{Noninteractive}
 use Rattle.dc_proto.specs.Priorities.{priority_of}
 use Rattle.dc_proto.specs.declared.priority.Priority.{Priority}
-use Rattle.dc_question.specs.Questions.{Setting}
+use Rattle.dc_question.specs.Questions.{QuestionContext}
 use Rattle.dc_save.specs.Loading.{IsTextAt}
 use Rattle.dc_save.specs.declared.loading.LoadError.{LoadError}
-use Rattle.dc_session.specs.Asking.{nothing_asked, manner_by}
+use Rattle.dc_session.specs.Asking.{nothing_asked, policy_by}
 use Rattle.dc_session.specs.SessionState.{FilesState, TerminalState, SessionState, nothing_typed, no_terminal}
 use Rattle.dc_shelf.specs.Shelves.{all_set_up, IsRefusedAt, LoadsAll}
 use Rattle.dc_shelf.specs.declared.shelf.NotSetUp.{NotSetUp}
@@ -29,9 +29,9 @@ use Rattle.dc_run.specs.declared.settings.Settings.{Settings}
 use Rattle.dc_run.specs.declared.starting.Roots.{Roots}
 use Rattle.dc_run.specs.Ends.{end_of_conf, end_of_patterns, end_of_load}
 use Rattle.dc_run.specs.World.{LinkState, Stock}
-use Rattle.dc_usage.specs.Tools.{owner_of}
-use Rattle.dc_usage.specs.declared.tool.Tool.{Tool}
-use Rattle.dc_usage.specs.declared.tool.Tool.TheVariants.{Run}
+use Rattle.dc_cli.specs.Tools.{owner_of}
+use Rattle.dc_cli.specs.declared.tool.Tool.{Tool}
+use Rattle.dc_cli.specs.declared.tool.Tool.TheVariants.{Run}
 
 -- ---- the configuration
 
@@ -60,8 +60,8 @@ abbrev pub chosen : Settings → Roots → Option Priority
 chosen settings roots = option_or (option_and_then priority_of settings.priority) (option_and_then priority_of roots.priority)
 
 -- where questions and templates stand in the layers, with the user's language
-abbrev pub setting_of : Roots → Settings → Setting
-setting_of roots settings = record { config = roots.config; templates = roots.templates; lang = settings.lang }
+abbrev pub context_of : Roots → Settings → QuestionContext
+context_of roots settings = record { config = roots.config; templates = roots.templates; lang = settings.lang }
 
 -- the priority that a tool's words or settings choose
 abbrev pub chosen_priority : Tool → Settings → Roots → Option Priority
@@ -87,9 +87,9 @@ begun used stock roots settings io = record {
   store = stored stock.used [];
   files = stock.files;
   terminal = terminal_of used io;
-  at = setting_of roots settings;
+  at = context_of roots settings;
   owner = owner_of used;
-  manner = manner_by (chosen_frontend used settings roots) (chosen_priority used settings roots) settings.nonint_seen stock.used (setting_of roots settings);
+  policy = policy_by (chosen_frontend used settings roots) (chosen_priority used settings roots) settings.nonint_seen stock.used (context_of roots settings);
   asking = nothing_asked;
 }
 

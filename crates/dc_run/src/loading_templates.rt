@@ -4,7 +4,7 @@ ghost use Rattle.dc_conf.specs.Plans.{IsOver, are_disjoint};
 ghost use Rattle.dc_store.specs.Plans.{stored};
 ghost use Rattle.dc_session.specs.SessionState.{TerminalState};
 ghost use Rattle.dc_session.specs.declared.asking.Asking.{Asking};
-ghost use Rattle.dc_session.specs.declared.manner.Manner.{Manner};
+ghost use Rattle.dc_session.specs.declared.policy.AskPolicy.{AskPolicy};
 ghost use Rattle.dc_run.specs.Inside.{end_text, is_unread, status_by, LoadsOne, LoadsFiles, HasLoadedOver};
 
 use crate::outcome::{ToolAnswer, ToolEnd};
@@ -13,7 +13,7 @@ use dc_conf::Plan;
 use dc_layer::Layer;
 use dc_outside::{Files, Link};
 use dc_question::Questions;
-use dc_session::{Desk, FileEnd, find_templates};
+use dc_session::{FileEnd, SessionQuestions, find_templates};
 use dc_store::Store;
 use dc_text::{List, Mem, Name, OutOfMemory, Text};
 use std::alloc::Global;
@@ -25,10 +25,10 @@ trait TakesTemplates {
     ghost use Rattle.dc_session.specs.SessionState.{SessionState, TerminalState};
     ghost use Rattle.dc_session.specs.FileLoading.{Loads};
     ghost use Rattle.dc_session.specs.declared.asking.Asking.{Asking};
-    ghost use Rattle.dc_session.specs.declared.manner.Manner.{Manner};
+    ghost use Rattle.dc_session.specs.declared.policy.AskPolicy.{AskPolicy};
 
     /// The state that it works on, of a session that asks so, which templates don't look at.
-    ghost state_at: { Self → TerminalState → Manner → Asking → SessionState };
+    ghost state_at: { Self → TerminalState → AskPolicy → Asking → SessionState };
 
     ghost Kept: { Type 0 };
 
@@ -37,7 +37,7 @@ trait TakesTemplates {
 
     /// Loads the templates of the file at the path for the owner of the state (debconf-loadtemplate(1)): all of them, or none.
     fn load_file(&mut self, path: &Text) -> Mem<FileEnd>
-        ensures loads { (terminal : TerminalState) (manner : Manner) (asking : Asking) → Loads path.now (state_at self.old terminal manner asking) (state_at self.new terminal manner asking) result }
+        ensures loads { (terminal : TerminalState) (policy : AskPolicy) (asking : Asking) → Loads path.now (state_at self.old terminal policy asking) (state_at self.new terminal policy asking) result }
         ensures kept { kept self.new ≡ kept self.old };
 }
 
@@ -45,7 +45,7 @@ trait TakesTemplates {
 #[derive(Drop)]
 struct Loader<'s, 'f, F: Files> {
     alloc: Global,
-    desk: Desk<'s>,
+    desk: SessionQuestions<'s>,
     files: &'f mut F,
     of: PhantomData<Box<dyn Layer>>,
 }
@@ -55,13 +55,13 @@ impl<'s, 'f, F: Files> TakesTemplates for Loader<'s, 'f, F> {
     ghost use Rattle.std.specs.Borrow.{GName};
     ghost use Rattle.dc_store.specs.Plans.{stored};
 
-    ghost state_at = { λ s terminal manner asking. record {
+    ghost state_at = { λ s terminal policy asking. record {
       store = stored (each (λ b. (Layer-box b).state b.value) s.desk.questions.store.now.layers.items) s.desk.questions.store.now.told;
       files = record { told = F.told s.files.now; counts = F.counts s.files.now };
       terminal = terminal;
-      at = s.desk.questions.setting;
+      at = s.desk.questions.context;
       owner = s.desk.owner.now;
-      manner = manner;
+      policy = policy;
       asking = asking;
     } };
 
@@ -94,8 +94,8 @@ pub fn load_template_files<E: Link, F: Files>(
     requires config { IsOver config.now (length layers.old.items) }
     requires templates { IsOver templates.now (length layers.old.items) }
     requires disjoint { are_disjoint config.now templates.now ≡ true }
-    ensures { (terminal : TerminalState) (manner : Manner) (asking : Asking) → HasLoadedOver
-        (record { store = stored (each state layers.old.items) []; files = record { told = F.told files.old; counts = F.counts files.old }; terminal = terminal; at = record { config = config.now; templates = templates.now; lang = lang.now }; owner = owner.now; manner = manner; asking = asking }) paths.now
+    ensures { (terminal : TerminalState) (policy : AskPolicy) (asking : Asking) → HasLoadedOver
+        (record { store = stored (each state layers.old.items) []; files = record { told = F.told files.old; counts = F.counts files.old }; terminal = terminal; at = record { config = config.now; templates = templates.now; lang = lang.now }; owner = owner.now; policy = policy; asking = asking }) paths.now
         (record { talk = E.talk err.old; input = E.left err.old; counts = record { faults = E.faults err.old; refusals = E.refusals err.old } })
         (record { talk = E.talk err.new; input = E.left err.new; counts = record { faults = E.faults err.new; refusals = E.refusals err.new } })
         result (each state layers.new.items) (record { told = F.told files.new; counts = F.counts files.new }) }
@@ -104,7 +104,7 @@ pub fn load_template_files<E: Link, F: Files>(
     let questions = Questions::new(alloc, &mut store, config, templates, lang);
     let mut loader = Loader {
         alloc,
-        desk: Desk::new(questions, owner),
+        desk: SessionQuestions::new(questions, owner),
         files,
         of: PhantomData,
     };
@@ -136,10 +136,10 @@ fn load_files<S: TakesTemplates, E: Link>(
     err: &mut E,
     paths: &[Text],
 ) -> FilesLoaded
-    ensures loads { (terminal : TerminalState) (manner : Manner) (asking : Asking) → LoadsFiles (S.state_at session.old terminal manner asking) paths.now
+    ensures loads { (terminal : TerminalState) (policy : AskPolicy) (asking : Asking) → LoadsFiles (S.state_at session.old terminal policy asking) paths.now
         (record { talk = E.talk err.old; input = E.left err.old; counts = record { faults = E.faults err.old; refusals = E.refusals err.old } })
         (record { talk = E.talk err.new; input = E.left err.new; counts = record { faults = E.faults err.new; refusals = E.refusals err.new } })
-        result (S.state_at session.new terminal manner asking) }
+        result (S.state_at session.new terminal policy asking) }
     ensures kept { S.kept session.new ≡ S.kept session.old }
 {
     let mut refused = false;
@@ -169,10 +169,10 @@ fn load_one<S: TakesTemplates, E: Link>(
     err: &mut E,
     path: &Text,
 ) -> Result<bool, ToolEnd>
-    ensures loads { (terminal : TerminalState) (manner : Manner) (asking : Asking) → LoadsOne (S.state_at session.old terminal manner asking) path.now
+    ensures loads { (terminal : TerminalState) (policy : AskPolicy) (asking : Asking) → LoadsOne (S.state_at session.old terminal policy asking) path.now
         (record { talk = E.talk err.old; input = E.left err.old; counts = record { faults = E.faults err.old; refusals = E.refusals err.old } })
         (record { talk = E.talk err.new; input = E.left err.new; counts = record { faults = E.faults err.new; refusals = E.refusals err.new } })
-        result (S.state_at session.new terminal manner asking) }
+        result (S.state_at session.new terminal policy asking) }
     ensures kept { S.kept session.new ≡ S.kept session.old }
 {
     let kept = match path.copy() {

@@ -1,7 +1,7 @@
 // The call that the program makes.
 ghost use Rattle.std.specs.Prelude.{◌≡◌, ◌≤◌, [], Some, length, map as each, true};
 ghost use Rattle.dc_conf.specs.Plans.{IsOver, are_disjoint};
-ghost use Rattle.dc_outside.specs.Disk.{Disk, IsSettled};
+ghost use Rattle.dc_outside.specs.Disk.{Disk, IsDurable};
 ghost use Rattle.dc_conf.specs.declared.spec.LayerSort.TheVariants.{File as OneFile, Tree, Pack};
 ghost use Rattle.dc_shelf.specs.Shelves.{AreBlank};
 ghost use Rattle.dc_run.specs.Crashes.{KeepsDatabases};
@@ -19,11 +19,11 @@ use crate::serving::{RunAsking, communicate, run_program};
 use crate::settings::Settings;
 use crate::starting::{Roots, start};
 use crate::telling::tell_end;
+use dc_cli::{Tool, ToolError, read_tool};
 use dc_layer::Layer;
 use dc_outside::{Child, Files, Link};
 use dc_shelf::Shelf;
 use dc_text::{List, Text};
-use dc_usage::{Tool, ToolError, read_tool};
 use std::alloc::Global;
 
 /// Runs the tool that the words name, over the link `io` and the databases that the configuration at `settings.conf_path` names
@@ -72,7 +72,7 @@ pub fn run_words<L: Link, E: Link, C: Child, F: Files>(
     ensures program_counts { ProgramCounts result.end (C.program child.old).failures (C.program child.new).failures }
 
     // Killed at any moment, it leaves each database as before or as it is saved, where nothing was pending on the disk when it began.
-    ensures killed { (before after : Disk) → (F.told files.old).disk ≡ Some before → (F.told files.new).disk ≡ Some after → IsSettled before.standing → KeepsDatabases settings.now.conf_path before after result.end }
+    ensures killed { (before after : Disk) → (F.told files.old).disk ≡ Some before → (F.told files.new).disk ≡ Some after → IsDurable before.current → KeepsDatabases settings.now.conf_path before after result.end }
 {
     match read_tool(alloc, words) {
         Err(ToolError::Refused { word }) => end_run(err, End::Usage { word }, 0, 0),

@@ -5,12 +5,12 @@ ghost use Rattle.dc_outside.specs.Programs.{Unstarted, IsRunning};
 ghost use Rattle.dc_run.specs.Jobs.{HasCommunicated};
 ghost use Rattle.dc_run.specs.Inside.{HasServedProgram};
 ghost use Rattle.dc_run.specs.Running.{HasRunProgram, end_unstarted as end_unstarted_of};
-ghost use Rattle.dc_run.specs.Starting.{begun, setting_of};
-ghost use Rattle.dc_session.specs.Asking.{nothing_asked, manner_by};
+ghost use Rattle.dc_run.specs.Starting.{begun, context_of};
+ghost use Rattle.dc_session.specs.Asking.{nothing_asked, policy_by};
 ghost use Rattle.dc_session.specs.Serving.{IsServed};
 ghost use Rattle.dc_session.specs.SessionState.{nothing_typed};
 ghost use Rattle.dc_store.specs.Plans.{stored};
-ghost use Rattle.dc_usage.specs.declared.tool.Tool.TheVariants.{Communicate, Run};
+ghost use Rattle.dc_cli.specs.declared.tool.Tool.TheVariants.{Communicate, Run};
 
 use crate::outcome::{ToolAnswer, ToolEnd, tool_end};
 use crate::settings::Settings;
@@ -173,9 +173,9 @@ fn serve_for<L: Link, T: Link, F: Files>(
           store = stored (each state used.old.items) [];
           files = record { told = F.told files.old; counts = F.counts files.old };
           terminal = record { link = record { talk = T.talk terminal.old; input = T.left terminal.old; counts = record { faults = T.faults terminal.old; refusals = T.refusals terminal.old } }; ahead = nothing_typed };
-          at = setting_of roots.now settings.now;
+          at = context_of roots.now settings.now;
           owner = owner.now;
-          manner = manner_by frontend threshold settings.now.nonint_seen (each state used.old.items) (setting_of roots.now settings.now);
+          policy = policy_by frontend threshold settings.now.nonint_seen (each state used.old.items) (context_of roots.now settings.now);
           asking = nothing_asked;
         })
         (each state used.new.items) (record { told = F.told files.new; counts = F.counts files.new })

@@ -4,5 +4,5 @@ pub mod ImageLemmas
 pub mod LoadedLemmas
 pub mod Ends
 pub mod PlaceLemmas
-pub mod Standing
+pub mod DiskState
 pub mod TableLemmas

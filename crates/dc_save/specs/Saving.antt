@@ -5,7 +5,7 @@ use Rattle.std.specs.Option.{option_map_or}
 use Rattle.dc_outside.specs.Counts.{FaultRose, RefusalRose}
 use Rattle.std.specs.FinMap as map
 use Rattle.dc_text.specs.Maps.{Texts}
-use Rattle.dc_outside.specs.Disk.{Disk, Standing, File, file_at, Among, IsSettled, IsSound, moment, Left, HasLeftMore, MayLeaveMore}
+use Rattle.dc_outside.specs.Disk.{Disk, DiskState, File, file_at, Among, IsDurable, IsSound, moment, Left, HasLeftMore, MayLeaveMore}
 use Rattle.dc_outside.specs.Told.{Told, Counts}
 use Rattle.dc_outside.specs.Steps.{Step, Writing, Syncing, Renaming, SyncingNames, Removing}
 use Rattle.dc_layer.specs.declared.image.Image.{Image}
@@ -126,7 +126,7 @@ MayAddAny (image ∷ images) path entry = MayAdd image path entry ⊎ MayAddAny 
 -- where the disk is told and was settled, a crash at any moment leaves what it would have left before, and at most what the saves
 -- may add
 abbrev pub LeavesOldOrNew : List Image → Told → Told → Type 0
-LeavesOldOrNew images old new = (before after : Disk) → old.disk ≡ Some before → new.disk ≡ Some after → IsSettled before.standing → HasLeftMore (MayAddAny images) before after
+LeavesOldOrNew images old new = (before after : Disk) → old.disk ≡ Some before → new.disk ≡ Some after → IsDurable before.current → HasLeftMore (MayAddAny images) before after
 
 -- ---- what stands at the end
 
@@ -139,21 +139,21 @@ abbrev pub with_placed : Texts File → Image → Texts File
 with_placed files image = option_map_or (λ text. map.insert (map.remove files (new_path image.path)) image.path (record { bytes = text; mode = image.mode })) image.bytes (map.remove files image.path)
 
 -- after a save of the image that is done a crash leaves what stands
-abbrev pub saved : Standing → Image → Standing
+abbrev pub saved : DiskState → Image → DiskState
 saved old image = record { files = with_placed (with_kept old.files image) image; pending = map.empty }
 
 -- after saves of the images, in order
-abbrev pub all_saved : Standing → List Image → Standing
+abbrev pub all_saved : DiskState → List Image → DiskState
 all_saved old [] = old
 all_saved old (image ∷ images) = all_saved (saved old image) images
 
 -- what stands may be left by a crash, and a crash leaves at most what the save of the image may add
-pub record IsHalfSaved (image : Image) (old new : Standing) : Type 0 where
+pub record IsHalfSaved (image : Image) (old new : DiskState) : Type 0 where
   pub sound : IsSound new
   pub at_most : MayLeaveMore (MayAdd image) old new
 
 -- the images before one are saved, that one by half, and no other
-pub record IsSavedTo (path : List ℕ) (images : List Image) (old new : Standing) : Type 0 where
+pub record IsSavedTo (path : List ℕ) (images : List Image) (old new : DiskState) : Type 0 where
   pub before : List Image
   pub image : Image
   pub after : List Image
@@ -162,14 +162,14 @@ pub record IsSavedTo (path : List ℕ) (images : List Image) (old new : Standing
   pub half : IsHalfSaved image (all_saved old before) new
 
 -- what stands at the end, by the answer
-abbrev pub Ends : List Image → Standing → Standing → Result (Unit {0}) SaveError → Type 0
+abbrev pub Ends : List Image → DiskState → DiskState → Result (Unit {0}) SaveError → Type 0
 Ends images old new (Ok value) = new ≡ all_saved old images
 Ends images old new (Err (Failed path)) = IsSavedTo path images old new
 Ends images old new (Err OutOfMemory) = (new ≡ old) ⊎ ((path : List ℕ) × IsSavedTo path images old new)
 
 -- where the disk is told and was settled
 abbrev pub EndsWith : List Image → Told → Told → Result (Unit {0}) SaveError → Type 0
-EndsWith images old new result = (before after : Disk) → old.disk ≡ Some before → new.disk ≡ Some after → IsSettled before.standing → Ends images before.standing after.standing result
+EndsWith images old new result = (before after : Disk) → old.disk ≡ Some before → new.disk ≡ Some after → IsDurable before.current → Ends images before.current after.current result
 
 -- ---- paths apart
 
@@ -193,8 +193,8 @@ pub record KeepsPaths (images : List Image) (before after : Disk) : Type 0 where
 
 -- what stands after the images are saved: at each path the image's file, beside it the old text where there is one, and else what
 -- stood before
-pub record StandSaved (images : List Image) (old new : Standing) : Type 0 where
-  pub settled : IsSettled old → IsSettled new
+pub record StandSaved (images : List Image) (old new : DiskState) : Type 0 where
+  pub durable : IsDurable old → IsDurable new
   pub files : (image : Image) → Among images image → map.get new.files image.path ≡ file_of image
   pub kept : (image : Image) (text : List ℕ) → Among images image → image.old ≡ Some text → map.get new.files (old_path image.path) ≡ Some (record { bytes = text; mode = image.mode })
   pub others : (path : List ℕ) → AllByRecursion (λ image. Among (paths_of image) path → ⊥) images → map.get new.files path ≡ map.get old.files path

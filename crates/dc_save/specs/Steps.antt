@@ -1,15 +1,15 @@
 -- Steps of a save, one after another.
 use Rattle.std.specs.Prelude.{◌≡◌, ◌⊎◌, List, [], ◌∷◌, Result, Ok, Err}
-use Rattle.dc_outside.specs.Disk.{Standing}
+use Rattle.dc_outside.specs.Disk.{DiskState}
 use Rattle.dc_outside.specs.Told.{Told}
 use Rattle.dc_outside.specs.Steps.{Step, done, after_step, FailsAt}
 use Rattle.dc_outside.specs.declared.files.FilesError.{FilesError}
 use Rattle.dc_outside.specs.declared.files.FilesError.TheVariants.{Failed, OutOfMemory}
 
 -- what stands after steps that are done
-abbrev pub all_done : List Step → Standing → Standing
-all_done [] standing = standing
-all_done (step ∷ steps) standing = all_done steps (done step standing)
+abbrev pub all_done : List Step → DiskState → DiskState
+all_done [] current = current
+all_done (step ∷ steps) current = all_done steps (done step current)
 
 abbrev pub after_steps : Told → List Step → Told
 after_steps told [] = told

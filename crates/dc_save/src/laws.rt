@@ -6,7 +6,7 @@ ghost use Rattle.dc_conf.specs.Configuration.{are_apart, fits_sort};
 ghost use Rattle.dc_conf.specs.declared.spec.LayerSpec.{LayerSpec};
 ghost use Rattle.dc_layer.specs.declared.image.Image.{Image};
 ghost use Rattle.dc_save.specs.declared.saving.SaveError.{SaveError};
-ghost use Rattle.dc_outside.specs.Disk.{Disk, Standing, IsSettled, HasLeftMore};
+ghost use Rattle.dc_outside.specs.Disk.{Disk, DiskState, IsDurable, HasLeftMore};
 ghost use Rattle.dc_save.specs.Saving.{Saves, LeavesOldOrNew, MayAddAny, AreApart, KeepsPaths, StandSaved, all_images, all_saved};
 ghost use Rattle.dc_layer.specs.State.{LayerState, images};
 ghost use Rattle.dc_save.specs.Places.{AreOf, AreSetUpFor};
@@ -19,12 +19,12 @@ pub fn no_half_is_left()
 /// Where no two images may write the same path, a crash leaves at the path of each its old file or the new one, and every other
 /// path as it was.
 pub fn paths_have_old_or_new()
-    ensures { (images : List Image) (before after : Disk) → AreApart images → IsSettled before.standing → HasLeftMore (MayAddAny images) before after → KeepsPaths images before after }
+    ensures { (images : List Image) (before after : Disk) → AreApart images → IsDurable before.current → HasLeftMore (MayAddAny images) before after → KeepsPaths images before after }
 {}
 
 /// What stands after such images are saved.
 pub fn saved_images_stand()
-    ensures { (images : List Image) (old : Standing) → AreApart images → StandSaved images old (all_saved old images) }
+    ensures { (images : List Image) (old : DiskState) → AreApart images → StandSaved images old (all_saved old images) }
 {}
 
 /// Images of databases whose places don't meet are such images.

@@ -1,15 +1,15 @@
 -- Where the machine is a function, the lines determine the turns.
 use Rattle.std.proofs.Common.{◌≡◌, List, [], ◌∷◌, refl}
 use Rattle.dc_words.specs.declared.stream.Line.{Line}
-use Rattle.dc_serve.specs.declared.heeds.Heeded.{Heeded}
-use Rattle.dc_serve.specs.Course.{Turn, lines_of, IsCourse}
+use Rattle.dc_serve.specs.declared.machine.Response.{Response}
+use Rattle.dc_serve.specs.Execution.{Transition, lines_of, IsExecution}
 use Rattle.dc_serve.specs.Determined.{IsFunction}
 
-module _ {S : Type 0} (heeds : S → Line → Heeded → S → Type 0) (function : IsFunction heeds) where
-  pub determined : (start : S) (a b : List (Turn S)) → IsCourse heeds start a → IsCourse heeds start b → lines_of a ≡ lines_of b → a ≡ b
+module _ {S : Type 0} (steps : S → Line → Response → S → Type 0) (function : IsFunction steps) where
+  pub determined : (start : S) (a b : List (Transition S)) → IsExecution steps start a → IsExecution steps start b → lines_of a ≡ lines_of b → a ≡ b
   determined start [] [] first second same = refl
-  determined start [] (turn ∷ b) first second same = cc
-  determined start (turn ∷ a) [] first second same = cc
+  determined start [] (transition ∷ b) first second same = cc
+  determined start (transition ∷ a) [] first second same = cc
   determined start (one ∷ a) (other ∷ b) first second same =
       let line : one.line ≡ other.line = cc in
       let rest : lines_of a ≡ lines_of b = cc in

@@ -5,23 +5,23 @@ use Rattle.dc_words.specs.declared.stream.Line.{Line}
 use Rattle.dc_outside.specs.declared.link.Piece.{Piece}
 use Rattle.dc_outside.specs.declared.link.Piece.TheVariants.{Sent, Cut}
 use Rattle.dc_outside.specs.Talk.{then_pieces}
-use Rattle.dc_serve.specs.declared.heeds.Heeded.{Heeded}
-use Rattle.dc_serve.specs.declared.heeds.Heeded.TheVariants as did
+use Rattle.dc_serve.specs.declared.machine.Response.{Response}
+use Rattle.dc_serve.specs.declared.machine.Response.TheVariants as did
 use Rattle.dc_serve.specs.declared.outcome.Served.{Served}
 use Rattle.dc_serve.specs.declared.outcome.Served.TheVariants.{On, Stopped, Failed, OutOfMemory, Broken}
-use Rattle.dc_serve.specs.Course.{Turn, lines_of, stops}
+use Rattle.dc_serve.specs.Execution.{Transition, lines_of, stops}
 use Rattle.dc_serve.specs.Inside.{Serves, HasServed, Sends}
 use Rattle.dc_serve.specs.Said.{AreSaid}
 use Rattle.dc_serve.proofs.Courses.{lines_of-append, state_after-append, stops-append, replies-append, last_code_from-append, course-append}
 use Rattle.dc_serve.proofs.Talks.{then_pieces-nil, then_pieces-then_pieces}
 
-module _ {S B : Type 0} (heeds : S → Line → Heeded → S → Type 0) (breaks : S → Line → B → S → Type 0) where
+module _ {S B : Type 0} (steps : S → Line → Response → S → Type 0) (aborts : S → Line → B → S → Type 0) where
   -- ---- one line
 
   -- a line without a reply
-  pub line_silent : (talk : Option (List Piece)) (s new : S) (line : Line) (code : ℕ) → heeds s line did.Silent new → HasServed heeds breaks talk talk s (line ∷ []) On code new code
+  pub line_silent : (talk : Option (List Piece)) (s new : S) (line : Line) (code : ℕ) → steps s line did.Silent new → HasServed steps aborts talk talk s (line ∷ []) On code new code
   line_silent talk s new line code heeded = record {
-    turns = record { line = line; did = did.Silent; new = new } ∷ [];
+    transitions = record { line = line; did = did.Silent; new = new } ∷ [];
     rest = [];
     lines_are = refl;
     course = (heeded, (λ _. refl), tt);
@@ -31,9 +31,9 @@ module _ {S B : Type 0} (heeds : S → Line → Heeded → S → Type 0) (breaks
   }
 
   -- a line that stops the machine
-  pub line_stopped : (talk : Option (List Piece)) (s new : S) (line : Line) (code : ℕ) → heeds s line did.Stopped new → HasServed heeds breaks talk talk s (line ∷ []) Stopped code new code
+  pub line_stopped : (talk : Option (List Piece)) (s new : S) (line : Line) (code : ℕ) → steps s line did.Stopped new → HasServed steps aborts talk talk s (line ∷ []) Stopped code new code
   line_stopped talk s new line code heeded = record {
-    turns = record { line = line; did = did.Stopped; new = new } ∷ [];
+    transitions = record { line = line; did = did.Stopped; new = new } ∷ [];
     rest = [];
     lines_are = refl;
     course = (heeded, (λ _. refl), tt);
@@ -43,9 +43,9 @@ module _ {S B : Type 0} (heeds : S → Line → Heeded → S → Type 0) (breaks
   }
 
   -- a line at which the machine broke
-  pub line_broken : (talk : Option (List Piece)) (s new : S) (line : Line) (error : B) (code : ℕ) → breaks s line error new → HasServed heeds breaks talk talk s (line ∷ []) (Broken error) code new code
+  pub line_broken : (talk : Option (List Piece)) (s new : S) (line : Line) (error : B) (code : ℕ) → aborts s line error new → HasServed steps aborts talk talk s (line ∷ []) (Broken error) code new code
   line_broken talk s new line error code broke = record {
-    turns = [];
+    transitions = [];
     rest = line ∷ [];
     lines_are = refl;
     course = tt;
@@ -56,10 +56,10 @@ module _ {S B : Type 0} (heeds : S → Line → Heeded → S → Type 0) (breaks
 
   -- a line whose reply was sent, cut, or not begun
   pub line_replied : (outcome : Served B) (talk new_talk : Option (List Piece)) (s new : S) (line : Line) (code : ℕ) (text : List ℕ) (last new_last : ℕ)
-      → heeds s line (did.Replied code text) new → Sends outcome talk new_talk code text last new_last
-      → HasServed heeds breaks talk new_talk s (line ∷ []) outcome last new new_last
+      → steps s line (did.Replied code text) new → Sends outcome talk new_talk code text last new_last
+      → HasServed steps aborts talk new_talk s (line ∷ []) outcome last new new_last
   line_replied On talk new_talk s new line code text last new_last heeded sends = record {
-    turns = record { line = line; did = did.Replied code text; new = new } ∷ [];
+    transitions = record { line = line; did = did.Replied code text; new = new } ∷ [];
     rest = [];
     lines_are = refl;
     course = (heeded, (λ _. refl), tt);
@@ -69,7 +69,7 @@ module _ {S B : Type 0} (heeds : S → Line → Heeded → S → Type 0) (breaks
   }
   line_replied Stopped talk new_talk s new line code text last new_last heeded sends = absurd sends
   line_replied Failed talk new_talk s new line code text last new_last heeded sends = record {
-    turns = record { line = line; did = did.Replied code text; new = new } ∷ [];
+    transitions = record { line = line; did = did.Replied code text; new = new } ∷ [];
     rest = [];
     lines_are = refl;
     course = (heeded, (λ _. refl), tt);
@@ -90,7 +90,7 @@ module _ {S B : Type 0} (heeds : S → Line → Heeded → S → Type 0) (breaks
     };
   }
   line_replied OutOfMemory talk new_talk s new line code text last new_last heeded sends = record {
-    turns = record { line = line; did = did.Replied code text; new = new } ∷ [];
+    transitions = record { line = line; did = did.Replied code text; new = new } ∷ [];
     rest = [];
     lines_are = refl;
     course = (heeded, (λ _. refl), tt);
@@ -102,7 +102,7 @@ module _ {S B : Type 0} (heeds : S → Line → Heeded → S → Type 0) (breaks
 
   -- ---- lines after others
 
-  pub said_more : (s mid new : S) (a b : List (Turn S)) (first second : List Piece) (code mid_code new_code : ℕ)
+  pub said_more : (s mid new : S) (a b : List (Transition S)) (first second : List Piece) (code mid_code new_code : ℕ)
       → AreSaid s a first code mid mid_code → AreSaid mid b second mid_code new new_code → AreSaid s (a ++ b) (first ++ second) code new new_code
   said_more s mid new a b first second code mid_code new_code here later = record {
     pieces_are = rw (replies-append a b, here.pieces_are, later.pieces_are) refl;
@@ -111,9 +111,9 @@ module _ {S B : Type 0} (heeds : S → Line → Heeded → S → Type 0) (breaks
   }
 
   -- after turns that were all said, others are taken
-  pub serves_more : (s mid new : S) (a b : List (Turn S)) (rest : List Line) (first second : List Piece) (outcome : Served B) (code mid_code new_code : ℕ)
-      → AreSaid s a first code mid mid_code → stops a ≡ false → Serves breaks mid b rest outcome second mid_code new new_code
-      → Serves breaks s (a ++ b) rest outcome (first ++ second) code new new_code
+  pub serves_more : (s mid new : S) (a b : List (Transition S)) (rest : List Line) (first second : List Piece) (outcome : Served B) (code mid_code new_code : ℕ)
+      → AreSaid s a first code mid mid_code → stops a ≡ false → Serves aborts mid b rest outcome second mid_code new new_code
+      → Serves aborts s (a ++ b) rest outcome (first ++ second) code new new_code
   serves_more s mid new a b rest first second On code mid_code new_code here on serves = record {
     are_said = said_more s mid new a b first second code mid_code new_code here serves.are_said;
     on = stops-append a b on ∙ serves.on;
@@ -159,13 +159,13 @@ module _ {S B : Type 0} (heeds : S → Line → Heeded → S → Type 0) (breaks
   }
 
   -- what was not served on stays so, whatever lines follow
-  pub serves_ended : (s new : S) (turns : List (Turn S)) (rest more : List Line) (pieces : List Piece) (outcome : Served B) (code new_code : ℕ)
-      → outcome ≢ On → Serves breaks s turns rest outcome pieces code new new_code → Serves breaks s turns (rest ++ more) outcome pieces code new new_code
-  serves_ended s new turns rest more pieces On code new_code ended serves = absurd (ended refl)
-  serves_ended s new turns rest more pieces Stopped code new_code ended serves = serves
-  serves_ended s new turns rest more pieces Failed code new_code ended serves = serves
-  serves_ended s new turns rest more pieces OutOfMemory code new_code ended serves = serves
-  serves_ended s new turns rest more pieces (Broken error) code new_code ended serves = record {
+  pub serves_ended : (s new : S) (transitions : List (Transition S)) (rest more : List Line) (pieces : List Piece) (outcome : Served B) (code new_code : ℕ)
+      → outcome ≢ On → Serves aborts s transitions rest outcome pieces code new new_code → Serves aborts s transitions (rest ++ more) outcome pieces code new new_code
+  serves_ended s new transitions rest more pieces On code new_code ended serves = absurd (ended refl)
+  serves_ended s new transitions rest more pieces Stopped code new_code ended serves = serves
+  serves_ended s new transitions rest more pieces Failed code new_code ended serves = serves
+  serves_ended s new transitions rest more pieces OutOfMemory code new_code ended serves = serves
+  serves_ended s new transitions rest more pieces (Broken error) code new_code ended serves = record {
     on = serves.on;
     line = serves.line;
     more = serves.more ++ more;
@@ -176,26 +176,26 @@ module _ {S B : Type 0} (heeds : S → Line → Heeded → S → Type 0) (breaks
   }
 
   pub has_served_more : (talk mid_talk new_talk : Option (List Piece)) (s mid new : S) (a b : List Line) (outcome : Served B) (code mid_code new_code : ℕ)
-      → HasServed heeds breaks talk mid_talk s a On code mid mid_code → HasServed heeds breaks mid_talk new_talk mid b outcome mid_code new new_code
-      → HasServed heeds breaks talk new_talk s (a ++ b) outcome code new new_code
+      → HasServed steps aborts talk mid_talk s a On code mid mid_code → HasServed steps aborts mid_talk new_talk mid b outcome mid_code new new_code
+      → HasServed steps aborts talk new_talk s (a ++ b) outcome code new new_code
   has_served_more talk mid_talk new_talk s mid new a b outcome code mid_code new_code first second = record {
-    turns = first.turns ++ second.turns;
+    transitions = first.transitions ++ second.transitions;
     rest = second.rest;
-    lines_are = rw (first.lines_are, first.serves.none_left, append-nil (lines_of first.turns), second.lines_are, lines_of-append first.turns second.turns, append_assoc) refl;
-    course = course-append heeds s first.turns second.turns first.serves.on first.course (rw (← first.serves.are_said.state_is) second.course);
+    lines_are = rw (first.lines_are, first.serves.none_left, append-nil (lines_of first.transitions), second.lines_are, lines_of-append first.transitions second.transitions, append_assoc) refl;
+    course = course-append steps s first.transitions second.transitions first.serves.on first.course (rw (← first.serves.are_said.state_is) second.course);
     pieces = first.pieces ++ second.pieces;
     told_is = second.told_is ∙ ap (λ (t : Option (List Piece)). then_pieces t second.pieces) first.told_is ∙ then_pieces-then_pieces talk first.pieces second.pieces;
-    serves = serves_more s mid new first.turns second.turns second.rest first.pieces second.pieces outcome code mid_code new_code first.serves.are_said first.serves.on second.serves;
+    serves = serves_more s mid new first.transitions second.transitions second.rest first.pieces second.pieces outcome code mid_code new_code first.serves.are_said first.serves.on second.serves;
   }
 
-module _ {S B : Type 0} {heeds : S → Line → Heeded → S → Type 0} {breaks : S → Line → B → S → Type 0} where
+module _ {S B : Type 0} {steps : S → Line → Response → S → Type 0} {aborts : S → Line → B → S → Type 0} where
   -- memory ran out behind lines that were served
   pub broken_off : {talk new_talk : Option (List Piece)} {s new : S} {gone : List Line} {code new_code : ℕ} (lines later : List Line)
-      → HasServed heeds breaks talk new_talk s gone On code new new_code → lines ≡ gone ++ later → HasServed heeds breaks talk new_talk s lines OutOfMemory code new new_code
+      → HasServed steps aborts talk new_talk s gone On code new new_code → lines ≡ gone ++ later → HasServed steps aborts talk new_talk s lines OutOfMemory code new new_code
   broken_off lines later served are = record {
-    turns = served.turns;
+    transitions = served.transitions;
     rest = later;
-    lines_are = rw (are, served.lines_are, served.serves.none_left, append-nil (lines_of served.turns)) refl;
+    lines_are = rw (are, served.lines_are, served.serves.none_left, append-nil (lines_of served.transitions)) refl;
     course = served.course;
     pieces = served.pieces;
     told_is = served.told_is;
@@ -204,28 +204,28 @@ module _ {S B : Type 0} {heeds : S → Line → Heeded → S → Type 0} {breaks
 
   -- one more line, and serving ends there
   pub ended_at : {talk mid_talk new_talk : Option (List Piece)} {s mid new : S} {gone : List Line} {line : Line} {outcome : Served B} {code mid_code new_code : ℕ} (lines later rest : List Line)
-      → HasServed heeds breaks talk mid_talk s gone On code mid mid_code → HasServed heeds breaks mid_talk new_talk mid (line ∷ []) outcome mid_code new new_code
-      → lines ≡ gone ++ later → later ≡ line ∷ rest → outcome ≢ On → HasServed heeds breaks talk new_talk s lines outcome code new new_code
+      → HasServed steps aborts talk mid_talk s gone On code mid mid_code → HasServed steps aborts mid_talk new_talk mid (line ∷ []) outcome mid_code new new_code
+      → lines ≡ gone ++ later → later ≡ line ∷ rest → outcome ≢ On → HasServed steps aborts talk new_talk s lines outcome code new new_code
   ended_at {talk = talk} {mid_talk = mid_talk} {new_talk = new_talk} {s = s} {mid = mid} {new = new} {gone = gone} {line = line} {outcome = outcome} {code = code} {mid_code = mid_code} {new_code = new_code} lines later rest served here are first ended =
-      let both = has_served_more heeds breaks talk mid_talk new_talk s mid new gone (line ∷ []) outcome code mid_code new_code served here in
+      let both = has_served_more steps aborts talk mid_talk new_talk s mid new gone (line ∷ []) outcome code mid_code new_code served here in
       let parts : lines ≡ (gone ++ line ∷ []) ++ rest = are ∙ ap (λ (l : List Line). gone ++ l) first ∙ sym (append_assoc gone (line ∷ []) rest) in
       record {
-        turns = both.turns;
+        transitions = both.transitions;
         rest = both.rest ++ rest;
-        lines_are = parts ∙ ap (λ (l : List Line). l ++ rest) both.lines_are ∙ append_assoc (lines_of both.turns) both.rest rest;
+        lines_are = parts ∙ ap (λ (l : List Line). l ++ rest) both.lines_are ∙ append_assoc (lines_of both.transitions) both.rest rest;
         course = both.course;
         pieces = both.pieces;
         told_is = both.told_is;
-        serves = serves_ended heeds breaks s new both.turns both.rest rest both.pieces outcome code new_code ended both.serves;
+        serves = serves_ended steps aborts s new both.transitions both.rest rest both.pieces outcome code new_code ended both.serves;
       }
 
   -- one more line is served
   pub gone_more : {talk mid_talk new_talk : Option (List Piece)} {s mid new : S} {gone : List Line} {line : Line} {code mid_code new_code : ℕ} (lines later rest : List Line)
-      → HasServed heeds breaks talk mid_talk s gone On code mid mid_code → HasServed heeds breaks mid_talk new_talk mid (line ∷ []) On mid_code new new_code
+      → HasServed steps aborts talk mid_talk s gone On code mid mid_code → HasServed steps aborts mid_talk new_talk mid (line ∷ []) On mid_code new new_code
       → lines ≡ gone ++ later → later ≡ line ∷ rest
-      → (all : List Line) × (lines ≡ all ++ rest) × HasServed heeds breaks talk new_talk s all On code new new_code
+      → (all : List Line) × (lines ≡ all ++ rest) × HasServed steps aborts talk new_talk s all On code new new_code
   gone_more {talk = talk} {mid_talk = mid_talk} {new_talk = new_talk} {s = s} {mid = mid} {new = new} {gone = gone} {line = line} {code = code} {mid_code = mid_code} {new_code = new_code} lines later rest served here are first = (
     gone ++ line ∷ [],
     are ∙ ap (λ (l : List Line). gone ++ l) first ∙ sym (append_assoc gone (line ∷ []) rest),
-    has_served_more heeds breaks talk mid_talk new_talk s mid new gone (line ∷ []) On code mid_code new_code served here,
+    has_served_more steps aborts talk mid_talk new_talk s mid new gone (line ∷ []) On code mid_code new_code served here,
   )

@@ -5,11 +5,11 @@ use Rattle.std.specs.Io.KnownBytes.{prepend_known}
 use Rattle.dc_outside.specs.declared.link.Piece.{Piece}
 use Rattle.dc_outside.specs.declared.link.Piece.TheVariants.{Got, Sent, Cut, Lost}
 use Rattle.dc_outside.specs.Talk.{then_pieces, got}
-use Rattle.dc_serve.specs.declared.heeds.Heeded.{Heeded}
-use Rattle.dc_serve.specs.declared.heeds.Heeded.TheVariants.{Silent, Replied, Stopped}
-use Rattle.dc_serve.specs.Course.{Turn, add_reply, replies}
+use Rattle.dc_serve.specs.declared.machine.Response.{Response}
+use Rattle.dc_serve.specs.declared.machine.Response.TheVariants.{Silent, Replied, Stopped}
+use Rattle.dc_serve.specs.Execution.{Transition, add_reply, replies}
 use Rattle.dc_serve.specs.Said.{said}
-use Rattle.dc_serve.specs.Step.{IsRead, IsCaughtUp, InStep}
+use Rattle.dc_serve.specs.Answering.{IsRead, IsCaughtUp, AnswersBeforeReads}
 
 pub then_pieces-nil : (talk : Option (List Piece)) → then_pieces talk [] ≡ talk
 then_pieces-nil None = refl
@@ -59,58 +59,58 @@ last_or_before (here ∷ talk) (first ∷ before) later newest piece is =
       | inr at ↦ inr (at.0, cc, at.2)
     ]
 
-said_reply : (did : Heeded) (later : List Piece) → said later ≡ later → said (add_reply did later) ≡ add_reply did later
+said_reply : (did : Response) (later : List Piece) → said later ≡ later → said (add_reply did later) ≡ add_reply did later
 said_reply Silent later is = is
 said_reply (Replied code text) later is = ap (λ (l : List Piece). Sent text ∷ l) is
 said_reply Stopped later is = is
 
-got_reply : (did : Heeded) (later : List Piece) → got later ≡ [] → got (add_reply did later) ≡ []
+got_reply : (did : Response) (later : List Piece) → got later ≡ [] → got (add_reply did later) ≡ []
 got_reply Silent later is = is
 got_reply (Replied code text) later is = is
 got_reply Stopped later is = is
 
 module _ {S : Type 0} where
   -- replies are written
-  pub said-replies : (turns : List (Turn S)) → said (replies turns) ≡ replies turns
+  pub said-replies : (transitions : List (Transition S)) → said (replies transitions) ≡ replies transitions
   said-replies [] = refl
-  said-replies (turn ∷ turns) = said_reply turn.did (replies turns) (said-replies turns)
+  said-replies (transition ∷ transitions) = said_reply transition.did (replies transitions) (said-replies transitions)
 
-  pub got-replies : (turns : List (Turn S)) → got (replies turns) ≡ []
+  pub got-replies : (transitions : List (Transition S)) → got (replies transitions) ≡ []
   got-replies [] = refl
-  got-replies (turn ∷ turns) = got_reply turn.did (replies turns) (got-replies turns)
+  got-replies (transition ∷ transitions) = got_reply transition.did (replies transitions) (got-replies transitions)
 
-  pub in_step_none : (turns : List (Turn S)) → InStep turns []
-  in_step_none turns before piece later is read = absurd (no_split before later piece is)
+  pub in_step_none : (transitions : List (Transition S)) → AnswersBeforeReads transitions []
+  in_step_none transitions before piece later is read = absurd (no_split before later piece is)
 
   -- a read follows where all is answered
-  pub in_step_read : (turns : List (Turn S)) (talk : List Piece) (newest : Piece) → InStep turns talk → IsCaughtUp turns talk → InStep turns (talk ++ newest ∷ [])
-  in_step_read turns talk newest step caught before piece later is read = elim (last_or_before talk before later newest piece is) [
+  pub in_step_read : (transitions : List (Transition S)) (talk : List Piece) (newest : Piece) → AnswersBeforeReads transitions talk → IsCaughtUp transitions talk → AnswersBeforeReads transitions (talk ++ newest ∷ [])
+  in_step_read transitions talk newest step caught before piece later is read = elim (last_or_before talk before later newest piece is) [
     | inl at ↦ rw at.0 caught
     | inr at ↦ step before piece at.0 at.1 read
   ]
 
   -- what is written may follow at any time
-  pub in_step_written : (turns : List (Turn S)) (talk : List Piece) (newest : Piece) → InStep turns talk → (IsRead newest → ⊥) → InStep turns (talk ++ newest ∷ [])
-  in_step_written turns talk newest step written before piece later is read = elim (last_or_before talk before later newest piece is) [
+  pub in_step_written : (transitions : List (Transition S)) (talk : List Piece) (newest : Piece) → AnswersBeforeReads transitions talk → (IsRead newest → ⊥) → AnswersBeforeReads transitions (talk ++ newest ∷ [])
+  in_step_written transitions talk newest step written before piece later is read = elim (last_or_before talk before later newest piece is) [
     | inl at ↦ absurd (written (subst IsRead at.1 read))
     | inr at ↦ step before piece at.0 at.1 read
   ]
 
-  in_step_reply : (turns : List (Turn S)) (talk : List Piece) (did : Heeded) (later : List Piece) → ((talk : List Piece) → InStep turns talk → InStep turns (talk ++ later))
-      → InStep turns talk → InStep turns (talk ++ add_reply did later)
-  in_step_reply turns talk Silent later more step = more talk step
-  in_step_reply turns talk (Replied code text) later more step =
-      rw (← append_assoc talk (Sent text ∷ []) later) (more (talk ++ Sent text ∷ []) (in_step_written turns talk (Sent text) step (λ read. read)))
-  in_step_reply turns talk Stopped later more step = more talk step
+  in_step_reply : (transitions : List (Transition S)) (talk : List Piece) (did : Response) (later : List Piece) → ((talk : List Piece) → AnswersBeforeReads transitions talk → AnswersBeforeReads transitions (talk ++ later))
+      → AnswersBeforeReads transitions talk → AnswersBeforeReads transitions (talk ++ add_reply did later)
+  in_step_reply transitions talk Silent later more step = more talk step
+  in_step_reply transitions talk (Replied code text) later more step =
+      rw (← append_assoc talk (Sent text ∷ []) later) (more (talk ++ Sent text ∷ []) (in_step_written transitions talk (Sent text) step (λ read. read)))
+  in_step_reply transitions talk Stopped later more step = more talk step
 
-  pub in_step_replies : (turns : List (Turn S)) (talk : List Piece) (served : List (Turn S)) → InStep turns talk → InStep turns (talk ++ replies served)
-  in_step_replies turns talk [] step = rw append-nil step
-  in_step_replies turns talk (turn ∷ served) step =
-      in_step_reply turns talk turn.did (replies served) (λ (talk : List Piece) (s : InStep turns talk). in_step_replies turns talk served s) step
+  pub in_step_replies : (transitions : List (Transition S)) (talk : List Piece) (served : List (Transition S)) → AnswersBeforeReads transitions talk → AnswersBeforeReads transitions (talk ++ replies served)
+  in_step_replies transitions talk [] step = rw append-nil step
+  in_step_replies transitions talk (transition ∷ served) step =
+      in_step_reply transitions talk transition.did (replies served) (λ (talk : List Piece) (s : AnswersBeforeReads transitions talk). in_step_replies transitions talk served s) step
 
   -- more turns follow
-  pub in_step_later : (turns more : List (Turn S)) (talk : List Piece) → InStep turns talk → InStep (turns ++ more) talk
-  in_step_later turns more talk step before piece later is read =
+  pub in_step_later : (transitions more : List (Transition S)) (talk : List Piece) → AnswersBeforeReads transitions talk → AnswersBeforeReads (transitions ++ more) talk
+  in_step_later transitions more talk step before piece later is read =
       let caught = step before piece later is read in
       record {
         gone = caught.gone;

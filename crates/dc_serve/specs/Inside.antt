@@ -5,12 +5,12 @@ use Rattle.dc_outside.specs.declared.link.Piece.{Piece}
 use Rattle.dc_outside.specs.declared.link.Piece.TheVariants.{Sent, Cut}
 use Rattle.dc_outside.specs.Counts.{Rose}
 use Rattle.dc_outside.specs.Talk.{then_pieces}
-use Rattle.dc_serve.specs.declared.heeds.Heeded.{Heeded}
+use Rattle.dc_serve.specs.declared.machine.Response.{Response}
 use Rattle.dc_serve.specs.declared.outcome.LinkEnd.{LinkEnd}
 use Rattle.dc_serve.specs.declared.outcome.LinkEnd.TheVariants as link
 use Rattle.dc_serve.specs.declared.outcome.Served.{Served}
 use Rattle.dc_serve.specs.declared.outcome.Served.TheVariants.{On, Stopped, Failed, OutOfMemory, Broken}
-use Rattle.dc_serve.specs.Course.{Turn, lines_of, stops, IsCourse}
+use Rattle.dc_serve.specs.Execution.{Transition, lines_of, stops, IsExecution}
 use Rattle.dc_serve.specs.Said.{AreSaid, CutsShort, BreaksOff, IsBrokenAt}
 
 -- the end of a link whose serving ended so
@@ -22,33 +22,33 @@ link_end_of OutOfMemory = link.OutOfMemory
 link_end_of (Broken error) = link.Broken error
 
 -- all lines had their turns, and none of these is a stop
-pub record Goes {S : Type 0} (start : S) (turns : List (Turn S)) (rest : List Line) (pieces : List Piece) (code : ℕ) (new : S) (new_code : ℕ) : Type 0 where
-  pub are_said : AreSaid start turns pieces code new new_code
-  pub on : stops turns ≡ false
+pub record Goes {S : Type 0} (start : S) (transitions : List (Transition S)) (rest : List Line) (pieces : List Piece) (code : ℕ) (new : S) (new_code : ℕ) : Type 0 where
+  pub are_said : AreSaid start transitions pieces code new new_code
+  pub on : stops transitions ≡ false
   pub none_left : rest ≡ []
 
 -- the last turn is a stop
-pub record Stops {S : Type 0} (start : S) (turns : List (Turn S)) (pieces : List Piece) (code : ℕ) (new : S) (new_code : ℕ) : Type 0 where
-  pub are_said : AreSaid start turns pieces code new new_code
-  pub stopped : stops turns ≡ true
+pub record Stops {S : Type 0} (start : S) (transitions : List (Transition S)) (pieces : List Piece) (code : ℕ) (new : S) (new_code : ℕ) : Type 0 where
+  pub are_said : AreSaid start transitions pieces code new new_code
+  pub stopped : stops transitions ≡ true
 
 -- serving some lines by these turns, with this outcome and these lines left, says these pieces
-abbrev pub Serves : {S B : Type 0} → (S → Line → B → S → Type 0) → S → List (Turn S) → List Line → Served B → List Piece → ℕ → S → ℕ → Type 0
-Serves breaks start turns rest On pieces code new new_code = Goes start turns rest pieces code new new_code
-Serves breaks start turns rest Stopped pieces code new new_code = Stops start turns pieces code new new_code
-Serves breaks start turns rest Failed pieces code new new_code = CutsShort turns pieces new new_code
-Serves breaks start turns rest OutOfMemory pieces code new new_code = BreaksOff start turns pieces code new new_code
-Serves breaks start turns rest (Broken error) pieces code new new_code = IsBrokenAt breaks start turns rest error pieces code new new_code
+abbrev pub Serves : {S B : Type 0} → (S → Line → B → S → Type 0) → S → List (Transition S) → List Line → Served B → List Piece → ℕ → S → ℕ → Type 0
+Serves aborts start transitions rest On pieces code new new_code = Goes start transitions rest pieces code new new_code
+Serves aborts start transitions rest Stopped pieces code new new_code = Stops start transitions pieces code new new_code
+Serves aborts start transitions rest Failed pieces code new new_code = CutsShort transitions pieces new new_code
+Serves aborts start transitions rest OutOfMemory pieces code new new_code = BreaksOff start transitions pieces code new new_code
+Serves aborts start transitions rest (Broken error) pieces code new new_code = IsBrokenAt aborts start transitions rest error pieces code new new_code
 
 -- serving these lines said some pieces, which are the answer to them
-pub record HasServed {S B : Type 0} (heeds : S → Line → Heeded → S → Type 0) (breaks : S → Line → B → S → Type 0) (talk new_talk : Option (List Piece)) (start : S) (lines : List Line) (outcome : Served B) (code : ℕ) (new : S) (new_code : ℕ) : Type 0 where
-  pub turns : List (Turn S)
+pub record HasServed {S B : Type 0} (steps : S → Line → Response → S → Type 0) (aborts : S → Line → B → S → Type 0) (talk new_talk : Option (List Piece)) (start : S) (lines : List Line) (outcome : Served B) (code : ℕ) (new : S) (new_code : ℕ) : Type 0 where
+  pub transitions : List (Transition S)
   pub rest : List Line
-  pub lines_are : lines ≡ lines_of turns ++ rest
-  pub course : IsCourse heeds start turns
+  pub lines_are : lines ≡ lines_of transitions ++ rest
+  pub course : IsExecution steps start transitions
   pub pieces : List Piece
   pub told_is : new_talk ≡ then_pieces talk pieces
-  pub serves : Serves breaks start turns rest outcome pieces code new new_code
+  pub serves : Serves aborts start transitions rest outcome pieces code new new_code
 
 -- what sending one reply does to the talk and to the last code
 abbrev pub Sends : {B : Type 0} → Served B → Option (List Piece) → Option (List Piece) → ℕ → List ℕ → ℕ → ℕ → Type 0

@@ -1,8 +1,8 @@
 pub mod Calls
-pub mod Course
+pub mod Execution
 pub mod Determined
 pub mod Ends
 pub mod Inside
-pub mod Run
+pub mod LinkRun
 pub mod Said
-pub mod Step
+pub mod Answering

@@ -1,11 +1,11 @@
 //! The serving of a link: its lines are given to a machine, each is answered before more is read.
 #![tactic(auto)]
 
-pub mod heeds;
 pub mod laws;
+pub mod machine;
 pub mod outcome;
 pub mod serving;
 
-pub use heeds::{Heeded, Heeds};
+pub use machine::{LineMachine, Response};
 pub use outcome::{Conversation, LinkEnd};
 pub use serving::serve_link;

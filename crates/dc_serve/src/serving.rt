@@ -3,9 +3,9 @@ ghost use Rattle.std.specs.Prelude.{◌≡◌, ◌<◌, ◌≤◌, [], ◌∷◌
 ghost use Rattle.dc_words.specs.Stream.{whole_lines, rest_of, line_of_rest};
 ghost use Rattle.dc_serve.specs.Inside.{Sends, HasServed, ServedFaults, ServedRefusals};
 ghost use Rattle.dc_serve.specs.Ends.{LinkFaults, LinkRefusals};
-ghost use Rattle.dc_serve.specs.Run.{HasRun};
+ghost use Rattle.dc_serve.specs.LinkRun.{IsLinkRun};
 
-use crate::heeds::{Heeded, Heeds};
+use crate::machine::{LineMachine, Response};
 use crate::outcome::{Conversation, LinkEnd, Served, link_end};
 use dc_outside::{Link, LinkError};
 use dc_text::{Mem, Text};
@@ -40,36 +40,36 @@ fn send<L: Link, B: Drop>(io: &mut L, code: u8, text: &Text, last_code: &mut u8)
 }
 
 // Serves one line: one write, where it has a reply.
-fn serve_line<L: Link, H: Heeds>(
+fn serve_line<L: Link, H: LineMachine>(
     io: &mut L,
     machine: &mut H,
     line: &Line,
     last_code: &mut u8,
 ) -> Served<H::Break>
-    ensures served { HasServed H.heeds H.breaks (L.talk io.old) (L.talk io.new) (H.sight machine.old) (line.now ∷ []) result last_code.old (H.sight machine.new) last_code.new }
-    ensures held { H.held machine.new ≡ H.held machine.old }
+    ensures served { HasServed H.steps H.aborts (L.talk io.old) (L.talk io.new) (H.state machine.old) (line.now ∷ []) result last_code.old (H.state machine.new) last_code.new }
+    ensures borrows { H.borrows machine.new ≡ H.borrows machine.old }
     ensures input { L.left io.new ≡ L.left io.old }
     ensures faults { ServedFaults result (L.faults io.old) (L.faults io.new) }
     ensures refusals { ServedRefusals result (L.refusals io.old) (L.refusals io.new) }
     ensures program { L.program io.new ≡ L.program io.old }
 {
-    match machine.heed(line) {
+    match machine.handle(line) {
         Err(error) => Served::Broken(error),
-        Ok(Heeded::Silent) => Served::On,
-        Ok(Heeded::Stopped) => Served::Stopped,
-        Ok(Heeded::Replied { code, text }) => send(io, code, &text, last_code),
+        Ok(Response::Silent) => Served::On,
+        Ok(Response::Stopped) => Served::Stopped,
+        Ok(Response::Replied { code, text }) => send(io, code, &text, last_code),
     }
 }
 
 // The same, of a line that isn't used again.
-fn serve_taken<L: Link, H: Heeds>(
+fn serve_taken<L: Link, H: LineMachine>(
     io: &mut L,
     machine: &mut H,
     line: Line,
     last_code: &mut u8,
 ) -> Served<H::Break>
-    ensures served { HasServed H.heeds H.breaks (L.talk io.old) (L.talk io.new) (H.sight machine.old) (line ∷ []) result last_code.old (H.sight machine.new) last_code.new }
-    ensures held { H.held machine.new ≡ H.held machine.old }
+    ensures served { HasServed H.steps H.aborts (L.talk io.old) (L.talk io.new) (H.state machine.old) (line ∷ []) result last_code.old (H.state machine.new) last_code.new }
+    ensures borrows { H.borrows machine.new ≡ H.borrows machine.old }
     ensures input { L.left io.new ≡ L.left io.old }
     ensures faults { ServedFaults result (L.faults io.old) (L.faults io.new) }
     ensures refusals { ServedRefusals result (L.refusals io.old) (L.refusals io.new) }
@@ -79,14 +79,14 @@ fn serve_taken<L: Link, H: Heeds>(
 }
 
 // Serves the whole lines that are held, in order.
-fn serve_held<L: Link, H: Heeds>(
+fn serve_held<L: Link, H: LineMachine>(
     io: &mut L,
     machine: &mut H,
     lines: &mut Lines,
     last_code: &mut u8,
 ) -> Served<H::Break>
-    ensures served { HasServed H.heeds H.breaks (L.talk io.old) (L.talk io.new) (H.sight machine.old) (whole_lines lines.old) result last_code.old (H.sight machine.new) last_code.new }
-    ensures held { H.held machine.new ≡ H.held machine.old }
+    ensures served { HasServed H.steps H.aborts (L.talk io.old) (L.talk io.new) (H.state machine.old) (whole_lines lines.old) result last_code.old (H.state machine.new) last_code.new }
+    ensures borrows { H.borrows machine.new ≡ H.borrows machine.old }
     ensures input { L.left io.new ≡ L.left io.old }
     ensures faults { ServedFaults result (L.faults io.old) (L.faults io.new) }
     ensures refusals { ServedRefusals result (L.refusals io.old) (L.refusals io.new) }
@@ -108,15 +108,15 @@ fn serve_held<L: Link, H: Heeds>(
 }
 
 // Serves the rest without a newline as a last line, if there is one.
-fn serve_rest<L: Link, H: Heeds>(
+fn serve_rest<L: Link, H: LineMachine>(
     io: &mut L,
     machine: &mut H,
     lines: &mut Lines,
     last_code: &mut u8,
 ) -> Served<H::Break>
     requires { whole_lines lines.old ≡ [] }
-    ensures served { HasServed H.heeds H.breaks (L.talk io.old) (L.talk io.new) (H.sight machine.old) (line_of_rest (rest_of lines.old)) result last_code.old (H.sight machine.new) last_code.new }
-    ensures held { H.held machine.new ≡ H.held machine.old }
+    ensures served { HasServed H.steps H.aborts (L.talk io.old) (L.talk io.new) (H.state machine.old) (line_of_rest (rest_of lines.old)) result last_code.old (H.state machine.new) last_code.new }
+    ensures borrows { H.borrows machine.new ≡ H.borrows machine.old }
     ensures input { L.left io.new ≡ L.left io.old }
     ensures faults { ServedFaults result (L.faults io.old) (L.faults io.new) }
     ensures refusals { ServedRefusals result (L.refusals io.old) (L.refusals io.new) }
@@ -129,7 +129,7 @@ fn serve_rest<L: Link, H: Heeds>(
 }
 
 // Reads pieces into the buffer, and serves the lines of each before the next.
-fn converse<L: Link, H: Heeds>(
+fn converse<L: Link, H: LineMachine>(
     alloc: Global,
     io: &mut L,
     machine: &mut H,
@@ -137,8 +137,8 @@ fn converse<L: Link, H: Heeds>(
 ) -> Conversation<H::Break>
     requires some { 0 < length buf.old }
     requires small { length buf.old ≤ MAX_PIECE }
-    ensures run { HasRun H.heeds H.breaks (L.talk io.old) (L.talk io.new) (L.left io.old) (L.left io.new) (H.sight machine.old) result.end (H.sight machine.new) result.last_code }
-    ensures held { H.held machine.new ≡ H.held machine.old }
+    ensures run { IsLinkRun H.steps H.aborts (L.talk io.old) (L.talk io.new) (L.left io.old) (L.left io.new) (H.state machine.old) result.end (H.state machine.new) result.last_code }
+    ensures borrows { H.borrows machine.new ≡ H.borrows machine.old }
     ensures faults { LinkFaults result.end (L.faults io.old) (L.faults io.new) }
     ensures refusals { LinkRefusals result.end (L.refusals io.old) (L.refusals io.new) }
     ensures program { L.program io.new ≡ L.program io.old }
@@ -196,13 +196,13 @@ fn buffer(alloc: Global) -> Mem<Vec<u8>>
 }
 
 /// Gives the lines of the link to the machine, to the end of either.
-pub fn serve_link<L: Link, H: Heeds>(
+pub fn serve_link<L: Link, H: LineMachine>(
     alloc: Global,
     io: &mut L,
     machine: &mut H,
 ) -> Conversation<H::Break>
-    ensures run { HasRun H.heeds H.breaks (L.talk io.old) (L.talk io.new) (L.left io.old) (L.left io.new) (H.sight machine.old) result.end (H.sight machine.new) result.last_code }
-    ensures held { H.held machine.new ≡ H.held machine.old }
+    ensures run { IsLinkRun H.steps H.aborts (L.talk io.old) (L.talk io.new) (L.left io.old) (L.left io.new) (H.state machine.old) result.end (H.state machine.new) result.last_code }
+    ensures borrows { H.borrows machine.new ≡ H.borrows machine.old }
     ensures faults { LinkFaults result.end (L.faults io.old) (L.faults io.new) }
     ensures refusals { LinkRefusals result.end (L.refusals io.old) (L.refusals io.new) }
     ensures program { L.program io.new ≡ L.program io.old }

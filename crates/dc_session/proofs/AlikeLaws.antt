@@ -17,19 +17,19 @@ use Rattle.dc_proto.specs.Commands.{heard}
 use Rattle.dc_proto.specs.declared.command.Command.{Command}
 use Rattle.dc_proto.specs.declared.command.Heard.{Heard}
 use Rattle.dc_proto.specs.declared.command.Heard.TheVariants.{Nothing, Known, Refused}
-use Rattle.dc_serve.specs.Course.{Turn, lines_of, IsCourse}
-use Rattle.dc_serve.specs.declared.heeds.Heeded.{Heeded}
+use Rattle.dc_serve.specs.Execution.{Transition, lines_of, IsExecution}
+use Rattle.dc_serve.specs.declared.machine.Response.{Response}
 use Rattle.dc_teletype.specs.Dialogue.{Goes, opening}
-use Rattle.dc_teletype.specs.TerminalLines.{Ahead}
-use Rattle.dc_teletype.specs.Typed.{ToldTerminal, Outcome, IsAsked, dialogue as dialogue_over, typed_lines}
+use Rattle.dc_teletype.specs.TerminalLines.{TypeAhead}
+use Rattle.dc_teletype.specs.Typed.{ToldTerminal, DialogueOutcome, IsAsked, dialogue as dialogue_over, typed_lines}
 use Rattle.dc_teletype.specs.declared.teletype.Asked.{Asked}
 use Rattle.dc_teletype.specs.declared.teletype.Asked.TheVariants.{Answers}
 use Rattle.dc_teletype.proofs.OutcomeLemmas.{comes_to}
 use Rattle.dc_teletype.proofs.TypedLemmas.{one_rest, used_last}
-use Rattle.dc_session.specs.Alike.{IsToldAs, AreTerminalsAlike, AreAlike, AreTurnsAlike}
+use Rattle.dc_session.specs.Alike.{IsToldAs, AreTerminalsAlike, AreAlike, AreTransitionsAlike}
 use Rattle.dc_session.specs.Answers.{answer}
 use Rattle.dc_session.specs.Displays.{Display, Blank, OneLine, Dialogue, HasLine, HasDialogue, displayed, Shows}
-use Rattle.dc_session.specs.Machine.{Heeds, Steps, StepsHeard, HasDone, Looks, file_of, sent_in}
+use Rattle.dc_session.specs.Machine.{Handles, Steps, StepsHeard, HasDone, Looks, file_of, sent_in}
 use Rattle.dc_session.specs.SessionState.{FilesState, TerminalState, SessionState}
 use Rattle.dc_session.specs.declared.asking.Asking.{Asking}
 use Rattle.dc_session.specs.declared.stepped.Stepped.{Stepped}
@@ -63,11 +63,11 @@ module _ (asking : Asking) (questions : List Shown) (old new : TerminalState) (a
       came = has.held.came;
       step = has.held.step;
       ahead = has.held.ahead;
-      goes = subst (λ (a : Ahead). Goes asking.backup (opening asking.title questions) a has.held.came has.held.gone has.held.step has.held.ahead) is.ahead has.held.goes;
+      goes = subst (λ (a : TypeAhead). Goes asking.backup (opening asking.title questions) a has.held.came has.held.gone has.held.step has.held.ahead) is.ahead has.held.goes;
       ends = has.held.ends;
     };
     ends = λ ended. elim (has.ends ended) [
-      | inl was ↦ inl (ap (λ (a : Ahead). a.has_ended) (sym is.ahead) ∙ was)
+      | inl was ↦ inl (ap (λ (a : TypeAhead). a.has_ended) (sym is.ahead) ∙ was)
       | inr at ↦ inr (subst IsAtEnd left_told.1 at)
     ];
     used_up = is.used_up;
@@ -123,7 +123,7 @@ module _ (asking : Asking) (one other new left : TerminalState) (alike : AreTerm
       let one_comes = comes_to asking.backup start alike.first one_then asked one_done in
       let other_comes = comes_to asking.backup start alike.second other_then again other_done in
       let outcome = ap (λ (l : List ℕ). dialogue_over asking.backup start (typed_lines l)) alike.same in (
-        one_comes.asked_is ∙ ap (λ (o : Outcome). o.asked) outcome ∙ sym other_comes.asked_is,
+        one_comes.asked_is ∙ ap (λ (o : DialogueOutcome). o.asked) outcome ∙ sym other_comes.asked_is,
         record {
           first = one_then;
           second = other_then;
@@ -176,28 +176,28 @@ module _ (disk : Disk) (old : SessionState) (terminal : TerminalState) (alike : 
   steps_alike TooLong first second = (first.0 ∙ sym second.0, kept_alike first.1 second.1)
   steps_alike (Whole line) first second = heard_alike (heard old.asking.escape line) first second
 
-pub heeds_alike : (disk : Disk) (old : SessionState) (terminal : TerminalState) → AreTerminalsAlike old.terminal terminal → IsTold disk old.files.told → (did other : Heeded) (new left : SessionState) → new.files ≡ left.files → (line : Line)
-    → Heeds old line did new → Heeds (record old { terminal = terminal }) line other left → (did ≡ other) × AreAlike new left
+pub heeds_alike : (disk : Disk) (old : SessionState) (terminal : TerminalState) → AreTerminalsAlike old.terminal terminal → IsTold disk old.files.told → (did other : Response) (new left : SessionState) → new.files ≡ left.files → (line : Line)
+    → Handles old line did new → Handles (record old { terminal = terminal }) line other left → (did ≡ other) × AreAlike new left
 heeds_alike disk old terminal alike told did other new left files line first second =
     let same = steps_alike disk old terminal alike told first.stepped second.stepped new left files line first.steps second.steps in
     (first.did_is ∙ ap (sent_in old.asking.escape) same.0 ∙ sym second.did_is, same.1)
 
 -- ---- courses
 
-courses_alike : (disk : Disk) (start other : SessionState) (a b : List (Turn SessionState)) → AreAlike start other → IsTold disk start.files.told → IsCourse Heeds start a → IsCourse Heeds other b
-    → lines_of a ≡ lines_of b → files_left a ≡ files_left b → AreTurnsAlike a b
+courses_alike : (disk : Disk) (start other : SessionState) (a b : List (Transition SessionState)) → AreAlike start other → IsTold disk start.files.told → IsExecution Handles start a → IsExecution Handles other b
+    → lines_of a ≡ lines_of b → files_left a ≡ files_left b → AreTransitionsAlike a b
 courses_alike disk start other [] [] alike told first second lines files = record {}
-courses_alike disk start other [] (turn ∷ b) alike told first second lines files = cc
-courses_alike disk start other (turn ∷ a) [] alike told first second lines files = cc
+courses_alike disk start other [] (transition ∷ b) alike told first second lines files = cc
+courses_alike disk start other (transition ∷ a) [] alike told first second lines files = cc
 courses_alike disk start other (one ∷ a) (two ∷ b) alike told first second lines files =
     let line : one.line ≡ two.line = cc in
     let rest : lines_of a ≡ lines_of b = cc in
     let left : one.new.files ≡ two.new.files = cc in
     let later_files : files_left a ≡ files_left b = cc in
-    let here = heeds_alike disk start other.terminal alike.terminals told one.did two.did one.new two.new left two.line (subst (λ (l : Line). Heeds start l one.did one.new) line first.0)
-    (subst (λ (s : SessionState). Heeds s two.line two.did two.new) alike.rest second.0) in
+    let here = heeds_alike disk start other.terminal alike.terminals told one.did two.did one.new two.new left two.line (subst (λ (l : Line). Handles start l one.did one.new) line first.0)
+    (subst (λ (s : SessionState). Handles s two.line two.did two.new) alike.rest second.0) in
     (here.0, here.1, courses_alike disk one.new two.new a b here.1 (heeds_told disk start told one.did one.new one.line first.0) first.2 second.2 rest later_files)
 
-pub alike_courses : (disk : Disk) (start other : SessionState) (calls : List FilesCall) (a b : List (Turn SessionState)) → start.files.told ≡ record { disk = Some disk; calls = Some calls } → AreAlike start other
-    → IsCourse Heeds start a → IsCourse Heeds other b → lines_of a ≡ lines_of b → files_left a ≡ files_left b → AreTurnsAlike a b
+pub alike_courses : (disk : Disk) (start other : SessionState) (calls : List FilesCall) (a b : List (Transition SessionState)) → start.files.told ≡ record { disk = Some disk; calls = Some calls } → AreAlike start other
+    → IsExecution Handles start a → IsExecution Handles other b → lines_of a ≡ lines_of b → files_left a ≡ files_left b → AreTransitionsAlike a b
 alike_courses disk start other calls a b told alike = courses_alike disk start other a b alike (calls, told)

@@ -24,11 +24,11 @@ use Rattle.dc_store.specs.StoreLaws.{AreSameBut, AreSameButAll}
 use Rattle.dc_store.proofs.RowLemmas.{same_all, same_all_refl, same_all_then}
 use Rattle.dc_question.specs.Changes.{Does as DoesChange, values_set}
 use Rattle.dc_question.specs.Ownership.{purged, unregistered}
-use Rattle.dc_question.specs.Questions.{Setting, Answers as AnswersOf, exists, kind}
+use Rattle.dc_question.specs.Questions.{QuestionContext, Answers as AnswersOf, exists, kind}
 use Rattle.dc_question.specs.declared.errors.QuestionError.{QuestionError}
 use Rattle.dc_question.specs.declared.errors.QuestionError.TheVariants as error
 use Rattle.dc_session.specs.Asking.{choice_for, choices_for, shown, first_fixed, to_show, with_seen, is_among, description, is_to_be_shown, prepared_if, first_busy, skipped}
-use Rattle.dc_session.specs.Answers.{Outcome, nothing, answer, names_on, asks, does, titled, capable, capabilities, input_reply, is_supported, unless_busy, by, tells, gone, going, going_names, on}
+use Rattle.dc_session.specs.Answers.{CommandOutcome, nothing, answer, names_on, reply_asking, reply_write, titled, capable, capabilities, input_reply, is_supported, unless_busy, and_then, reply_only, gone, going, going_names, for_question}
 use Rattle.dc_session.specs.Inside.{TellsRefusal, Comes, ComesAsking}
 use Rattle.dc_session.specs.Displays.{Blank, where_asked, dialogue}
 use Rattle.dc_session.specs.Machine.{Gives, Does}
@@ -44,23 +44,23 @@ use Rattle.dc_session.proofs.CommandLemmas.{on_name, there_found, there_none, st
 
 module _ (old : SessionState) where
   -- a reply and no more
-  pub told_comes : (names : List (List ℕ)) (r : Reply) (result : Result Stepped OutOfMemory) → IfOk result (λ did. did ≡ Replied r) → Comes (tells old r) names old old result
-  told_comes names r result told = unwritten names old (tells old r) refl refl result told
+  pub told_comes : (names : List (List ℕ)) (r : Reply) (result : Result Stepped OutOfMemory) → IfOk result (λ did. did ≡ Replied r) → Comes (reply_only old r) names old old result
+  told_comes names r result told = unwritten names old (reply_only old r) refl refl result told
 
   -- what is asked for changes
-  pub asked_comes : (names : List (List ℕ)) (r : Reply) (asking : Asking) (did : Stepped) → did ≡ Replied r → Comes (asks old r asking) names old (record old { asking = asking }) (Ok did)
+  pub asked_comes : (names : List (List ℕ)) (r : Reply) (asking : Asking) (did : Stepped) → did ≡ Replied r → Comes (reply_asking old r asking) names old (record old { asking = asking }) (Ok did)
   asked_comes names r asking did is = (is, refl)
 
-  pub unasked_comes : (outcome : Outcome) (names : List (List ℕ)) (error : OutOfMemory) → Comes outcome names old old (Err error)
+  pub unasked_comes : (outcome : CommandOutcome) (names : List (List ℕ)) (error : OutOfMemory) → Comes outcome names old old (Err error)
   unasked_comes outcome names error = (same_all_refl names old.store.layers, refl)
 
-  pub told_does : (command : Command) → Gives command old nothing old.files old.terminal → (r : Reply) → answer old command nothing ≡ tells old r → (result : Result Stepped OutOfMemory) → IfOk result (λ did. did ≡ Replied r)
+  pub told_does : (command : Command) → Gives command old nothing old.files old.terminal → (r : Reply) → answer old command nothing ≡ reply_only old r → (result : Result Stepped OutOfMemory) → IfOk result (λ did. did ≡ Replied r)
       → Does command old old result
-  told_does command gives r is result told = stored_does command old old gives (tells old r) is result (told_comes (names_on old command nothing) r result told)
+  told_does command gives r is result told = stored_does command old old gives (reply_only old r) is result (told_comes (names_on old command nothing) r result told)
 
 -- a call that is refused
-refused_by : {A : Type 0} (old : SessionState) (outcome : A → Outcome) (names : List (List ℕ)) (e : QuestionError) (reading : Result A QuestionError) → AnswersOf (Err e) reading
-    → (result : Result Stepped OutOfMemory) → TellsRefusal [] e result → Comes (by old outcome reading) names old old result
+refused_by : {A : Type 0} (old : SessionState) (outcome : A → CommandOutcome) (names : List (List ℕ)) (e : QuestionError) (reading : Result A QuestionError) → AnswersOf (Err e) reading
+    → (result : Result Stepped OutOfMemory) → TellsRefusal [] e result → Comes (and_then old outcome reading) names old old result
 refused_by old outcome names e reading answers (Err memory) told = (same_all_refl names old.store.layers, refl)
 refused_by old outcome names (error.NoQuestion name) reading answers (Ok did) told = rw answers (told, refl)
 refused_by old outcome names (error.NoTemplate name) reading answers (Ok did) told = rw answers (told, refl)
@@ -72,73 +72,73 @@ refused_by old outcome names error.OutOfMemory reading answers (Ok did) told = a
 -- ---- a command on a question that is read first
 
 module _ (old new : SessionState) (command : Command) (gives : Gives command old nothing old.files old.terminal) (word name : List ℕ) (named : (name ≡ word) × (is_name word ≡ true)) where
-  module _ {A : Type 0} (reading : List ℕ → Result A QuestionError) (outcome : A → Outcome) (is : answer old command nothing ≡ by old outcome (on word reading)) where
-    read_is : answer old command nothing ≡ by old outcome (reading name)
-    read_is = is ∙ ap (by old outcome) (on_name word reading named.1 ∙ ap reading (sym named.0))
+  module _ {A : Type 0} (reading : List ℕ → Result A QuestionError) (outcome : A → CommandOutcome) (is : answer old command nothing ≡ and_then old outcome (for_question word reading)) where
+    read_is : answer old command nothing ≡ and_then old outcome (reading name)
+    read_is = is ∙ ap (and_then old outcome) (on_name word reading named.1 ∙ ap reading (sym named.0))
 
     -- it was read, and this came of it
     pub read_does : (a : A) → reading name ≡ Ok a → (result : Result Stepped OutOfMemory) → Comes (outcome a) (names_on old command nothing) old new result → Does command old new result
-    read_does a answered result comes = stored_does command old new gives (outcome a) (read_is ∙ ap (by old outcome) answered) result comes
+    read_does a answered result comes = stored_does command old new gives (outcome a) (read_is ∙ ap (and_then old outcome) answered) result comes
 
   -- it isn't read
-  pub unread_does : {A : Type 0} (reading : List ℕ → Result A QuestionError) (outcome : A → Outcome) → answer old command nothing ≡ by old outcome (on word reading) → (e : QuestionError) → AnswersOf (Err e) (reading name)
+  pub unread_does : {A : Type 0} (reading : List ℕ → Result A QuestionError) (outcome : A → CommandOutcome) → answer old command nothing ≡ and_then old outcome (for_question word reading) → (e : QuestionError) → AnswersOf (Err e) (reading name)
       → (result : Result Stepped OutOfMemory) → TellsRefusal [] e result → new ≡ old → Does command old new result
   unread_does reading outcome is e answers result told same =
       subst (λ (s : SessionState). Does command old s result) (sym same)
-      (stored_does command old old gives (by old outcome (reading name)) (read_is reading outcome is) result (refused_by old outcome (names_on old command nothing) e (reading name) answers result told))
+      (stored_does command old old gives (and_then old outcome (reading name)) (read_is reading outcome is) result (refused_by old outcome (names_on old command nothing) e (reading name) answers result told))
 
 -- ---- what a confmodule says of itself
 
 -- TITLE
-pub title_does : (old new : SessionState) (text copy : List ℕ) → copy ≡ text → (result : Result Stepped OutOfMemory) → Comes (asks old (reply 0 []) (titled old.asking copy)) [] old new result → Does (command.Title text) old new result
+pub title_does : (old new : SessionState) (text copy : List ℕ) → copy ≡ text → (result : Result Stepped OutOfMemory) → Comes (reply_asking old (reply 0 []) (titled old.asking copy)) [] old new result → Does (command.Title text) old new result
 title_does old new text copy same result comes =
-    stored_does (command.Title text) old new (quiet (command.Title text) old refl refl) (asks old (reply 0 []) (titled old.asking copy)) (ap (λ (t : List ℕ). asks old (reply 0 []) (titled old.asking t)) (sym same)) result comes
+    stored_does (command.Title text) old new (quiet (command.Title text) old refl refl) (reply_asking old (reply 0 []) (titled old.asking copy)) (ap (λ (t : List ℕ). reply_asking old (reply 0 []) (titled old.asking t)) (sym same)) result comes
 
 -- VERSION
 pub version_does : (old : SessionState) (version : Option (List ℕ)) (b : Bool) → is_supported version ≡ b → (result : Result Stepped OutOfMemory)
     → IfOk result (λ did. did ≡ Replied (if b then reply 0 (codes "2.0") else version_not_supported)) → Does (command.Version version) old old result
 version_does old version b is result told =
     told_does old (command.Version version) (quiet (command.Version version) old refl refl) (if b then reply 0 (codes "2.0") else version_not_supported)
-    (ap (λ (x : Bool). tells old (if x then reply 0 (codes "2.0") else version_not_supported)) is) result told
+    (ap (λ (x : Bool). reply_only old (if x then reply 0 (codes "2.0") else version_not_supported)) is) result told
 
 -- CAPB
 pub capb_does : (old : SessionState) (words : List (List ℕ)) (escape backup : Bool) (did : Stepped) → escape ≡ is_among words (codes "escape") → backup ≡ is_among words (codes "backup")
-    → did ≡ Replied (reply 0 (capabilities old.manner.frontend)) → Does (command.Capb words) old (record old { asking = record old.asking { escape = escape; backup = backup } }) (Ok did)
+    → did ≡ Replied (reply 0 (capabilities old.policy.frontend)) → Does (command.Capb words) old (record old { asking = record old.asking { escape = escape; backup = backup } }) (Ok did)
 capb_does old words escape backup did is_escape is_backup told =
     stored_does (command.Capb words) old (record old { asking = record old.asking { escape = escape; backup = backup } }) (quiet (command.Capb words) old refl refl)
-    (asks old (reply 0 (capabilities old.manner.frontend)) (capable old.asking words)) refl (Ok did)
+    (reply_asking old (reply 0 (capabilities old.policy.frontend)) (capable old.asking words)) refl (Ok did)
     (told, λ i. record old { asking = record old.asking { escape = is_escape i; backup = is_backup i } })
 
 -- CLEAR
 pub clear_does : (old : SessionState) (prepared : List (List ℕ)) → prepared ≡ [] → (did : Stepped) → did ≡ Replied (reply 0 []) → Does command.Clear old (record old { asking = record old.asking { prepared = prepared } }) (Ok did)
 clear_does old prepared none did told =
-    stored_does command.Clear old (record old { asking = record old.asking { prepared = prepared } }) (quiet command.Clear old refl refl) (asks old (reply 0 []) (record old.asking { prepared = [] })) refl (Ok did)
+    stored_does command.Clear old (record old { asking = record old.asking { prepared = prepared } }) (quiet command.Clear old refl refl) (reply_asking old (reply 0 []) (record old.asking { prepared = [] })) refl (Ok did)
     (told, λ i. record old { asking = record old.asking { prepared = none i } })
 
 module _ (old new : SessionState) (word name : List ℕ) (named : (name ≡ word) × (is_name word ≡ true)) where
   -- SETTITLE
-  pub set_title_does : (text : List ℕ) → description old.store.layers old.at name ≡ Ok text → (result : Result Stepped OutOfMemory) → Comes (asks old (reply 0 []) (titled old.asking text)) [] old new result
+  pub set_title_does : (text : List ℕ) → description old.store.layers old.at name ≡ Ok text → (result : Result Stepped OutOfMemory) → Comes (reply_asking old (reply 0 []) (titled old.asking text)) [] old new result
       → Does (command.SetTitle word) old new result
   set_title_does text is result comes =
-      read_does old new (command.SetTitle word) (quiet (command.SetTitle word) old refl refl) word name named (description old.store.layers old.at) (λ t. asks old (reply 0 []) (titled old.asking t)) refl text is result comes
+      read_does old new (command.SetTitle word) (quiet (command.SetTitle word) old refl refl) word name named (description old.store.layers old.at) (λ t. reply_asking old (reply 0 []) (titled old.asking t)) refl text is result comes
 
   -- INPUT
   pub input_does : (priority : Priority) (shown : Bool) → is_to_be_shown old priority name ≡ Ok shown → (result : Result Stepped OutOfMemory)
-      → Comes (asks old (input_reply old.manner.frontend shown) (prepared_if shown old.asking name)) [] old new result → Does (command.Input priority word) old new result
+      → Comes (reply_asking old (input_reply old.policy.frontend shown) (prepared_if shown old.asking name)) [] old new result → Does (command.Input priority word) old new result
   input_does priority shown is result comes =
       read_does old new (command.Input priority word) (quiet (command.Input priority word) old refl refl) word name named (is_to_be_shown old priority)
-      (λ s. asks old (input_reply old.manner.frontend s) (prepared_if s old.asking word)) refl shown is result
-      (subst (λ (n : List ℕ). Comes (asks old (input_reply old.manner.frontend shown) (prepared_if shown old.asking n)) [] old new result) named.0 comes)
+      (λ s. reply_asking old (input_reply old.policy.frontend s) (prepared_if s old.asking word)) refl shown is result
+      (subst (λ (n : List ℕ). Comes (reply_asking old (input_reply old.policy.frontend shown) (prepared_if shown old.asking n)) [] old new result) named.0 comes)
 
 module _ (old : SessionState) (word name : List ℕ) (named : (name ≡ word) × (is_name word ≡ true)) where
   pub set_title_refused : (e : QuestionError) → AnswersOf {A = List ℕ} (Err e) (description old.store.layers old.at name) → (result : Result Stepped OutOfMemory) → TellsRefusal [] e result → Does (command.SetTitle word) old old result
   set_title_refused e answers result told =
-      unread_does old old (command.SetTitle word) (quiet (command.SetTitle word) old refl refl) word name named (description old.store.layers old.at) (λ t. asks old (reply 0 []) (titled old.asking t)) refl e answers result told refl
+      unread_does old old (command.SetTitle word) (quiet (command.SetTitle word) old refl refl) word name named (description old.store.layers old.at) (λ t. reply_asking old (reply 0 []) (titled old.asking t)) refl e answers result told refl
 
   pub input_refused : (priority : Priority) (e : QuestionError) → AnswersOf {A = Bool} (Err e) (is_to_be_shown old priority name) → (result : Result Stepped OutOfMemory) → TellsRefusal [] e result → Does (command.Input priority word) old old result
   input_refused priority e answers result told =
       unread_does old old (command.Input priority word) (quiet (command.Input priority word) old refl refl) word name named (is_to_be_shown old priority)
-      (λ s. asks old (input_reply old.manner.frontend s) (prepared_if s old.asking word)) refl e answers result told refl
+      (λ s. reply_asking old (input_reply old.policy.frontend s) (prepared_if s old.asking word)) refl e answers result told refl
 
 -- PURGE
 module _ (old : SessionState) where
@@ -147,19 +147,19 @@ module _ (old : SessionState) where
       → Does command.Purge old old result
   purge_busy name is result told =
       told_does old command.Purge (quiet command.Purge old refl refl) (is_busy name)
-      (ap (λ (busy : Option (List ℕ)). option_map_or (λ n. tells old (is_busy n)) busy (does old (reply 0 []) (purged old.store old.at old.owner))) is) result told
+      (ap (λ (busy : Option (List ℕ)). option_map_or (λ n. reply_only old (is_busy n)) busy (reply_write old (reply 0 []) (purged old.store old.at old.owner))) is) result told
 
   -- none is
   pub purge_does : (new : SessionState) → first_busy old.asking (owned old.store.layers old.at.config old.owner) ≡ None → (result : Result Stepped OutOfMemory)
-      → Comes (does old (reply 0 []) (purged old.store old.at old.owner)) (names_on old command.Purge nothing) old new result → Does command.Purge old new result
+      → Comes (reply_write old (reply 0 []) (purged old.store old.at old.owner)) (names_on old command.Purge nothing) old new result → Does command.Purge old new result
   purge_does new none result comes =
-      stored_does command.Purge old new (quiet command.Purge old refl refl) (does old (reply 0 []) (purged old.store old.at old.owner))
-      (ap (λ (busy : Option (List ℕ)). option_map_or (λ n. tells old (is_busy n)) busy (does old (reply 0 []) (purged old.store old.at old.owner))) none) result comes
+      stored_does command.Purge old new (quiet command.Purge old refl refl) (reply_write old (reply 0 []) (purged old.store old.at old.owner))
+      (ap (λ (busy : Option (List ℕ)). option_map_or (λ n. reply_only old (is_busy n)) busy (reply_write old (reply 0 []) (purged old.store old.at old.owner))) none) result comes
 
 -- UNREGISTER
 module _ (old : SessionState) (word name : List ℕ) (named : (name ≡ word) × (is_name word ≡ true)) where
-  leaving : List ℕ → Outcome
-  leaving n = unless_busy old (n ∷ []) (does old (reply 0 []) (unregistered old.store old.at n old.owner))
+  leaving : List ℕ → CommandOutcome
+  leaving n = unless_busy old (n ∷ []) (reply_write old (reply 0 []) (unregistered old.store old.at n old.owner))
 
   pub unregister_missing : exists old.store.layers old.at name ≡ false → (result : Result Stepped OutOfMemory) → IfOk result (λ did. did ≡ Replied (no_question name)) → Does (command.Unregister word) old old result
   unfolding leaving
@@ -173,7 +173,7 @@ module _ (old : SessionState) (word name : List ℕ) (named : (name ≡ word) ×
   unfolding leaving
   unregister_busy some is result told =
       told_does old (command.Unregister word) (quiet (command.Unregister word) old refl refl) (is_busy name)
-      (there_found old word name named leaving some ∙ ap (λ (busy : Option (List ℕ)). option_map_or (λ n. tells old (is_busy n)) busy (does old (reply 0 []) (unregistered old.store old.at name old.owner))) (busy_one is)) result told
+      (there_found old word name named leaving some ∙ ap (λ (busy : Option (List ℕ)). option_map_or (λ n. reply_only old (is_busy n)) busy (reply_write old (reply 0 []) (unregistered old.store old.at name old.owner))) (busy_one is)) result told
 
 -- ---- lists made name by name
 
@@ -211,14 +211,14 @@ own_by : (found : Option (List ℕ)) (name : List ℕ) (a : List ℕ × List ℕ
 own_by None name a is = cc
 own_by (Some choice) name a is = let same : (name, choice) ≡ a = cc in ap (λ (p : List ℕ × List ℕ). p.0) (sym same)
 
-own_choice : (layers : List LayerState) (at : Setting) → IsOwn (choice_for layers at)
+own_choice : (layers : List LayerState) (at : QuestionContext) → IsOwn (choice_for layers at)
 own_choice layers at name a is = own_by (option_and_then (λ k. settled_choice (shown layers at name k)) (kind layers at name)) name a is
 
-pub choices_distinct : (layers : List LayerState) (at : Setting) (names : List (List ℕ)) → AreDistinct names → AreDistinct (each (λ a. a.0) (filter_map (choice_for layers at) names))
+pub choices_distinct : (layers : List LayerState) (at : QuestionContext) (names : List (List ℕ)) → AreDistinct names → AreDistinct (each (λ a. a.0) (filter_map (choice_for layers at) names))
 choices_distinct layers at names = chosen_distinct (choice_for layers at) (own_choice layers at) names
 
 -- what GO comes to where nobody is asked
-module _ (old : SessionState) (nobody : old.manner.frontend ≡ Noninteractive) where
+module _ (old : SessionState) (nobody : old.policy.frontend ≡ Noninteractive) where
   go_is : answer old command.Go nothing ≡ gone old (values_set old.store old.at (choices_for old))
   go_is = ap (λ (f : Frontend). going f old (Answers [])) nobody
 
@@ -233,21 +233,21 @@ module _ (old : SessionState) (nobody : old.manner.frontend ≡ Noninteractive) 
       asking_does command.Go nothing old new old.files old.terminal (gone old (values_set old.store old.at (choices_for old))) (each (λ a. a.0) (choices_for old)) result go_quiet (sym go_is) (sym go_names) comes
 
 -- the choices are set
-pub skipped_comes : (old : SessionState) (names : List (List ℕ)) (store : StoreState) (at : Setting) → at ≡ old.at → values_set old.store old.at (choices_for old) ≡ Ok store → (new : SessionState)
+pub skipped_comes : (old : SessionState) (names : List (List ℕ)) (store : StoreState) (at : QuestionContext) → at ≡ old.at → values_set old.store old.at (choices_for old) ≡ Ok store → (new : SessionState)
     → new ≡ record old { store = store; at = at; asking = skipped old } → (did : Stepped) → did ≡ Replied (reply 0 (codes "ok")) → ComesAsking (gone old (values_set old.store old.at (choices_for old))) names old new (Ok did)
 skipped_comes old names store at at_is is new new_is did told =
-    subst (λ (row : Result StoreState QuestionError). ComesAsking (gone old row) names old new (Ok did)) (sym is) (told, new_is ∙ (λ i. record old { store = store; at = at_is i; asking = skipped old }))
+    subst (λ (batch : Result StoreState QuestionError). ComesAsking (gone old batch) names old new (Ok did)) (sym is) (told, new_is ∙ (λ i. record old { store = store; at = at_is i; asking = skipped old }))
 
-module _ (old : SessionState) (names : List (List ℕ)) (row : Result StoreState QuestionError) (outcome : Result StoreState QuestionError → Outcome) (store : StoreState) (at : Setting) (at_is : at ≡ old.at) where
-  module _ (error_is : (e : QuestionError) → outcome (Err e) ≡ tells old (refusal [] e)) where
-    unset : (e : QuestionError) → (row ≡ Err e) × (store ≡ old.store) → (did : Stepped) → did ≡ Replied (refusal [] e) → ComesAsking (outcome row) names old (record old { store = store; at = at }) (Ok did)
+module _ (old : SessionState) (names : List (List ℕ)) (batch : Result StoreState QuestionError) (outcome : Result StoreState QuestionError → CommandOutcome) (store : StoreState) (at : QuestionContext) (at_is : at ≡ old.at) where
+  module _ (error_is : (e : QuestionError) → outcome (Err e) ≡ reply_only old (refusal [] e)) where
+    unset : (e : QuestionError) → (batch ≡ Err e) × (store ≡ old.store) → (did : Stepped) → did ≡ Replied (refusal [] e) → ComesAsking (outcome batch) names old (record old { store = store; at = at }) (Ok did)
     unset e left did told =
-        let is : outcome row ≡ tells old (refusal [] e) = ap outcome left.0 ∙ error_is e in
-        subst (λ (o : Outcome). ComesAsking o names old (record old { store = store; at = at }) (Ok did)) (sym is) (told, λ i. record old { store = left.1 i; at = at_is i })
+        let is : outcome batch ≡ reply_only old (refusal [] e) = ap outcome left.0 ∙ error_is e in
+        subst (λ (o : CommandOutcome). ComesAsking o names old (record old { store = store; at = at }) (Ok did)) (sym is) (told, λ i. record old { store = left.1 i; at = at_is i })
 
     -- values that were to be set, and one of them can't be changed
-    pub unset_comes : (e : QuestionError) → DoesChange {A = Unit {0}} (Err e) row old.store store → AreSameButAll names old.store.layers store.layers
-        → (result : Result Stepped OutOfMemory) → TellsRefusal [] e result → ComesAsking (outcome row) names old (record old { store = store; at = at }) result
+    pub unset_comes : (e : QuestionError) → DoesChange {A = Unit {0}} (Err e) batch old.store store → AreSameButAll names old.store.layers store.layers
+        → (result : Result Stepped OutOfMemory) → TellsRefusal [] e result → ComesAsking (outcome batch) names old (record old { store = store; at = at }) result
     unset_comes e left others (Err memory) told = (others, λ i. record old { store = store; at = at_is i })
     unset_comes error.OutOfMemory left others (Ok did) told = absurd told
     unset_comes (error.NoQuestion name) left others (Ok did) told = unset (error.NoQuestion name) left did told

@@ -5,7 +5,7 @@ use Rattle.dc_words.specs.declared.stream.Line.TheVariants.{Whole, TooLong}
 use Rattle.dc_proto.specs.Commands.{heard}
 use Rattle.dc_proto.specs.declared.command.Heard.{Heard}
 use Rattle.dc_proto.specs.declared.command.Heard.TheVariants.{Nothing, Known, Refused}
-use Rattle.dc_session.specs.Machine.{Steps, StepsHeard, Breaks, BreaksHeard}
+use Rattle.dc_session.specs.Machine.{Steps, StepsHeard, Aborts, BreaksHeard}
 use Rattle.dc_session.specs.SessionState.{SessionState}
 use Rattle.dc_session.specs.declared.stepped.StepError.TheVariants as step
 use Rattle.dc_session.specs.declared.stepped.Stepped.{Stepped}
@@ -24,10 +24,10 @@ heard_breaks (Known command) old new did done = inr record {
   part = inr record { given = done.given; gives = done.gives; others = others_stay command old new did done };
   at = ap (λ (s : SessionState). s.at) done.new_is;
   owner = ap (λ (s : SessionState). s.owner) done.new_is;
-  manner = ap (λ (s : SessionState). s.manner) done.new_is;
+  policy = ap (λ (s : SessionState). s.policy) done.new_is;
 }
 heard_breaks (Refused reply) old new did steps = steps.1
 
-pub unsent_breaks : (old new : SessionState) (line : Line) (did : Stepped) → Steps old line did new → Breaks old line step.OutOfMemory new
+pub unsent_breaks : (old new : SessionState) (line : Line) (did : Stepped) → Steps old line did new → Aborts old line step.OutOfMemory new
 unsent_breaks old new TooLong did steps = steps.1
 unsent_breaks old new (Whole line) did steps = heard_breaks (heard old.asking.escape line) old new did steps

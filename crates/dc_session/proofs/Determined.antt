@@ -17,14 +17,14 @@ use Rattle.dc_teletype.specs.declared.teletype.Asked.TheVariants.{Answers}
 use Rattle.dc_proto.specs.declared.command.Command.{Command}
 use Rattle.dc_proto.specs.declared.command.Heard.{Heard}
 use Rattle.dc_proto.specs.declared.command.Heard.TheVariants.{Nothing, Known, Refused}
-use Rattle.dc_serve.specs.declared.heeds.Heeded.{Heeded}
-use Rattle.dc_serve.specs.Course.{Turn, lines_of, IsCourse}
+use Rattle.dc_serve.specs.declared.machine.Response.{Response}
+use Rattle.dc_serve.specs.Execution.{Transition, lines_of, IsExecution}
 use Rattle.dc_template.specs.Reading.{Reads, IsBad}
 use Rattle.dc_template.specs.Stanzas.{Stanza}
 use Rattle.dc_template.proofs.FaultLaws.{one_fault, not_both}
-use Rattle.dc_session.specs.Answers.{Given, answer, after_command}
+use Rattle.dc_session.specs.Answers.{CommandInputs, answer, after_command}
 use Rattle.dc_session.specs.Displays.{Display, Blank, displayed, Shows}
-use Rattle.dc_session.specs.Machine.{Heeds, Steps, StepsHeard, HasDone, Looks, file_of, sent_in}
+use Rattle.dc_session.specs.Machine.{Handles, Steps, StepsHeard, HasDone, Looks, file_of, sent_in}
 use Rattle.dc_session.specs.SessionState.{FilesState, TerminalState, SessionState}
 use Rattle.dc_session.specs.TemplateFiles.{Finds, HasRead}
 use Rattle.dc_session.specs.declared.stepped.Stepped.{Stepped}
@@ -130,7 +130,7 @@ module _ (disk : Disk) (old : SessionState) (nobody : AsksNobody old) (told : Is
       let other_shown = blank_given (displayed old command) second.given.asked left.terminal unseen second.gives.shows in
       let same : first.given ≡ second.given = (λ i. record { found = found i; asked = (one_shown.0 ∙ sym other_shown.0) i }) in
       let terminal : new.terminal ≡ left.terminal = one_shown.1 ∙ sym other_shown.1 in (
-        first.stepped_is ∙ ap (λ (g : Given). (answer old command g).stepped) same ∙ sym second.stepped_is,
+        first.stepped_is ∙ ap (λ (g : CommandInputs). (answer old command g).stepped) same ∙ sym second.stepped_is,
         first.new_is ∙ (λ i. after_command old command (same i) (files i) (terminal i)) ∙ sym second.new_is,
       )
 
@@ -143,8 +143,8 @@ module _ (disk : Disk) (old : SessionState) (nobody : AsksNobody old) (told : Is
   steps_once TooLong first second = (first.0 ∙ sym second.0, first.1 ∙ sym second.1)
   steps_once (Whole line) first second = heard_once (heard old.asking.escape line) first second
 
-heeds_once : (disk : Disk) (old : SessionState) → AsksNobody old → IsTold disk old.files.told → (did other : Heeded) (new left : SessionState) → new.files ≡ left.files → (line : Line)
-    → Heeds old line did new → Heeds old line other left → (did ≡ other) × (new ≡ left)
+heeds_once : (disk : Disk) (old : SessionState) → AsksNobody old → IsTold disk old.files.told → (did other : Response) (new left : SessionState) → new.files ≡ left.files → (line : Line)
+    → Handles old line did new → Handles old line other left → (did ≡ other) × (new ≡ left)
 heeds_once disk old nobody told did other new left files line first second =
     let same = steps_once disk old nobody told first.stepped second.stepped new left files line first.steps second.steps in
     (first.did_is ∙ ap (sent_in old.asking.escape) same.0 ∙ sym second.did_is, same.1)
@@ -162,29 +162,29 @@ module _ (disk : Disk) (old : SessionState) (told : IsTold disk old.files.told) 
   steps_told TooLong steps = state_told steps.1
   steps_told (Whole line) steps = heard_told (heard old.asking.escape line) steps
 
-pub heeds_told : (disk : Disk) (old : SessionState) → IsTold disk old.files.told → (did : Heeded) (new : SessionState) (line : Line) → Heeds old line did new → IsTold disk new.files.told
-heeds_told disk old told did new line heeds = steps_told disk old told heeds.stepped new line heeds.steps
+pub heeds_told : (disk : Disk) (old : SessionState) → IsTold disk old.files.told → (did : Response) (new : SessionState) (line : Line) → Handles old line did new → IsTold disk new.files.told
+heeds_told disk old told did new line steps = steps_told disk old told steps.stepped new line steps.steps
 
 -- ---- courses
 
-abbrev pub files_left : List (Turn SessionState) → List FilesState
-files_left turns = each (λ turn. turn.new.files) turns
+abbrev pub files_left : List (Transition SessionState) → List FilesState
+files_left transitions = each (λ transition. transition.new.files) transitions
 
-courses : (disk : Disk) (start : SessionState) (a b : List (Turn SessionState)) → AsksNobody start → IsTold disk start.files.told → IsCourse Heeds start a → IsCourse Heeds start b
+courses : (disk : Disk) (start : SessionState) (a b : List (Transition SessionState)) → AsksNobody start → IsTold disk start.files.told → IsExecution Handles start a → IsExecution Handles start b
     → lines_of a ≡ lines_of b → files_left a ≡ files_left b → a ≡ b
 courses disk start [] [] nobody told first second lines files = refl
-courses disk start [] (turn ∷ b) nobody told first second lines files = cc
-courses disk start (turn ∷ a) [] nobody told first second lines files = cc
+courses disk start [] (transition ∷ b) nobody told first second lines files = cc
+courses disk start (transition ∷ a) [] nobody told first second lines files = cc
 courses disk start (one ∷ a) (other ∷ b) nobody told first second lines files =
     let line : one.line ≡ other.line = cc in
     let rest : lines_of a ≡ lines_of b = cc in
     let left : one.new.files ≡ other.new.files = cc in
     let later_files : files_left a ≡ files_left b = cc in
-    let here = heeds_once disk start nobody told one.did other.did one.new other.new left other.line (subst (λ (l : Line). Heeds start l one.did one.new) line first.0) second.0 in
+    let here = heeds_once disk start nobody told one.did other.did one.new other.new left other.line (subst (λ (l : Line). Handles start l one.did one.new) line first.0) second.0 in
     let later : a ≡ b
-    = courses disk one.new a b (steps_nobody one.line start one.new first.0.stepped nobody first.0.steps) (heeds_told disk start told one.did one.new one.line first.0) first.2 (subst (λ (s : SessionState). IsCourse Heeds s b) (sym here.1) second.2) rest later_files in
+    = courses disk one.new a b (steps_nobody one.line start one.new first.0.stepped nobody first.0.steps) (heeds_told disk start told one.did one.new one.line first.0) first.2 (subst (λ (s : SessionState). IsExecution Handles s b) (sym here.1) second.2) rest later_files in
     λ i. record { line = line i; did = here.0 i; new = here.1 i } ∷ later i
 
-pub determined : (disk : Disk) (start : SessionState) (calls : List FilesCall) (a b : List (Turn SessionState)) → start.files.told ≡ record { disk = Some disk; calls = Some calls } → AsksNobody start
-    → IsCourse Heeds start a → IsCourse Heeds start b → lines_of a ≡ lines_of b → files_left a ≡ files_left b → a ≡ b
+pub determined : (disk : Disk) (start : SessionState) (calls : List FilesCall) (a b : List (Transition SessionState)) → start.files.told ≡ record { disk = Some disk; calls = Some calls } → AsksNobody start
+    → IsExecution Handles start a → IsExecution Handles start b → lines_of a ≡ lines_of b → files_left a ≡ files_left b → a ≡ b
 determined disk start calls a b told nobody = courses disk start a b nobody (calls, told)

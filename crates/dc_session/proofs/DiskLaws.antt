@@ -8,9 +8,9 @@ use Rattle.dc_proto.specs.Commands.{heard}
 use Rattle.dc_proto.specs.declared.command.Command.{Command}
 use Rattle.dc_proto.specs.declared.command.Heard.{Heard}
 use Rattle.dc_proto.specs.declared.command.Heard.TheVariants.{Nothing, Known, Refused}
-use Rattle.dc_serve.specs.declared.heeds.Heeded.{Heeded}
-use Rattle.dc_serve.specs.Course.{Turn, state_after, IsCourse}
-use Rattle.dc_session.specs.Machine.{Heeds, Steps, StepsHeard, Breaks, BreaksHeard, BreaksIdle, BreaksOff, GivesInPart, IsDoneInPart, Looks, LooksInVain, file_of}
+use Rattle.dc_serve.specs.declared.machine.Response.{Response}
+use Rattle.dc_serve.specs.Execution.{Transition, state_after, IsExecution}
+use Rattle.dc_session.specs.Machine.{Handles, Steps, StepsHeard, Aborts, BreaksHeard, BreaksIdle, BreaksOff, GivesInPart, IsDoneInPart, Looks, LooksInVain, file_of}
 use Rattle.dc_session.specs.SessionState.{FilesState, SessionState}
 use Rattle.dc_session.specs.TemplateFiles.{Finds, FindsNoMemory}
 use Rattle.dc_session.specs.declared.stepped.StepError.{StepError}
@@ -57,8 +57,8 @@ steps_keep old new TooLong did steps = state_keeps old new steps.1
 steps_keep old new (Whole line) did steps = heard_keeps (heard old.asking.escape line) old new did steps
 
 -- a line leaves the disk as it was
-pub heeds_reads : (old new : SessionState) (line : Line) (did : Heeded) → Heeds old line did new → KeepsDisk old.files new.files
-heeds_reads old new line did heeds = steps_keep old new line heeds.stepped heeds.steps
+pub heeds_reads : (old new : SessionState) (line : Line) (did : Response) → Handles old line did new → KeepsDisk old.files new.files
+heeds_reads old new line did steps = steps_keep old new line steps.stepped steps.steps
 
 given_part_keeps : (command : Command) (old new : SessionState) → GivesInPart command old new → KeepsDisk old.files new.files
 given_part_keeps command old new part = elim part.gives [
@@ -87,10 +87,10 @@ heard_breaks (Known command) old new error off = off_keeps command old new error
 heard_breaks (Refused reply) old new error idle = idle_keeps old new error idle
 
 -- and so does one that came to nothing
-pub breaks_reads : (old new : SessionState) (line : Line) (error : StepError) → Breaks old line error new → KeepsDisk old.files new.files
+pub breaks_reads : (old new : SessionState) (line : Line) (error : StepError) → Aborts old line error new → KeepsDisk old.files new.files
 breaks_reads old new TooLong error idle = idle_keeps old new error idle
-breaks_reads old new (Whole line) error breaks = heard_breaks (heard old.asking.escape line) old new error breaks
+breaks_reads old new (Whole line) error aborts = heard_breaks (heard old.asking.escape line) old new error aborts
 
-pub course_reads : (start : SessionState) (turns : List (Turn SessionState)) → IsCourse Heeds start turns → KeepsDisk start.files (state_after start turns).files
+pub course_reads : (start : SessionState) (transitions : List (Transition SessionState)) → IsExecution Handles start transitions → KeepsDisk start.files (state_after start transitions).files
 course_reads start [] course = refl
-course_reads start (turn ∷ turns) course = course_reads turn.new turns course.2 ∙ heeds_reads start turn.new turn.line turn.did course.0
+course_reads start (transition ∷ transitions) course = course_reads transition.new transitions course.2 ∙ heeds_reads start transition.new transition.line transition.did course.0

@@ -18,7 +18,7 @@ use Rattle.dc_store.specs.Plans.{StoreState, owned}
 use Rattle.dc_teletype.specs.declared.teletype.Asked.{Asked}
 use Rattle.dc_teletype.specs.declared.teletype.Asked.TheVariants.{Answers, Back}
 use Rattle.dc_session.specs.Asking.{description, is_to_be_shown, prepared_if, choices_for, first_fixed, to_show, values_given, first_busy, bar_at}
-use Rattle.dc_session.specs.Answers.{Given, Outcome, says, does, by, on, there, asks, titled, with_bar, unless_busy, gone, input_reply, answered, heard_out, going, tells, told_code, is_supported, is_truth, answer}
+use Rattle.dc_session.specs.Answers.{CommandInputs, CommandOutcome, reply_read, reply_write, and_then, for_question, there, reply_asking, titled, with_bar, unless_busy, gone, input_reply, answered, heard_out, going, reply_only, told_code, is_supported, is_truth, answer}
 use Rattle.dc_session.specs.Machine.{Gives, Looks, HasDone}
 use Rattle.dc_session.specs.Refusals.{refusal, cant_change, is_busy, no_progress_bar}
 use Rattle.dc_session.specs.SessionState.{FilesState, TerminalState, SessionState}
@@ -58,27 +58,27 @@ refusal_sound field (error.CantChange name) = ten
 refusal_sound field (error.Twice name) = ten
 refusal_sound field error.OutOfMemory = ten
 
-says_sound : {A : Type 0} (state : SessionState) (field : List ℕ) (reply : A → Reply) (result : Result A QuestionError) → ((a : A) → IsSoundCode (reply a).code) → IsSound (says state field reply result).stepped
+says_sound : {A : Type 0} (state : SessionState) (field : List ℕ) (reply : A → Reply) (result : Result A QuestionError) → ((a : A) → IsSoundCode (reply a).code) → IsSound (reply_read state field reply result).stepped
 says_sound state field reply (Ok a) sound = sound a
 says_sound state field reply (Err e) sound = refusal_sound field e
 
-does_sound : (state : SessionState) (reply : Reply) (result : Result StoreState QuestionError) → IsSoundCode reply.code → IsSound (does state reply result).stepped
+does_sound : (state : SessionState) (reply : Reply) (result : Result StoreState QuestionError) → IsSoundCode reply.code → IsSound (reply_write state reply result).stepped
 does_sound state reply (Ok new) sound = sound
 does_sound state reply (Err e) sound = refusal_sound [] e
 
-by_sound : {A : Type 0} (state : SessionState) (outcome : A → Outcome) (result : Result A QuestionError) → ((a : A) → IsSound (outcome a).stepped) → IsSound (by state outcome result).stepped
+by_sound : {A : Type 0} (state : SessionState) (outcome : A → CommandOutcome) (result : Result A QuestionError) → ((a : A) → IsSound (outcome a).stepped) → IsSound (and_then state outcome result).stepped
 by_sound state outcome (Ok a) sound = sound a
 by_sound state outcome (Err e) sound = refusal_sound [] e
 
-busy_sound : (state : SessionState) (busy : Option (List ℕ)) (outcome : Outcome) → IsSound outcome.stepped → IsSound (option_map_or (λ name. tells state (is_busy name)) busy outcome).stepped
+busy_sound : (state : SessionState) (busy : Option (List ℕ)) (outcome : CommandOutcome) → IsSound outcome.stepped → IsSound (option_map_or (λ name. reply_only state (is_busy name)) busy outcome).stepped
 busy_sound state None outcome sound = sound
 busy_sound state (Some name) outcome sound = ten
 
-bar_sound : (bar : Option Bar) (outcome : Bar → Outcome) (none : Outcome) → ((b : Bar) → IsSound (outcome b).stepped) → IsSound none.stepped → IsSound (option_map_or outcome bar none).stepped
+bar_sound : (bar : Option Bar) (outcome : Bar → CommandOutcome) (none : CommandOutcome) → ((b : Bar) → IsSound (outcome b).stepped) → IsSound none.stepped → IsSound (option_map_or outcome bar none).stepped
 bar_sound None outcome none sound nothing = nothing
 bar_sound (Some bar) outcome none sound nothing = sound bar
 
-gone_sound : (state : SessionState) (row : Result StoreState QuestionError) → IsSound (gone state row).stepped
+gone_sound : (state : SessionState) (batch : Result StoreState QuestionError) → IsSound (gone state batch).stepped
 gone_sound state (Ok store) = zero
 gone_sound state (Err e) = refusal_sound [] e
 
@@ -86,11 +86,11 @@ text_sound : (escape : Bool) → IsSoundCode (told_code escape)
 text_sound true = one
 text_sound false = zero
 
-fset_sound : (state : SessionState) (word key text : List ℕ) (given : Given) (b : Bool) → is_truth text ≡ b → IsSound (answer state (Fset word key text) given).stepped
+fset_sound : (state : SessionState) (word key text : List ℕ) (given : CommandInputs) (b : Bool) → is_truth text ≡ b → IsSound (answer state (Fset word key text) given).stepped
 fset_sound state word key text given true is = rw is (does_sound state _ _ zero)
 fset_sound state word key text given false is = rw is (says_sound state [] _ _ (λ a. ten))
 
-version_sound : (state : SessionState) (version : Option (List ℕ)) (given : Given) (b : Bool) → is_supported version ≡ b → IsSound (answer state (Version version) given).stepped
+version_sound : (state : SessionState) (version : Option (List ℕ)) (given : CommandInputs) (b : Bool) → is_supported version ≡ b → IsSound (answer state (Version version) given).stepped
 version_sound state version given true is = rw is zero
 version_sound state version given false is = rw is thirty
 
@@ -110,7 +110,7 @@ input_sound Noninteractive shown = thirty
 input_sound Teletype true = zero
 input_sound Teletype false = thirty
 
-answered_sound : (state : SessionState) (row : Result StoreState QuestionError) → IsSound (answered state row).stepped
+answered_sound : (state : SessionState) (batch : Result StoreState QuestionError) → IsSound (answered state batch).stepped
 answered_sound state (Ok store) = zero
 answered_sound state (Err e) = refusal_sound [] e
 
@@ -118,7 +118,7 @@ heard_sound : (state : SessionState) (asked : Asked) → IsSound (heard_out stat
 heard_sound state Back = thirty
 heard_sound state (Answers answers) = answered_sound state (values_set state.store state.at (values_given (to_show state) answers))
 
-fixed_sound : (state : SessionState) (fixed : Option (List ℕ)) (asked : Asked) → IsSound (option_map_or (λ name. tells state (cant_change name)) fixed (heard_out state asked)).stepped
+fixed_sound : (state : SessionState) (fixed : Option (List ℕ)) (asked : Asked) → IsSound (option_map_or (λ name. reply_only state (cant_change name)) fixed (heard_out state asked)).stepped
 fixed_sound state None asked = heard_sound state asked
 fixed_sound state (Some name) asked = ten
 
@@ -126,17 +126,17 @@ going_sound : (frontend : Frontend) (state : SessionState) (asked : Asked) → I
 going_sound Noninteractive state asked = gone_sound state (values_set state.store state.at (choices_for state))
 going_sound Teletype state asked = fixed_sound state (first_fixed state) asked
 
-told_as_counted : (state : SessionState) (command : Command) (given : Given) (new : FilesState) (terminal : TerminalState) → Gives command state given new terminal
+told_as_counted : (state : SessionState) (command : Command) (given : CommandInputs) (new : FilesState) (terminal : TerminalState) → Gives command state given new terminal
     → IsToldAsCounted (answer state command given).stepped state.files.counts new.counts
 told_as_counted state (LoadTemplateFile path owner) given new terminal gives = file_told state path owner given.found given.asked new gives.looks
 told_as_counted state (Version version) given new terminal gives = inr (version_sound state version given (is_supported version) refl, ap (λ (f : FilesState). f.counts) gives.looks.1)
 told_as_counted state (Capb words) given new terminal gives = inr (zero, ap (λ (f : FilesState). f.counts) gives.looks.1)
-told_as_counted state (SetTitle word) given new terminal gives = inr (by_sound {A = List ℕ} state (λ text. asks state (reply 0 []) (titled state.asking text)) (on word (description state.store.layers state.at)) (λ text. zero), ap (λ (f : FilesState). f.counts) gives.looks.1)
+told_as_counted state (SetTitle word) given new terminal gives = inr (by_sound {A = List ℕ} state (λ text. reply_asking state (reply 0 []) (titled state.asking text)) (for_question word (description state.store.layers state.at)) (λ text. zero), ap (λ (f : FilesState). f.counts) gives.looks.1)
 told_as_counted state (Title text) given new terminal gives = inr (zero, ap (λ (f : FilesState). f.counts) gives.looks.1)
-told_as_counted state (Input priority word) given new terminal gives = inr (by_sound {A = Bool} state (λ shown. asks state (input_reply state.manner.frontend shown) (prepared_if shown state.asking word)) (on word (is_to_be_shown state priority)) (λ shown. input_sound state.manner.frontend shown), ap (λ (f : FilesState). f.counts) gives.looks.1)
+told_as_counted state (Input priority word) given new terminal gives = inr (by_sound {A = Bool} state (λ shown. reply_asking state (input_reply state.policy.frontend shown) (prepared_if shown state.asking word)) (for_question word (is_to_be_shown state priority)) (λ shown. input_sound state.policy.frontend shown), ap (λ (f : FilesState). f.counts) gives.looks.1)
 told_as_counted state BeginBlock given new terminal gives = inr (zero, ap (λ (f : FilesState). f.counts) gives.looks.1)
 told_as_counted state EndBlock given new terminal gives = inr (zero, ap (λ (f : FilesState). f.counts) gives.looks.1)
-told_as_counted state Go given new terminal gives = inr (going_sound state.manner.frontend state given.asked, ap (λ (f : FilesState). f.counts) gives.looks.1)
+told_as_counted state Go given new terminal gives = inr (going_sound state.policy.frontend state given.asked, ap (λ (f : FilesState). f.counts) gives.looks.1)
 told_as_counted state Clear given new terminal gives = inr (zero, ap (λ (f : FilesState). f.counts) gives.looks.1)
 told_as_counted state Stop given new terminal gives = inr (tt, ap (λ (f : FilesState). f.counts) gives.looks.1)
 told_as_counted state (Get word) given new terminal gives = inr (says_sound state [] _ _ (λ a. text_sound state.asking.escape), ap (λ (f : FilesState). f.counts) gives.looks.1)
@@ -147,13 +147,13 @@ told_as_counted state (Fget word key) given new terminal gives = inr (says_sound
 told_as_counted state (Fset word key text) given new terminal gives = inr (fset_sound state word key text given (is_truth text) refl, ap (λ (f : FilesState). f.counts) gives.looks.1)
 told_as_counted state (Metaget word field) given new terminal gives = inr (says_sound state field _ _ (λ a. text_sound state.asking.escape), ap (λ (f : FilesState). f.counts) gives.looks.1)
 told_as_counted state (Register template name) given new terminal gives = inr (does_sound state _ _ zero, ap (λ (f : FilesState). f.counts) gives.looks.1)
-told_as_counted state (Unregister word) given new terminal gives = inr (by_sound {A = List ℕ} state (λ name. unless_busy state (name ∷ []) (does state (reply 0 []) (unregistered state.store state.at name state.owner))) (on word (there state)) (λ name. busy_sound state (first_busy state.asking (name ∷ [])) (does state (reply 0 []) (unregistered state.store state.at name state.owner)) (does_sound state (reply 0 []) (unregistered state.store state.at name state.owner) zero)), ap (λ (f : FilesState). f.counts) gives.looks.1)
-told_as_counted state Purge given new terminal gives = inr (busy_sound state (first_busy state.asking (owned state.store.layers state.at.config state.owner)) (does state (reply 0 []) (purged state.store state.at state.owner)) (does_sound state (reply 0 []) (purged state.store state.at state.owner) zero), ap (λ (f : FilesState). f.counts) gives.looks.1)
-told_as_counted state (ProgressStart low high word) given new terminal gives = inr (by_sound {A = List ℕ} state (λ name. asks state (reply 0 (codes "OK")) (with_bar state.asking (Some (record { min = low; max = high; place = low })))) (on word (there state)) (λ name. zero), ap (λ (f : FilesState). f.counts) gives.looks.1)
-told_as_counted state (ProgressSet number) given new terminal gives = inr (bar_sound state.asking.bar (λ bar. asks state (reply 0 (codes "OK")) (with_bar state.asking (Some (bar_at bar number)))) (tells state no_progress_bar) (λ bar. zero) ten, ap (λ (f : FilesState). f.counts) gives.looks.1)
-told_as_counted state (ProgressStep number) given new terminal gives = inr (bar_sound state.asking.bar (λ bar. asks state (reply 0 (codes "OK")) (with_bar state.asking (Some (bar_at bar (bar.place + number))))) (tells state no_progress_bar) (λ bar. zero) ten, ap (λ (f : FilesState). f.counts) gives.looks.1)
-told_as_counted state (ProgressInfo word) given new terminal gives = inr (bar_sound state.asking.bar (λ bar. by {A = List ℕ} state (λ name. tells state (reply 0 (codes "OK"))) (on word (there state))) (tells state no_progress_bar) (λ bar. by_sound {A = List ℕ} state (λ name. tells state (reply 0 (codes "OK"))) (on word (there state)) (λ name. zero)) ten, ap (λ (f : FilesState). f.counts) gives.looks.1)
-told_as_counted state ProgressStop given new terminal gives = inr (bar_sound state.asking.bar (λ bar. asks state (reply 0 (codes "OK")) (with_bar state.asking None)) (tells state no_progress_bar) (λ bar. zero) ten, ap (λ (f : FilesState). f.counts) gives.looks.1)
+told_as_counted state (Unregister word) given new terminal gives = inr (by_sound {A = List ℕ} state (λ name. unless_busy state (name ∷ []) (reply_write state (reply 0 []) (unregistered state.store state.at name state.owner))) (for_question word (there state)) (λ name. busy_sound state (first_busy state.asking (name ∷ [])) (reply_write state (reply 0 []) (unregistered state.store state.at name state.owner)) (does_sound state (reply 0 []) (unregistered state.store state.at name state.owner) zero)), ap (λ (f : FilesState). f.counts) gives.looks.1)
+told_as_counted state Purge given new terminal gives = inr (busy_sound state (first_busy state.asking (owned state.store.layers state.at.config state.owner)) (reply_write state (reply 0 []) (purged state.store state.at state.owner)) (does_sound state (reply 0 []) (purged state.store state.at state.owner) zero), ap (λ (f : FilesState). f.counts) gives.looks.1)
+told_as_counted state (ProgressStart low high word) given new terminal gives = inr (by_sound {A = List ℕ} state (λ name. reply_asking state (reply 0 (codes "OK")) (with_bar state.asking (Some (record { min = low; max = high; place = low })))) (for_question word (there state)) (λ name. zero), ap (λ (f : FilesState). f.counts) gives.looks.1)
+told_as_counted state (ProgressSet number) given new terminal gives = inr (bar_sound state.asking.bar (λ bar. reply_asking state (reply 0 (codes "OK")) (with_bar state.asking (Some (bar_at bar number)))) (reply_only state no_progress_bar) (λ bar. zero) ten, ap (λ (f : FilesState). f.counts) gives.looks.1)
+told_as_counted state (ProgressStep number) given new terminal gives = inr (bar_sound state.asking.bar (λ bar. reply_asking state (reply 0 (codes "OK")) (with_bar state.asking (Some (bar_at bar (bar.place + number))))) (reply_only state no_progress_bar) (λ bar. zero) ten, ap (λ (f : FilesState). f.counts) gives.looks.1)
+told_as_counted state (ProgressInfo word) given new terminal gives = inr (bar_sound state.asking.bar (λ bar. and_then {A = List ℕ} state (λ name. reply_only state (reply 0 (codes "OK"))) (for_question word (there state))) (reply_only state no_progress_bar) (λ bar. by_sound {A = List ℕ} state (λ name. reply_only state (reply 0 (codes "OK"))) (for_question word (there state)) (λ name. zero)) ten, ap (λ (f : FilesState). f.counts) gives.looks.1)
+told_as_counted state ProgressStop given new terminal gives = inr (bar_sound state.asking.bar (λ bar. reply_asking state (reply 0 (codes "OK")) (with_bar state.asking None)) (reply_only state no_progress_bar) (λ bar. zero) ten, ap (λ (f : FilesState). f.counts) gives.looks.1)
 
 no_fault : (code : ℕ) → IsSoundCode code → code ≡ 100 → ⊥
 no_fault code sound fault = elim sound [

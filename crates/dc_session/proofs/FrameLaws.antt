@@ -17,20 +17,20 @@ use Rattle.dc_proto.specs.declared.command.Command.TheVariants.{Version, Capb, S
 use Rattle.dc_proto.specs.declared.reply.Reply.{Reply}
 use Rattle.dc_layer.specs.State.{LayerState}
 use Rattle.dc_store.specs.Plans.{StoreState, write, owned}
-use Rattle.dc_store.specs.Rows.{Write, row_done, all_done, names_of, is_refused, first_held_up}
+use Rattle.dc_store.specs.Batches.{Write, commit, all_done, names_of, is_refused, first_refused}
 use Rattle.dc_store.specs.StoreLaws.{AreSameButAll}
 use Rattle.dc_store.proofs.Frames.{plan_keeps}
 use Rattle.dc_store.proofs.RowLemmas.{same_all, same_all_refl, same_all_then}
 use Rattle.dc_teletype.specs.declared.teletype.Asked.{Asked}
 use Rattle.dc_teletype.specs.declared.teletype.Asked.TheVariants.{Answers, Back}
 use Rattle.dc_template.specs.Stanzas.{Stanza}
-use Rattle.dc_question.specs.Changes.{changed, value_set, value_write, values_set, value_reset, variable_set, without_answer, flag_set, done_or, told_by, row_for, question_write}
-use Rattle.dc_question.specs.Ownership.{registered, unregistered, purged, leave_row, load_row, register_row, has_other_template, bound_elsewhere}
-use Rattle.dc_question.specs.Questions.{Setting, question, flag, named_template, read, read_template}
+use Rattle.dc_question.specs.Changes.{changed, value_set, value_write, values_set, value_reset, variable_set, without_answer, flag_set, done_or, told_by, batch_for, question_write}
+use Rattle.dc_question.specs.Ownership.{registered, unregistered, purged, leave_batch, load_batch, register_batch, has_other_template, bound_elsewhere}
+use Rattle.dc_question.specs.Questions.{QuestionContext, question, flag, named_template, read, read_template}
 use Rattle.dc_question.specs.declared.errors.QuestionError.{QuestionError}
 use Rattle.dc_question.specs.declared.errors.QuestionError.TheVariants as error
 use Rattle.dc_session.specs.SessionState.{SessionState}
-use Rattle.dc_session.specs.Answers.{Given, Outcome, answer, answered, heard_out, going, going_names, loading, load_names, names_on, on, by, tells, does, says, unless_busy, there, gone, is_truth}
+use Rattle.dc_session.specs.Answers.{CommandInputs, CommandOutcome, answer, answered, heard_out, going, going_names, loading, load_names, names_on, for_question, and_then, reply_only, reply_write, reply_read, unless_busy, there, gone, is_truth}
 use Rattle.dc_session.specs.Asking.{first_busy, first_fixed, choices_for, to_show, values_given}
 use Rattle.dc_session.specs.Refusals.{bad_flag_value, cant_change, is_busy}
 use Rattle.dc_session.specs.declared.asking.Bar.{Bar}
@@ -64,93 +64,93 @@ one_keeps : (store : StoreState) (w : Write) (done : Option StoreState) → writ
 one_keeps store w None is = same_all_refl (w.name ∷ []) store.layers
 one_keeps store w (Some new) is = same_all (w.name ∷ []) w.name store.layers new.layers (0, omega arith, refl) (plan_keeps store new w.plan w.name w.kind w.op is)
 
-all_keeps : (names : List (List ℕ)) (row : List Write) (store : StoreState) → ((n : List ℕ) → Contains (names_of row) n → Contains names n) → AreSameButAll names store.layers (all_done store row).layers
+all_keeps : (names : List (List ℕ)) (batch : List Write) (store : StoreState) → ((n : List ℕ) → Contains (names_of batch) n → Contains names n) → AreSameButAll names store.layers (all_done store batch).layers
 all_keeps names [] store among = same_all_refl names store.layers
-all_keeps names (w ∷ row) store among =
-    same_all_then names store.layers (unwrap_or (write store w.plan w.name w.kind w.op) store).layers (all_done store (w ∷ row)).layers
+all_keeps names (w ∷ batch) store among =
+    same_all_then names store.layers (unwrap_or (write store w.plan w.name w.kind w.op) store).layers (all_done store (w ∷ batch)).layers
     (first (write store w.plan w.name w.kind w.op) refl)
-    (all_keeps names row (unwrap_or (write store w.plan w.name w.kind w.op) store) (λ n in'. among n (more_contains w.name (names_of row) n in'))) where
+    (all_keeps names batch (unwrap_or (write store w.plan w.name w.kind w.op) store) (λ n in'. among n (more_contains w.name (names_of batch) n in'))) where
       first : (done : Option StoreState) → write store w.plan w.name w.kind w.op ≡ done → AreSameButAll names store.layers (unwrap_or done store).layers
       first None is = same_all_refl names store.layers
       first (Some new) is = same_all names w.name store.layers new.layers (among w.name (0, omega arith, refl)) (plan_keeps store new w.plan w.name w.kind w.op is)
 
 -- what a row leaves differs at most in the items that it is on
-pub row_keeps : (store new : StoreState) (row : List Write) → row_done store row ≡ Some new → AreSameButAll (names_of row) store.layers new.layers
-row_keeps store new row is = by_test (list_any (is_refused store.layers) row) refl where
-  by_test : (b : Bool) → list_any (is_refused store.layers) row ≡ b → AreSameButAll (names_of row) store.layers new.layers
-  by_test true refused = absurd (let none : ◌≡◌ {A = Option StoreState} None (Some new) = ap (λ b. if b then None else Some (all_done store row)) (sym refused) ∙ is in cc)
+pub row_keeps : (store new : StoreState) (batch : List Write) → commit store batch ≡ Some new → AreSameButAll (names_of batch) store.layers new.layers
+row_keeps store new batch is = by_test (list_any (is_refused store.layers) batch) refl where
+  by_test : (b : Bool) → list_any (is_refused store.layers) batch ≡ b → AreSameButAll (names_of batch) store.layers new.layers
+  by_test true refused = absurd (let none : ◌≡◌ {A = Option StoreState} None (Some new) = ap (λ b. if b then None else Some (all_done store batch)) (sym refused) ∙ is in cc)
   by_test false free =
-      let some : ◌≡◌ {A = Option StoreState} (Some (all_done store row)) (Some new) = ap (λ b. if b then None else Some (all_done store row)) (sym free) ∙ is in
-      let same : all_done store row ≡ new = cc in
-      subst (λ (s : StoreState). AreSameButAll (names_of row) store.layers s.layers) same (all_keeps (names_of row) row store (λ n in'. in'))
+      let some : ◌≡◌ {A = Option StoreState} (Some (all_done store batch)) (Some new) = ap (λ b. if b then None else Some (all_done store batch)) (sym free) ∙ is in
+      let same : all_done store batch ≡ new = cc in
+      subst (λ (s : StoreState). AreSameButAll (names_of batch) store.layers s.layers) same (all_keeps (names_of batch) batch store (λ n in'. in'))
 
 -- ---- calls
 
 -- what a call leaves differs at most in the items of these names
 abbrev Keeps : List (List ℕ) → StoreState → Result StoreState QuestionError → Type 0
-Keeps names store row = IfOk row (λ new. AreSameButAll names store.layers new.layers)
+Keeps names store batch = IfOk batch (λ new. AreSameButAll names store.layers new.layers)
 
-one_told : (store : StoreState) (name : List ℕ) (row : List Write) (done : Option StoreState) → row_done store row ≡ done → Keeps (names_of row) store (done_or name done)
-one_told store name row None is = tt
-one_told store name row (Some new) is = row_keeps store new row is
+one_told : (store : StoreState) (name : List ℕ) (batch : List Write) (done : Option StoreState) → commit store batch ≡ done → Keeps (names_of batch) store (done_or name done)
+one_told store name batch None is = tt
+one_told store name batch (Some new) is = row_keeps store new batch is
 
-row_told : (store : StoreState) (held : Option (List ℕ)) (row : List Write) (done : Option StoreState) → row_done store row ≡ done → Keeps (names_of row) store (told_by held done)
-row_told store held row None is = tt
-row_told store held row (Some new) is = row_keeps store new row is
+row_told : (store : StoreState) (held : Option (List ℕ)) (batch : List Write) (done : Option StoreState) → commit store batch ≡ done → Keeps (names_of batch) store (told_by held done)
+row_told store held batch None is = tt
+row_told store held batch (Some new) is = row_keeps store new batch is
 
-row_for_keeps : (store : StoreState) (names : List (List ℕ)) (row : List Write) → Keeps (names_of row) store (row_for store names row)
-row_for_keeps store names row = row_told store (first_held_up store.layers names row) row (row_done store row) refl
+row_for_keeps : (store : StoreState) (names : List (List ℕ)) (batch : List Write) → Keeps (names_of batch) store (batch_for store names batch)
+row_for_keeps store names batch = row_told store (first_refused store.layers names batch) batch (commit store batch) refl
 
-changed_keeps : (store : StoreState) (at : Setting) (name : List ℕ) (op : Op) (item : Option ItemParts)
-    → Keeps (name ∷ []) store (read name item (λ i. done_or name (row_done store (question_write store.layers at name i op ∷ []))))
+changed_keeps : (store : StoreState) (at : QuestionContext) (name : List ℕ) (op : Op) (item : Option ItemParts)
+    → Keeps (name ∷ []) store (read name item (λ i. done_or name (commit store (question_write store.layers at name i op ∷ []))))
 changed_keeps store at name op None = tt
-changed_keeps store at name op (Some item) = one_told store name (question_write store.layers at name item op ∷ []) (row_done store (question_write store.layers at name item op ∷ [])) refl
+changed_keeps store at name op (Some item) = one_told store name (question_write store.layers at name item op ∷ []) (commit store (question_write store.layers at name item op ∷ [])) refl
 
 -- ---- commands
 
-on_keeps : (names : List (List ℕ)) (store : StoreState) (word : List ℕ) (call : List ℕ → Result StoreState QuestionError) → Keeps names store (call word) → Keeps names store (on word call)
+on_keeps : (names : List (List ℕ)) (store : StoreState) (word : List ℕ) (call : List ℕ → Result StoreState QuestionError) → Keeps names store (call word) → Keeps names store (for_question word call)
 on_keeps names store word call keeps = by_name (is_name word) refl where
-  by_name : (b : Bool) → is_name word ≡ b → Keeps names store (on word call)
+  by_name : (b : Bool) → is_name word ≡ b → Keeps names store (for_question word call)
   by_name true is = rw is keeps
   by_name false is = rw is tt
 
 -- an outcome differs at most in the items of these names
-abbrev OutcomeKeeps : List (List ℕ) → SessionState → Outcome → Type 0
+abbrev OutcomeKeeps : List (List ℕ) → SessionState → CommandOutcome → Type 0
 OutcomeKeeps names state outcome = AreSameButAll names state.store.layers outcome.store.layers
 
-does_keeps : (names : List (List ℕ)) (state : SessionState) (r : Reply) (row : Result StoreState QuestionError) → Keeps names state.store row → OutcomeKeeps names state (does state r row)
+does_keeps : (names : List (List ℕ)) (state : SessionState) (r : Reply) (batch : Result StoreState QuestionError) → Keeps names state.store batch → OutcomeKeeps names state (reply_write state r batch)
 does_keeps names state r (Ok new) keeps = keeps
 does_keeps names state r (Err error) keeps = same_all_refl names state.store.layers
 
-says_keeps : {A : Type 0} (names : List (List ℕ)) (state : SessionState) (field : List ℕ) (r : A → Reply) (reading : Result A QuestionError) → OutcomeKeeps names state (says state field r reading)
+says_keeps : {A : Type 0} (names : List (List ℕ)) (state : SessionState) (field : List ℕ) (r : A → Reply) (reading : Result A QuestionError) → OutcomeKeeps names state (reply_read state field r reading)
 says_keeps names state field r (Ok answer) = same_all_refl names state.store.layers
 says_keeps names state field r (Err error) = same_all_refl names state.store.layers
 
-by_keeps : {A : Type 0} (names : List (List ℕ)) (state : SessionState) (outcome : A → Outcome) (reading : Result A QuestionError) → ((a : A) → reading ≡ Ok a → OutcomeKeeps names state (outcome a))
-    → OutcomeKeeps names state (by state outcome reading)
+by_keeps : {A : Type 0} (names : List (List ℕ)) (state : SessionState) (outcome : A → CommandOutcome) (reading : Result A QuestionError) → ((a : A) → reading ≡ Ok a → OutcomeKeeps names state (outcome a))
+    → OutcomeKeeps names state (and_then state outcome reading)
 by_keeps names state outcome (Ok answer) keeps = keeps answer refl
 by_keeps names state outcome (Err error) keeps = same_all_refl names state.store.layers
 
-busy_keeps : (names : List (List ℕ)) (state : SessionState) (busy : Option (List ℕ)) (outcome : Outcome) → OutcomeKeeps names state outcome
-    → OutcomeKeeps names state (option_map_or (λ name. tells state (is_busy name)) busy outcome)
+busy_keeps : (names : List (List ℕ)) (state : SessionState) (busy : Option (List ℕ)) (outcome : CommandOutcome) → OutcomeKeeps names state outcome
+    → OutcomeKeeps names state (option_map_or (λ name. reply_only state (is_busy name)) busy outcome)
 busy_keeps names state None outcome keeps = keeps
 busy_keeps names state (Some name) outcome keeps = same_all_refl names state.store.layers
 
-bar_keeps : (names : List (List ℕ)) (state : SessionState) (bar : Option Bar) (outcome : Bar → Outcome) (none : Outcome) → ((b : Bar) → OutcomeKeeps names state (outcome b)) → OutcomeKeeps names state none
+bar_keeps : (names : List (List ℕ)) (state : SessionState) (bar : Option Bar) (outcome : Bar → CommandOutcome) (none : CommandOutcome) → ((b : Bar) → OutcomeKeeps names state (outcome b)) → OutcomeKeeps names state none
     → OutcomeKeeps names state (option_map_or outcome bar none)
 bar_keeps names state None outcome none keeps nothing = nothing
 bar_keeps names state (Some bar) outcome none keeps nothing = keeps bar
 
-gone_keeps : (names : List (List ℕ)) (state : SessionState) (row : Result StoreState QuestionError) → Keeps names state.store row → OutcomeKeeps names state (gone state row)
+gone_keeps : (names : List (List ℕ)) (state : SessionState) (batch : Result StoreState QuestionError) → Keeps names state.store batch → OutcomeKeeps names state (gone state batch)
 gone_keeps names state (Ok new) keeps = keeps
 gone_keeps names state (Err error) keeps = same_all_refl names state.store.layers
 
 -- the names that values are set on
-names_of_values : (ls : List LayerState) (at : Setting) (answers : List (List ℕ × List ℕ)) → names_of (each (value_write ls at) answers) ≡ each (λ a. a.0) answers
+names_of_values : (ls : List LayerState) (at : QuestionContext) (answers : List (List ℕ × List ℕ)) → names_of (each (value_write ls at) answers) ≡ each (λ a. a.0) answers
 names_of_values ls at [] = refl
 names_of_values ls at (answer ∷ answers) = ap (λ (ns : List (List ℕ)). answer.0 ∷ ns) (names_of_values ls at answers)
 
-values_keep : (store : StoreState) (at : Setting) (answers : List (List ℕ × List ℕ)) → Keeps (each (λ a. a.0) answers) store (values_set store at answers)
+values_keep : (store : StoreState) (at : QuestionContext) (answers : List (List ℕ × List ℕ)) → Keeps (each (λ a. a.0) answers) store (values_set store at answers)
 values_keep store at answers =
     subst (λ (ns : List (List ℕ)). Keeps ns store (values_set store at answers)) (names_of_values store.layers at answers)
     (row_for_keeps store (each (λ a. a.0) answers) (each (value_write store.layers at) answers))
@@ -159,30 +159,30 @@ module _ (state : SessionState) where
   one : (word : List ℕ) (op : Op) → Keeps (word ∷ []) state.store (changed state.store state.at word op)
   one word op = changed_keeps state.store state.at word op (question state.store.layers state.at word)
 
-  fset_keeps : (word key text : List ℕ) (given : Given) (b : Bool) → is_truth text ≡ b → AreSameButAll (word ∷ []) state.store.layers (answer state (Fset word key text) given).store.layers
+  fset_keeps : (word key text : List ℕ) (given : CommandInputs) (b : Bool) → is_truth text ≡ b → AreSameButAll (word ∷ []) state.store.layers (answer state (Fset word key text) given).store.layers
   fset_keeps word key text given true is =
-      rw is (does_keeps (word ∷ []) state (reply 0 text) (on word (λ name. flag_set state.store state.at name key (bytes_eq text (codes "true"))))
+      rw is (does_keeps (word ∷ []) state (reply 0 text) (for_question word (λ name. flag_set state.store state.at name key (bytes_eq text (codes "true"))))
       (on_keeps (word ∷ []) state.store word (λ name. flag_set state.store state.at name key (bytes_eq text (codes "true"))) (one word (SetFlag key (bytes_eq text (codes "true"))))))
-  fset_keeps word key text given false is = rw is (says_keeps (word ∷ []) state [] (λ flag. bad_flag_value) (on word (λ name. flag state.store.layers state.at name key)))
+  fset_keeps word key text given false is = rw is (says_keeps (word ∷ []) state [] (λ flag. bad_flag_value) (for_question word (λ name. flag state.store.layers state.at name key)))
 
   reset_keeps : (word : List ℕ) (item : Option ItemParts) (op : ItemParts → Op) → Keeps (word ∷ []) state.store (read word item (λ i. changed state.store state.at word (op i)))
   reset_keeps word None op = tt
   reset_keeps word (Some item) op = one word (op item)
 
   register_keeps : (template name : List ℕ) (item : Option ItemParts) (b : Bool) → has_other_template template (question state.store.layers state.at name) ≡ b
-      → Keeps (template ∷ name ∷ []) state.store (read_template name item (λ i. if has_other_template template (question state.store.layers state.at name) then Err (error.Twice name) else row_for state.store (name ∷ []) (register_row state.store.layers state.at template name state.owner)))
+      → Keeps (template ∷ name ∷ []) state.store (read_template name item (λ i. if has_other_template template (question state.store.layers state.at name) then Err (error.Twice name) else batch_for state.store (name ∷ []) (register_batch state.store.layers state.at template name state.owner)))
   register_keeps template name None b is = tt
   register_keeps template name (Some item) true is = rw is tt
-  register_keeps template name (Some item) false is = rw is (row_for_keeps state.store (name ∷ []) (register_row state.store.layers state.at template name state.owner))
+  register_keeps template name (Some item) false is = rw is (row_for_keeps state.store (name ∷ []) (register_batch state.store.layers state.at template name state.owner))
 
   unregister_keeps : (word : List ℕ) (item : Option ItemParts)
-      → Keeps (names_of (leave_row state.store.layers state.at state.owner (word ∷ []))) state.store (read word item (λ i. row_for state.store (word ∷ []) (leave_row state.store.layers state.at state.owner (word ∷ []))))
+      → Keeps (names_of (leave_batch state.store.layers state.at state.owner (word ∷ []))) state.store (read word item (λ i. batch_for state.store (word ∷ []) (leave_batch state.store.layers state.at state.owner (word ∷ []))))
   unregister_keeps word None = tt
-  unregister_keeps word (Some item) = row_for_keeps state.store (word ∷ []) (leave_row state.store.layers state.at state.owner (word ∷ []))
+  unregister_keeps word (Some item) = row_for_keeps state.store (word ∷ []) (leave_batch state.store.layers state.at state.owner (word ∷ []))
 
   loaded_keeps : (owner : List ℕ) (templates : List Stanza) (elsewhere : Option Stanza)
-      → Keeps (names_of (load_row state.store.layers state.at owner templates)) state.store (option_map_or (λ t. Err (error.Twice t.name)) elsewhere (row_for state.store (each (λ t. t.name) templates) (load_row state.store.layers state.at owner templates)))
-  loaded_keeps owner templates None = row_for_keeps state.store (each (λ t. t.name) templates) (load_row state.store.layers state.at owner templates)
+      → Keeps (names_of (load_batch state.store.layers state.at owner templates)) state.store (option_map_or (λ t. Err (error.Twice t.name)) elsewhere (batch_for state.store (each (λ t. t.name) templates) (load_batch state.store.layers state.at owner templates)))
+  loaded_keeps owner templates None = row_for_keeps state.store (each (λ t. t.name) templates) (load_batch state.store.layers state.at owner templates)
   loaded_keeps owner templates (Some stanza) = tt
 
   loading_keeps : (owner : List ℕ) (found : Found) → AreSameButAll (load_names state owner found) state.store.layers (loading state owner found).store.layers
@@ -190,40 +190,40 @@ module _ (state : SessionState) where
   loading_keeps owner Missing = same_all_refl [] state.store.layers
   loading_keeps owner (Faulty line) = same_all_refl [] state.store.layers
   loading_keeps owner (Templates templates) =
-      does_keeps (names_of (load_row state.store.layers state.at owner templates)) state _ _ (loaded_keeps owner templates (bound_elsewhere state.store.layers state.at templates))
+      does_keeps (names_of (load_batch state.store.layers state.at owner templates)) state _ _ (loaded_keeps owner templates (bound_elsewhere state.store.layers state.at templates))
 
   -- a call on the question of a word that writes
   word_keeps : (names : List (List ℕ)) (word text : List ℕ) (call : List ℕ → Result StoreState QuestionError) → Keeps names state.store (call word)
-      → AreSameButAll names state.store.layers (does state (reply 0 text) (on word call)).store.layers
-  word_keeps names word text call keeps = does_keeps names state (reply 0 text) (on word call) (on_keeps names state.store word call keeps)
+      → AreSameButAll names state.store.layers (reply_write state (reply 0 text) (for_question word call)).store.layers
+  word_keeps names word text call keeps = does_keeps names state (reply 0 text) (for_question word call) (on_keeps names state.store word call keeps)
 
   -- the name of a question that is there is the word
-  there_is : (word name : List ℕ) → on word (there state) ≡ Ok name → name ≡ word
+  there_is : (word name : List ℕ) → for_question word (there state) ≡ Ok name → name ≡ word
   there_is word name is = by_name (is_name word) refl where
     by_item : (item : Option ItemParts) → read word item (λ i. Ok word) ≡ Ok name → name ≡ word
     by_item None none = cc
     by_item (Some item) some = cc
 
     by_name : (b : Bool) → is_name word ≡ b → name ≡ word
-    by_name true named = by_item (question state.store.layers state.at word) (let here : on word (there state) ≡ there state word = rw named refl in sym here ∙ is)
-    by_name false none = let here : on word (there state) ≡ Err (error.NoQuestion word) = rw none refl in let both : ◌≡◌ {A = Result (List ℕ) QuestionError} (Err (error.NoQuestion word)) (Ok name) = sym here ∙ is in cc
+    by_name true named = by_item (question state.store.layers state.at word) (let here : for_question word (there state) ≡ there state word = rw named refl in sym here ∙ is)
+    by_name false none = let here : for_question word (there state) ≡ Err (error.NoQuestion word) = rw none refl in let both : ◌≡◌ {A = Result (List ℕ) QuestionError} (Err (error.NoQuestion word)) (Ok name) = sym here ∙ is in cc
 
   unregistered_keeps : (word name : List ℕ) → name ≡ word
-      → OutcomeKeeps (names_of (leave_row state.store.layers state.at state.owner (word ∷ []))) state (unless_busy state (name ∷ []) (does state (reply 0 []) (unregistered state.store state.at name state.owner)))
+      → OutcomeKeeps (names_of (leave_batch state.store.layers state.at state.owner (word ∷ []))) state (unless_busy state (name ∷ []) (reply_write state (reply 0 []) (unregistered state.store state.at name state.owner)))
   unregistered_keeps word name same =
-      subst (λ (n : List ℕ). OutcomeKeeps (names_of (leave_row state.store.layers state.at state.owner (word ∷ []))) state (unless_busy state (n ∷ []) (does state (reply 0 []) (unregistered state.store state.at n state.owner)))) (sym same)
-      (busy_keeps (names_of (leave_row state.store.layers state.at state.owner (word ∷ []))) state (first_busy state.asking (word ∷ [])) (does state (reply 0 []) (unregistered state.store state.at word state.owner))
-      (does_keeps (names_of (leave_row state.store.layers state.at state.owner (word ∷ []))) state (reply 0 []) (unregistered state.store state.at word state.owner) (unregister_keeps word (question state.store.layers state.at word))))
+      subst (λ (n : List ℕ). OutcomeKeeps (names_of (leave_batch state.store.layers state.at state.owner (word ∷ []))) state (unless_busy state (n ∷ []) (reply_write state (reply 0 []) (unregistered state.store state.at n state.owner)))) (sym same)
+      (busy_keeps (names_of (leave_batch state.store.layers state.at state.owner (word ∷ []))) state (first_busy state.asking (word ∷ [])) (reply_write state (reply 0 []) (unregistered state.store state.at word state.owner))
+      (does_keeps (names_of (leave_batch state.store.layers state.at state.owner (word ∷ []))) state (reply 0 []) (unregistered state.store state.at word state.owner) (unregister_keeps word (question state.store.layers state.at word))))
 
   heard_keeps : (asked : Asked) → OutcomeKeeps (going_names Teletype state asked) state (heard_out state asked)
   heard_keeps Back = same_all_refl [] state.store.layers
   heard_keeps (Answers answers) =
       answered_keeps (each (λ a. a.0) (values_given (to_show state) answers)) (values_set state.store state.at (values_given (to_show state) answers)) (values_keep state.store state.at (values_given (to_show state) answers)) where
-        answered_keeps : (names : List (List ℕ)) (row : Result StoreState QuestionError) → Keeps names state.store row → OutcomeKeeps names state (answered state row)
+        answered_keeps : (names : List (List ℕ)) (batch : Result StoreState QuestionError) → Keeps names state.store batch → OutcomeKeeps names state (answered state batch)
         answered_keeps names (Ok new) keeps = keeps
         answered_keeps names (Err error) keeps = same_all_refl names state.store.layers
 
-  fixed_keeps : (fixed : Option (List ℕ)) (asked : Asked) → OutcomeKeeps (going_names Teletype state asked) state (option_map_or (λ name. tells state (cant_change name)) fixed (heard_out state asked))
+  fixed_keeps : (fixed : Option (List ℕ)) (asked : Asked) → OutcomeKeeps (going_names Teletype state asked) state (option_map_or (λ name. reply_only state (cant_change name)) fixed (heard_out state asked))
   fixed_keeps None asked = heard_keeps asked
   fixed_keeps (Some name) asked = same_all_refl (going_names Teletype state asked) state.store.layers
 
@@ -231,7 +231,7 @@ module _ (state : SessionState) where
   going_keeps Noninteractive asked = gone_keeps (each (λ a. a.0) (choices_for state)) state (values_set state.store state.at (choices_for state)) (values_keep state.store state.at (choices_for state))
   going_keeps Teletype asked = fixed_keeps (first_fixed state) asked
 
-  answer_keeps : (command : Command) (given : Given) → AreSameButAll (names_on state command given) state.store.layers (answer state command given).store.layers
+  answer_keeps : (command : Command) (given : CommandInputs) → AreSameButAll (names_on state command given) state.store.layers (answer state command given).store.layers
   answer_keeps (Get word) given = says_keeps [] state [] _ _
   answer_keeps (Set word text) given = word_keeps (word ∷ []) word (codes "value set") (λ name. value_set state.store state.at name text) (one word (SetField (codes "value") (settled text)))
   answer_keeps (Reset word) given =
@@ -244,13 +244,13 @@ module _ (state : SessionState) where
       does_keeps (template ∷ name ∷ []) state (reply 0 []) (registered state.store state.at template name state.owner)
       (register_keeps template name (named_template state.store.layers state.at template) (has_other_template template (question state.store.layers state.at name)) refl)
   answer_keeps (Unregister word) given =
-      by_keeps (names_of (leave_row state.store.layers state.at state.owner (word ∷ []))) state
-      (λ name. unless_busy state (name ∷ []) (does state (reply 0 []) (unregistered state.store state.at name state.owner))) (on word (there state)) (λ name is. unregistered_keeps word name (there_is word name is))
+      by_keeps (names_of (leave_batch state.store.layers state.at state.owner (word ∷ []))) state
+      (λ name. unless_busy state (name ∷ []) (reply_write state (reply 0 []) (unregistered state.store state.at name state.owner))) (for_question word (there state)) (λ name is. unregistered_keeps word name (there_is word name is))
   answer_keeps Purge given =
       let names : List (List ℕ) = owned state.store.layers state.at.config state.owner in
-      busy_keeps (names_of (leave_row state.store.layers state.at state.owner names)) state (first_busy state.asking names) (does state (reply 0 []) (purged state.store state.at state.owner))
-      (does_keeps (names_of (leave_row state.store.layers state.at state.owner names)) state (reply 0 []) (purged state.store state.at state.owner)
-      (row_for_keeps state.store names (leave_row state.store.layers state.at state.owner names)))
+      busy_keeps (names_of (leave_batch state.store.layers state.at state.owner names)) state (first_busy state.asking names) (reply_write state (reply 0 []) (purged state.store state.at state.owner))
+      (does_keeps (names_of (leave_batch state.store.layers state.at state.owner names)) state (reply 0 []) (purged state.store state.at state.owner)
+      (row_for_keeps state.store names (leave_batch state.store.layers state.at state.owner names)))
   answer_keeps (Version version) given = same_all_refl [] state.store.layers
   answer_keeps (Capb words) given = same_all_refl [] state.store.layers
   answer_keeps (SetTitle word) given = by_keeps [] state _ _ (λ text is. same_all_refl [] state.store.layers)
@@ -258,7 +258,7 @@ module _ (state : SessionState) where
   answer_keeps (Input priority word) given = by_keeps [] state _ _ (λ shown is. same_all_refl [] state.store.layers)
   answer_keeps BeginBlock given = same_all_refl [] state.store.layers
   answer_keeps EndBlock given = same_all_refl [] state.store.layers
-  answer_keeps Go given = going_keeps state.manner.frontend given.asked
+  answer_keeps Go given = going_keeps state.policy.frontend given.asked
   answer_keeps Clear given = same_all_refl [] state.store.layers
   answer_keeps Stop given = same_all_refl [] state.store.layers
   answer_keeps (ProgressStart low high word) given = by_keeps [] state _ _ (λ name is. same_all_refl [] state.store.layers)

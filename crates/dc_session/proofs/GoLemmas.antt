@@ -14,7 +14,7 @@ use Rattle.dc_layer.specs.State.{LayerState}
 use Rattle.dc_proto.specs.Replies.{reply}
 use Rattle.dc_proto.specs.declared.command.Command.TheVariants as command
 use Rattle.dc_question.specs.Changes.{Does as DoesChange, values_set}
-use Rattle.dc_question.specs.Questions.{Setting, kind}
+use Rattle.dc_question.specs.Questions.{QuestionContext, kind}
 use Rattle.dc_question.specs.declared.errors.QuestionError.{QuestionError}
 use Rattle.dc_store.specs.Plans.{StoreState}
 use Rattle.dc_store.specs.StoreLaws.{AreSameButAll}
@@ -23,7 +23,7 @@ use Rattle.dc_teletype.specs.declared.teletype.Answer.TheVariants.{Keep, Value}
 use Rattle.dc_teletype.specs.declared.teletype.Asked.{Asked}
 use Rattle.dc_teletype.specs.declared.teletype.Asked.TheVariants.{Answers, Back}
 use Rattle.dc_template.specs.declared.kinds.Kind.{Kind}
-use Rattle.dc_session.specs.Answers.{Outcome, answer, names_on, tells, going, going_names, heard_out, answered}
+use Rattle.dc_session.specs.Answers.{CommandOutcome, answer, names_on, reply_only, going, going_names, heard_out, answered}
 use Rattle.dc_session.specs.Asking.{shown, to_show, values_given, first_fixed, with_name}
 use Rattle.dc_session.specs.Displays.{Blank, displayed, where_asked, dialogue}
 use Rattle.dc_session.specs.Inside.{TellsRefusal, ComesAsking, HasShown, StopsShowing, lifted}
@@ -56,7 +56,7 @@ module _ {A : Type 0} (p : A → Bool) (xs : List A) (i : ℕ) (x : A) (lt : i <
 
 -- ---- names that are distinct
 
-module _ (layers : List LayerState) (at : Setting) where
+module _ (layers : List LayerState) (at : QuestionContext) where
   abbrev pick : List ℕ → Option Shown
   pick name = option_map (shown layers at name) (kind layers at name)
 
@@ -95,7 +95,7 @@ given_distinct (question ∷ questions) (Value text ∷ answers) all = (given_ot
 
 -- ---- what GO comes to
 
-module _ (old : SessionState) (user : old.manner.frontend ≡ Teletype) where
+module _ (old : SessionState) (user : old.policy.frontend ≡ Teletype) where
   shows_go : displayed old command.Go ≡ option_map_or (λ name. Blank) (first_fixed old) (dialogue (to_show old))
   shows_go = ap (λ (f : Frontend). where_asked f (option_map_or (λ name. Blank) (first_fixed old) (dialogue (to_show old)))) user
 
@@ -105,8 +105,8 @@ module _ (old : SessionState) (user : old.manner.frontend ≡ Teletype) where
     fixed_does result told =
         lifts command.Go old old result
         (stored_does command.Go old old (quiet command.Go old refl (shows_go ∙ ap (λ (f : Option (List ℕ)). option_map_or (λ n. Blank) f (dialogue (to_show old))) fixed))
-        (tells old (cant_change name))
-        (ap (λ (f : Frontend). going f old (Answers [])) user ∙ ap (λ (f : Option (List ℕ)). option_map_or (λ n. tells old (cant_change n)) f (heard_out old (Answers []))) fixed)
+        (reply_only old (cant_change name))
+        (ap (λ (f : Frontend). going f old (Answers [])) user ∙ ap (λ (f : Option (List ℕ)). option_map_or (λ n. reply_only old (cant_change n)) f (heard_out old (Answers []))) fixed)
         result (told_comes old (names_on old command.Go (answered_so (Answers []))) (cant_change name) result told))
 
   module _ (free : first_fixed old ≡ None) where
@@ -114,7 +114,7 @@ module _ (old : SessionState) (user : old.manner.frontend ≡ Teletype) where
     shows_dialogue = shows_go ∙ ap (λ (f : Option (List ℕ)). option_map_or (λ n. Blank) f (dialogue (to_show old))) free
 
     pub comes_to : (asked : Asked) → heard_out old asked ≡ answer old command.Go (answered_so asked)
-    comes_to asked = sym (ap (λ (f : Frontend). going f old asked) user ∙ ap (λ (f : Option (List ℕ)). option_map_or (λ n. tells old (cant_change n)) f (heard_out old asked)) free)
+    comes_to asked = sym (ap (λ (f : Frontend). going f old asked) user ∙ ap (λ (f : Option (List ℕ)). option_map_or (λ n. reply_only old (cant_change n)) f (heard_out old asked)) free)
 
     sets : (asked : Asked) → going_names Teletype old asked ≡ names_on old command.Go (answered_so asked)
     sets asked = ap (λ (f : Frontend). going_names f old asked) (sym user)
@@ -128,7 +128,7 @@ module _ (old : SessionState) (user : old.manner.frontend ≡ Teletype) where
           by_asked : (a : Asked) (s : SessionState) → s ≡ record old { terminal = s.terminal } → heard_out s a ≡ heard_out old a
           by_asked Back s same = ap (λ (t : SessionState). heard_out t Back) same
           by_asked (Answers answers) s same = ap (λ (t : SessionState). heard_out t (Answers answers)) same ∙ stays (values_set old.store old.at (values_given (to_show old) answers)) where
-            stays : (row : Result StoreState QuestionError) → answered (record old { terminal = s.terminal }) row ≡ answered old row
+            stays : (batch : Result StoreState QuestionError) → answered (record old { terminal = s.terminal }) batch ≡ answered old batch
             stays (Ok store) = refl
             stays (Err error) = refl
 
@@ -145,17 +145,17 @@ module _ (old : SessionState) (questions : List Shown) (answers : List Answer) (
   heard_is : heard_out old (Answers answers) ≡ answered old (values_set old.store old.at (values_given questions answers))
   heard_is = ap (λ (qs : List Shown). answered old (values_set old.store old.at (values_given qs answers))) (sym shown_are)
 
-  pub taken_comes : (names : List (List ℕ)) (store : StoreState) (at : Setting) → at ≡ old.at → values_set old.store old.at (values_given questions answers) ≡ Ok store → (new : SessionState)
+  pub taken_comes : (names : List (List ℕ)) (store : StoreState) (at : QuestionContext) → at ≡ old.at → values_set old.store old.at (values_given questions answers) ≡ Ok store → (new : SessionState)
       → new ≡ record old { store = store; at = at; asking = record old.asking { prepared = []; asked = fold with_name old.asking.asked (each (λ s. s.name) questions) } } → (did : Stepped) → did ≡ Replied (reply 0 (codes "ok"))
       → ComesAsking (heard_out old (Answers answers)) names old new (Ok did)
   taken_comes names store at at_is is new new_is did told =
       let comes : heard_out old (Answers answers) ≡ answered old (Ok store) = heard_is ∙ ap (answered old) is in
-      subst (λ (o : Outcome). ComesAsking o names old new (Ok did)) (sym comes)
+      subst (λ (o : CommandOutcome). ComesAsking o names old new (Ok did)) (sym comes)
       (told, new_is ∙ (λ i. record old { store = store; at = at_is i; asking = record old.asking { prepared = []; asked = fold with_name old.asking.asked (each (λ s. s.name) (shown_are i)) } }))
 
   -- one can't be changed
-  pub untaken_comes : (names : List (List ℕ)) (store : StoreState) (at : Setting) → at ≡ old.at → (e : QuestionError) → DoesChange {A = Unit {0}} (Err e) (values_set old.store old.at (values_given questions answers)) old.store store
+  pub untaken_comes : (names : List (List ℕ)) (store : StoreState) (at : QuestionContext) → at ≡ old.at → (e : QuestionError) → DoesChange {A = Unit {0}} (Err e) (values_set old.store old.at (values_given questions answers)) old.store store
       → AreSameButAll names old.store.layers store.layers → (result : Result Stepped OutOfMemory) → TellsRefusal [] e result → ComesAsking (heard_out old (Answers answers)) names old (record old { store = store; at = at }) result
   untaken_comes names store at at_is e left others result told =
-      subst (λ (o : Outcome). ComesAsking o names old (record old { store = store; at = at }) result) (sym heard_is)
+      subst (λ (o : CommandOutcome). ComesAsking o names old (record old { store = store; at = at }) result) (sym heard_is)
       (unset_comes old names (values_set old.store old.at (values_given questions answers)) (answered old) store at at_is (λ error. refl) e left others result told)

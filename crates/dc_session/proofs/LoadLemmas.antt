@@ -3,11 +3,11 @@ use Rattle.std.proofs.Common.{[], ◌≡◌, ℕ, List, refl, sym, ap, subst, �
 use Rattle.std.specs.Prelude.{Result, Ok, Err}
 use Rattle.dc_text.specs.declared.memory.OutOfMemory.{OutOfMemory}
 use Rattle.dc_store.specs.Plans.{StoreState}
-use Rattle.dc_store.specs.Rows.{names_of}
+use Rattle.dc_store.specs.Batches.{names_of}
 use Rattle.dc_store.specs.StoreLaws.{AreSameButAll}
 use Rattle.dc_template.specs.Stanzas.{Stanza}
-use Rattle.dc_question.specs.Ownership.{loaded, load_row}
-use Rattle.dc_question.specs.Questions.{Setting}
+use Rattle.dc_question.specs.Ownership.{loaded, load_batch}
+use Rattle.dc_question.specs.Questions.{QuestionContext}
 use Rattle.dc_question.specs.declared.errors.QuestionError.{QuestionError}
 use Rattle.dc_session.specs.Answers.{loading}
 use Rattle.dc_session.specs.FileLoading.{Loads, Takes}
@@ -19,7 +19,7 @@ use Rattle.dc_teletype.specs.declared.teletype.Asked.TheVariants.{Answers}
 use Rattle.dc_session.specs.declared.template_loading.FileEnd.{FileEnd}
 use Rattle.dc_session.specs.declared.template_loading.FileEnd.TheVariants.{Loaded, Refused}
 
-module _ (old : SessionState) (templates : List Stanza) (store : StoreState) (at : Setting) (at_is : at ≡ old.at) where
+module _ (old : SessionState) (templates : List Stanza) (store : StoreState) (at : QuestionContext) (at_is : at ≡ old.at) where
   -- all of them are loaded
   pub all_taken : loaded old.store old.at old.owner templates ≡ Ok store → Takes (found.Templates templates) old (record old { store = store; at = at }) (Ok Loaded)
   all_taken is = rw is (refl, λ i. record old { store = store; at = at_is i })
@@ -29,7 +29,7 @@ module _ (old : SessionState) (templates : List Stanza) (store : StoreState) (at
   none_taken error is same = rw is (refl, λ i. record old { store = same i; at = at_is i })
 
   -- memory ran out
-  pub part_taken : (error : OutOfMemory) → AreSameButAll (names_of (load_row old.store.layers old.at old.owner templates)) old.store.layers store.layers → Takes (found.Templates templates) old (record old { store = store; at = at }) (Err error)
+  pub part_taken : (error : OutOfMemory) → AreSameButAll (names_of (load_batch old.store.layers old.at old.owner templates)) old.store.layers store.layers → Takes (found.Templates templates) old (record old { store = store; at = at }) (Err error)
   part_taken error others = (others, λ i. record old { store = store; at = at_is i })
 
 -- what was found, then what became of it
@@ -47,5 +47,5 @@ taken_loads path what old new files (Err error) finds takes =
       };
       at = ap (λ (s : SessionState). s.at) takes.1;
       owner = ap (λ (s : SessionState). s.owner) takes.1;
-      manner = ap (λ (s : SessionState). s.manner) takes.1;
+      policy = ap (λ (s : SessionState). s.policy) takes.1;
     })

@@ -12,12 +12,12 @@ use Rattle.dc_proto.specs.Replies.{reply}
 use Rattle.dc_proto.specs.declared.command.Command.{Command}
 use Rattle.dc_proto.specs.declared.command.Command.TheVariants as command
 use Rattle.dc_proto.specs.declared.reply.Reply.{Reply}
-use Rattle.dc_question.specs.Questions.{Setting, question, exists, template, read, read_template, read_field}
+use Rattle.dc_question.specs.Questions.{QuestionContext, question, exists, template, read, read_template, read_field}
 use Rattle.dc_question.specs.Readings.{field_of}
 use Rattle.dc_question.specs.declared.errors.QuestionError.{QuestionError}
 use Rattle.dc_question.specs.declared.errors.QuestionError.TheVariants.{NoQuestion}
 use Rattle.dc_teletype.specs.declared.teletype.Asked.TheVariants.{Answers}
-use Rattle.dc_session.specs.Answers.{Outcome, nothing, answer, names_on, asks, tells, with_bar, by, there, on}
+use Rattle.dc_session.specs.Answers.{CommandOutcome, nothing, answer, names_on, reply_asking, reply_only, with_bar, and_then, there, for_question}
 use Rattle.dc_session.specs.Asking.{description, or_empty, bar_at}
 use Rattle.dc_session.specs.Displays.{Display, Blank, displayed, described, line_read, percent_line, where_asked}
 use Rattle.dc_session.specs.Inside.{Comes, HasShown, StopsShowing, lifted}
@@ -38,7 +38,7 @@ where_blank : (frontend : Frontend) → where_asked frontend Blank ≡ Blank
 where_blank Noninteractive = refl
 where_blank Teletype = refl
 
-no_description : (layers : List LayerState) (at : Setting) (name : List ℕ) → exists layers at name ≡ false → description layers at name ≡ Err (NoQuestion name)
+no_description : (layers : List LayerState) (at : QuestionContext) (name : List ℕ) → exists layers at name ≡ false → description layers at name ≡ Err (NoQuestion name)
 no_description layers at name none = by_item (question layers at name) none where
   by_item : (found : Option ItemParts) → is_some found ≡ false
       → or_empty (read name found (λ item. read_template name (template layers at item) (λ t. read_field (field_of at.lang item t (codes "description"))))) ≡ Err (NoQuestion name)
@@ -49,16 +49,16 @@ no_description layers at name none = by_item (question layers at name) none wher
 
 module _ (command : Command) (old : SessionState) (none : file_of command ≡ None) where
   -- nothing is shown, and a reply
-  pub told_showing : displayed old command ≡ Blank → (r : Reply) → answer old command nothing ≡ tells old r → (result : Result Stepped OutOfMemory) → IfOk result (λ did. did ≡ Replied r) → DoesShowing command old old (lifted result)
+  pub told_showing : displayed old command ≡ Blank → (r : Reply) → answer old command nothing ≡ reply_only old r → (result : Result Stepped OutOfMemory) → IfOk result (λ did. did ≡ Replied r) → DoesShowing command old old (lifted result)
   told_showing blank r is result told = lifts command old old result (told_does old command (quiet command old none blank) r is result told)
 
   module _ (display : Display) (is : displayed old command ≡ display) (mid new : SessionState) (shown : HasShown display old (Ok (Answers [])) mid) where
     -- it is shown, and then this is the bar
-    pub bar_does : (bar : Option Bar) → answer old command nothing ≡ asks old (reply 0 (codes "OK")) (with_bar old.asking bar) → names_on old command nothing ≡ [] → (result : Result Stepped OutOfMemory)
-        → Comes (asks mid (reply 0 (codes "OK")) (with_bar mid.asking bar)) [] mid new result → DoesShowing command old new (lifted result)
+    pub bar_does : (bar : Option Bar) → answer old command nothing ≡ reply_asking old (reply 0 (codes "OK")) (with_bar old.asking bar) → names_on old command nothing ≡ [] → (result : Result Stepped OutOfMemory)
+        → Comes (reply_asking mid (reply 0 (codes "OK")) (with_bar mid.asking bar)) [] mid new result → DoesShowing command old new (lifted result)
     bar_does bar alike names result comes =
-        shown_does command old none display is (Answers []) mid new shown (asks mid (reply 0 (codes "OK")) (with_bar mid.asking bar)) [] result
-        (ap (λ (s : SessionState). asks s (reply 0 (codes "OK")) (with_bar s.asking bar)) shown.kept ∙ sym alike) (sym names) comes
+        shown_does command old none display is (Answers []) mid new shown (reply_asking mid (reply 0 (codes "OK")) (with_bar mid.asking bar)) [] result
+        (ap (λ (s : SessionState). reply_asking s (reply 0 (codes "OK")) (with_bar s.asking bar)) shown.kept ∙ sym alike) (sym names) comes
 
 -- ---- a bar that is there, or isn't
 
@@ -76,86 +76,86 @@ module _ (old : SessionState) (word name : List ℕ) (named : (name ≡ word) ×
   described_is : described old word ≡ line_read (description old.store.layers old.at name)
   described_is = ap line_read (on_name word (description old.store.layers old.at) named.1 ∙ ap (description old.store.layers old.at) (sym named.0))
 
-  pub shows_description : where_asked old.manner.frontend (described old word) ≡ where_asked old.manner.frontend (line_read (description old.store.layers old.at name))
-  shows_description = ap (where_asked old.manner.frontend) described_is
+  pub shows_description : where_asked old.policy.frontend (described old word) ≡ where_asked old.policy.frontend (line_read (description old.store.layers old.at name))
+  shows_description = ap (where_asked old.policy.frontend) described_is
 
-  pub shows_none : exists old.store.layers old.at name ≡ false → where_asked old.manner.frontend (described old word) ≡ Blank
-  shows_none none = shows_description ∙ ap (λ (r : Result (List ℕ) QuestionError). where_asked old.manner.frontend (line_read r)) (no_description old.store.layers old.at name none) ∙ where_blank old.manner.frontend
+  pub shows_none : exists old.store.layers old.at name ≡ false → where_asked old.policy.frontend (described old word) ≡ Blank
+  shows_none none = shows_description ∙ ap (λ (r : Result (List ℕ) QuestionError). where_asked old.policy.frontend (line_read r)) (no_description old.store.layers old.at name none) ∙ where_blank old.policy.frontend
 
   module _ (low high : ℕ) where
     -- PROGRESS START on a question that isn't there
     pub start_missing : exists old.store.layers old.at name ≡ false → (result : Result Stepped OutOfMemory) → IfOk result (λ did. did ≡ Replied (no_question name)) → DoesShowing (command.ProgressStart low high word) old old (lifted result)
     start_missing none result told =
         told_showing (command.ProgressStart low high word) old refl (shows_none none) (no_question name)
-        (there_none old word name named (λ n. asks old (reply 0 (codes "OK")) (with_bar old.asking (Some (record { min = low; max = high; place = low })))) none) result told
+        (there_none old word name named (λ n. reply_asking old (reply 0 (codes "OK")) (with_bar old.asking (Some (record { min = low; max = high; place = low })))) none) result told
 
     -- and on one that is
-    pub start_does : exists old.store.layers old.at name ≡ true → (mid new : SessionState) → HasShown (where_asked old.manner.frontend (line_read (description old.store.layers old.at name))) old (Ok (Answers [])) mid
-        → (result : Result Stepped OutOfMemory) → Comes (asks mid (reply 0 (codes "OK")) (with_bar mid.asking (Some (record { min = low; max = high; place = low })))) [] mid new result
+    pub start_does : exists old.store.layers old.at name ≡ true → (mid new : SessionState) → HasShown (where_asked old.policy.frontend (line_read (description old.store.layers old.at name))) old (Ok (Answers [])) mid
+        → (result : Result Stepped OutOfMemory) → Comes (reply_asking mid (reply 0 (codes "OK")) (with_bar mid.asking (Some (record { min = low; max = high; place = low })))) [] mid new result
         → DoesShowing (command.ProgressStart low high word) old new (lifted result)
     start_does some mid new shown result comes =
         bar_does (command.ProgressStart low high word) old refl _ shows_description mid new shown (Some (record { min = low; max = high; place = low }))
-        (there_found old word name named (λ n. asks old (reply 0 (codes "OK")) (with_bar old.asking (Some (record { min = low; max = high; place = low })))) some) refl result comes
+        (there_found old word name named (λ n. reply_asking old (reply 0 (codes "OK")) (with_bar old.asking (Some (record { min = low; max = high; place = low })))) some) refl result comes
 
-    pub start_stops : (new : SessionState) (error : StepError) → StopsShowing (where_asked old.manner.frontend (line_read (description old.store.layers old.at name))) old error new → BreaksOff (command.ProgressStart low high word) old error new
+    pub start_stops : (new : SessionState) (error : StepError) → StopsShowing (where_asked old.policy.frontend (line_read (description old.store.layers old.at name))) old error new → BreaksOff (command.ProgressStart low high word) old error new
     start_stops new error stopped = stops_showing (command.ProgressStart low high word) old refl _ shows_description new error stopped
 
   -- PROGRESS INFO, where there is a bar
   module _ (there_is : is_some old.asking.bar ≡ true) where
-    info_shows : displayed old (command.ProgressInfo word) ≡ where_asked old.manner.frontend (described old word)
-    info_shows = ap (where_asked old.manner.frontend) (with_one old.asking.bar (described old word) Blank there_is)
+    info_shows : displayed old (command.ProgressInfo word) ≡ where_asked old.policy.frontend (described old word)
+    info_shows = ap (where_asked old.policy.frontend) (with_one old.asking.bar (described old word) Blank there_is)
 
-    info_is : answer old (command.ProgressInfo word) nothing ≡ by {A = List ℕ} old (λ n. tells old (reply 0 (codes "OK"))) (on word (there old))
-    info_is = with_one old.asking.bar (by {A = List ℕ} old (λ n. tells old (reply 0 (codes "OK"))) (on word (there old))) (tells old no_progress_bar) there_is
+    info_is : answer old (command.ProgressInfo word) nothing ≡ and_then {A = List ℕ} old (λ n. reply_only old (reply 0 (codes "OK"))) (for_question word (there old))
+    info_is = with_one old.asking.bar (and_then {A = List ℕ} old (λ n. reply_only old (reply 0 (codes "OK"))) (for_question word (there old))) (reply_only old no_progress_bar) there_is
 
     pub info_missing : exists old.store.layers old.at name ≡ false → (result : Result Stepped OutOfMemory) → IfOk result (λ did. did ≡ Replied (no_question name)) → DoesShowing (command.ProgressInfo word) old old (lifted result)
     info_missing none result told =
-        told_showing (command.ProgressInfo word) old refl (info_shows ∙ shows_none none) (no_question name) (info_is ∙ there_none old word name named (λ n. tells old (reply 0 (codes "OK"))) none) result told
+        told_showing (command.ProgressInfo word) old refl (info_shows ∙ shows_none none) (no_question name) (info_is ∙ there_none old word name named (λ n. reply_only old (reply 0 (codes "OK"))) none) result told
 
-    pub info_does : exists old.store.layers old.at name ≡ true → (mid : SessionState) → HasShown (where_asked old.manner.frontend (line_read (description old.store.layers old.at name))) old (Ok (Answers [])) mid
-        → (result : Result Stepped OutOfMemory) → Comes (tells mid (reply 0 (codes "OK"))) [] mid mid result → DoesShowing (command.ProgressInfo word) old mid (lifted result)
+    pub info_does : exists old.store.layers old.at name ≡ true → (mid : SessionState) → HasShown (where_asked old.policy.frontend (line_read (description old.store.layers old.at name))) old (Ok (Answers [])) mid
+        → (result : Result Stepped OutOfMemory) → Comes (reply_only mid (reply 0 (codes "OK"))) [] mid mid result → DoesShowing (command.ProgressInfo word) old mid (lifted result)
     info_does some mid shown result comes =
-        shown_does (command.ProgressInfo word) old refl _ (info_shows ∙ shows_description) (Answers []) mid mid shown (tells mid (reply 0 (codes "OK"))) [] result
-        (ap (λ (s : SessionState). tells s (reply 0 (codes "OK"))) shown.kept ∙ sym (info_is ∙ there_found old word name named (λ n. tells old (reply 0 (codes "OK"))) some)) refl comes
+        shown_does (command.ProgressInfo word) old refl _ (info_shows ∙ shows_description) (Answers []) mid mid shown (reply_only mid (reply 0 (codes "OK"))) [] result
+        (ap (λ (s : SessionState). reply_only s (reply 0 (codes "OK"))) shown.kept ∙ sym (info_is ∙ there_found old word name named (λ n. reply_only old (reply 0 (codes "OK"))) some)) refl comes
 
-    pub info_stops : (new : SessionState) (error : StepError) → StopsShowing (where_asked old.manner.frontend (line_read (description old.store.layers old.at name))) old error new → BreaksOff (command.ProgressInfo word) old error new
+    pub info_stops : (new : SessionState) (error : StepError) → StopsShowing (where_asked old.policy.frontend (line_read (description old.store.layers old.at name))) old error new → BreaksOff (command.ProgressInfo word) old error new
     info_stops new error stopped = stops_showing (command.ProgressInfo word) old refl _ (info_shows ∙ shows_description) new error stopped
 
 -- ---- the place of the bar
 
 module _ (old : SessionState) (number : ℕ) where
   module _ (bar : Bar) (there_is : old.asking.bar ≡ Some bar) (mid new : SessionState) where
-    set_shows : displayed old (command.ProgressSet number) ≡ where_asked old.manner.frontend (percent_line (bar_at bar number))
-    set_shows = ap (λ (b : Option Bar). where_asked old.manner.frontend (option_map_or (λ x. percent_line (bar_at x number)) b Blank)) there_is
+    set_shows : displayed old (command.ProgressSet number) ≡ where_asked old.policy.frontend (percent_line (bar_at bar number))
+    set_shows = ap (λ (b : Option Bar). where_asked old.policy.frontend (option_map_or (λ x. percent_line (bar_at x number)) b Blank)) there_is
 
-    step_shows : displayed old (command.ProgressStep number) ≡ where_asked old.manner.frontend (percent_line (bar_at bar (bar.place + number)))
-    step_shows = ap (λ (b : Option Bar). where_asked old.manner.frontend (option_map_or (λ x. percent_line (bar_at x (x.place + number))) b Blank)) there_is
+    step_shows : displayed old (command.ProgressStep number) ≡ where_asked old.policy.frontend (percent_line (bar_at bar (bar.place + number)))
+    step_shows = ap (λ (b : Option Bar). where_asked old.policy.frontend (option_map_or (λ x. percent_line (bar_at x (x.place + number))) b Blank)) there_is
 
-    pub set_does : HasShown (where_asked old.manner.frontend (percent_line (bar_at bar number))) old (Ok (Answers [])) mid → (result : Result Stepped OutOfMemory)
-        → Comes (asks mid (reply 0 (codes "OK")) (with_bar mid.asking (Some (bar_at bar number)))) [] mid new result → DoesShowing (command.ProgressSet number) old new (lifted result)
+    pub set_does : HasShown (where_asked old.policy.frontend (percent_line (bar_at bar number))) old (Ok (Answers [])) mid → (result : Result Stepped OutOfMemory)
+        → Comes (reply_asking mid (reply 0 (codes "OK")) (with_bar mid.asking (Some (bar_at bar number)))) [] mid new result → DoesShowing (command.ProgressSet number) old new (lifted result)
     set_does shown result comes =
         bar_does (command.ProgressSet number) old refl _ set_shows mid new shown (Some (bar_at bar number))
-        (ap (λ (b : Option Bar). option_map_or (λ x. asks old (reply 0 (codes "OK")) (with_bar old.asking (Some (bar_at x number)))) b (tells old no_progress_bar)) there_is) refl result comes
+        (ap (λ (b : Option Bar). option_map_or (λ x. reply_asking old (reply 0 (codes "OK")) (with_bar old.asking (Some (bar_at x number)))) b (reply_only old no_progress_bar)) there_is) refl result comes
 
-    pub set_stops : (error : StepError) → StopsShowing (where_asked old.manner.frontend (percent_line (bar_at bar number))) old error new → BreaksOff (command.ProgressSet number) old error new
+    pub set_stops : (error : StepError) → StopsShowing (where_asked old.policy.frontend (percent_line (bar_at bar number))) old error new → BreaksOff (command.ProgressSet number) old error new
     set_stops error stopped = stops_showing (command.ProgressSet number) old refl _ set_shows new error stopped
 
-    pub step_does : HasShown (where_asked old.manner.frontend (percent_line (bar_at bar (bar.place + number)))) old (Ok (Answers [])) mid → (result : Result Stepped OutOfMemory)
-        → Comes (asks mid (reply 0 (codes "OK")) (with_bar mid.asking (Some (bar_at bar (bar.place + number))))) [] mid new result → DoesShowing (command.ProgressStep number) old new (lifted result)
+    pub step_does : HasShown (where_asked old.policy.frontend (percent_line (bar_at bar (bar.place + number)))) old (Ok (Answers [])) mid → (result : Result Stepped OutOfMemory)
+        → Comes (reply_asking mid (reply 0 (codes "OK")) (with_bar mid.asking (Some (bar_at bar (bar.place + number))))) [] mid new result → DoesShowing (command.ProgressStep number) old new (lifted result)
     step_does shown result comes =
         bar_does (command.ProgressStep number) old refl _ step_shows mid new shown (Some (bar_at bar (bar.place + number)))
-        (ap (λ (b : Option Bar). option_map_or (λ x. asks old (reply 0 (codes "OK")) (with_bar old.asking (Some (bar_at x (x.place + number))))) b (tells old no_progress_bar)) there_is) refl result comes
+        (ap (λ (b : Option Bar). option_map_or (λ x. reply_asking old (reply 0 (codes "OK")) (with_bar old.asking (Some (bar_at x (x.place + number))))) b (reply_only old no_progress_bar)) there_is) refl result comes
 
-    pub step_stops : (error : StepError) → StopsShowing (where_asked old.manner.frontend (percent_line (bar_at bar (bar.place + number)))) old error new → BreaksOff (command.ProgressStep number) old error new
+    pub step_stops : (error : StepError) → StopsShowing (where_asked old.policy.frontend (percent_line (bar_at bar (bar.place + number)))) old error new → BreaksOff (command.ProgressStep number) old error new
     step_stops error stopped = stops_showing (command.ProgressStep number) old refl _ step_shows new error stopped
 
 -- there is no bar
 module _ (old : SessionState) (none : old.asking.bar ≡ None) (result : Result Stepped OutOfMemory) (told : IfOk result (λ did. did ≡ Replied no_progress_bar)) where
-  no_display : (line : Bar → Display) → where_asked old.manner.frontend (option_map_or line old.asking.bar Blank) ≡ Blank
-  no_display line = ap (λ (b : Option Bar). where_asked old.manner.frontend (option_map_or line b Blank)) none ∙ where_blank old.manner.frontend
+  no_display : (line : Bar → Display) → where_asked old.policy.frontend (option_map_or line old.asking.bar Blank) ≡ Blank
+  no_display line = ap (λ (b : Option Bar). where_asked old.policy.frontend (option_map_or line b Blank)) none ∙ where_blank old.policy.frontend
 
-  no_outcome : (outcome : Bar → Outcome) → option_map_or outcome old.asking.bar (tells old no_progress_bar) ≡ tells old no_progress_bar
-  no_outcome outcome = ap (λ (b : Option Bar). option_map_or outcome b (tells old no_progress_bar)) none
+  no_outcome : (outcome : Bar → CommandOutcome) → option_map_or outcome old.asking.bar (reply_only old no_progress_bar) ≡ reply_only old no_progress_bar
+  no_outcome outcome = ap (λ (b : Option Bar). option_map_or outcome b (reply_only old no_progress_bar)) none
 
   pub set_without : (number : ℕ) → DoesShowing (command.ProgressSet number) old old (lifted result)
   set_without number = told_showing (command.ProgressSet number) old refl (no_display _) no_progress_bar (no_outcome _) result told
@@ -175,7 +175,7 @@ pub info_none : (old : SessionState) (word : List ℕ) → is_name word ≡ fals
     → DoesShowing (command.ProgressInfo word) old old (lifted result)
 info_none old word none there_is result told =
     told_showing (command.ProgressInfo word) old refl
-    (ap (where_asked old.manner.frontend) (with_one old.asking.bar (described old word) Blank there_is ∙ ap line_read (on_none word (description old.store.layers old.at) none)) ∙ where_blank old.manner.frontend)
+    (ap (where_asked old.policy.frontend) (with_one old.asking.bar (described old word) Blank there_is ∙ ap line_read (on_none word (description old.store.layers old.at) none)) ∙ where_blank old.policy.frontend)
     (no_question word)
-    (with_one old.asking.bar (by {A = List ℕ} old (λ n. tells old (reply 0 (codes "OK"))) (on word (there old))) (tells old no_progress_bar) there_is
-    ∙ ap (by {A = List ℕ} old (λ n. tells old (reply 0 (codes "OK")))) (on_none word (there old) none)) result told
+    (with_one old.asking.bar (and_then {A = List ℕ} old (λ n. reply_only old (reply 0 (codes "OK"))) (for_question word (there old))) (reply_only old no_progress_bar) there_is
+    ∙ ap (and_then {A = List ℕ} old (λ n. reply_only old (reply 0 (codes "OK")))) (on_none word (there old) none)) result told

@@ -9,11 +9,11 @@ use Rattle.dc_outside.specs.Disk.{Disk}
 use Rattle.dc_outside.specs.Talk.{got}
 use Rattle.dc_outside.specs.declared.files.FilesCall.{FilesCall}
 use Rattle.dc_outside.specs.declared.link.Piece.{Piece}
-use Rattle.dc_serve.specs.Course.{Turn, lines_of, state_after, is_stop, stops, replies, add_reply, last_code_from, code_after, IsCourse}
-use Rattle.dc_serve.specs.Run.{HasRun, AreServed}
+use Rattle.dc_serve.specs.Execution.{Transition, lines_of, state_after, is_stop, stops, replies, add_reply, last_code_from, code_after, IsExecution}
+use Rattle.dc_serve.specs.LinkRun.{IsLinkRun, AreServed}
 use Rattle.dc_serve.specs.declared.outcome.LinkEnd.TheVariants.{Done}
-use Rattle.dc_session.specs.Alike.{AreAlike, AreTurnsAlike, AreFilesAlike, EndAlike}
-use Rattle.dc_session.specs.Machine.{Heeds, Breaks}
+use Rattle.dc_session.specs.Alike.{AreAlike, AreTransitionsAlike, AreFilesAlike, EndAlike}
+use Rattle.dc_session.specs.Machine.{Handles, Aborts}
 use Rattle.dc_session.specs.SessionState.{SessionState}
 use Rattle.dc_session.proofs.AlikeLaws.{heeds_alike}
 use Rattle.dc_session.proofs.Determined.{IsTold, heeds_told}
@@ -21,30 +21,30 @@ use Rattle.dc_session.proofs.Determined.{IsTold, heeds_told}
 -- ---- turns that both come to an end
 
 -- all lines had their turns, or one of them was a stop
-abbrev AreThrough : List (Turn SessionState) → List Line → Type 0
-AreThrough turns rest = (stops turns ≡ true) ⊎ (rest ≡ [])
+abbrev AreThrough : List (Transition SessionState) → List Line → Type 0
+AreThrough transitions rest = (stops transitions ≡ true) ⊎ (rest ≡ [])
 
-through_later : (turn : Turn SessionState) (turns : List (Turn SessionState)) (rest : List Line) → is_stop turn.did ≡ false → AreThrough (turn ∷ turns) rest → AreThrough turns rest
-through_later turn turns rest on (inl stop) = inl (rw on at stop)
-through_later turn turns rest on (inr none) = inr none
+through_later : (transition : Transition SessionState) (transitions : List (Transition SessionState)) (rest : List Line) → is_stop transition.did ≡ false → AreThrough (transition ∷ transitions) rest → AreThrough transitions rest
+through_later transition transitions rest on (inl stop) = inl (rw on at stop)
+through_later transition transitions rest on (inr none) = inr none
 
-not_through : (turn : Turn SessionState) (lines rest : List Line) → rest ≡ turn.line ∷ lines → AreThrough [] rest → ⊥
-not_through turn lines rest is (inl stop) = cc
-not_through turn lines rest is (inr none) = cc
+not_through : (transition : Transition SessionState) (lines rest : List Line) → rest ≡ transition.line ∷ lines → AreThrough [] rest → ⊥
+not_through transition lines rest is (inl stop) = cc
+not_through transition lines rest is (inr none) = cc
 
-none_alike : (a b : List (Turn SessionState)) → a ≡ [] → b ≡ [] → AreTurnsAlike a b
+none_alike : (a b : List (Transition SessionState)) → a ≡ [] → b ≡ [] → AreTransitionsAlike a b
 none_alike a b first second = rw (first, second) (record {})
 
-through_alike : (disk : Disk) (start other : SessionState) (a b : List (Turn SessionState)) (later rest : List Line) → AreAlike start other → IsTold disk start.files.told → IsCourse Heeds start a → IsCourse Heeds other b
-    → lines_of a ++ later ≡ lines_of b ++ rest → AreThrough a later → AreThrough b rest → AreFilesAlike a b → AreTurnsAlike a b
+through_alike : (disk : Disk) (start other : SessionState) (a b : List (Transition SessionState)) (later rest : List Line) → AreAlike start other → IsTold disk start.files.told → IsExecution Handles start a → IsExecution Handles other b
+    → lines_of a ++ later ≡ lines_of b ++ rest → AreThrough a later → AreThrough b rest → AreFilesAlike a b → AreTransitionsAlike a b
 through_alike disk start other [] [] later rest alike told first second lines one_through two_through files = record {}
-through_alike disk start other [] (turn ∷ b) later rest alike told first second lines one_through two_through files = absurd (not_through turn (lines_of b ++ rest) later lines one_through)
-through_alike disk start other (turn ∷ a) [] later rest alike told first second lines one_through two_through files = absurd (not_through turn (lines_of a ++ later) rest (sym lines) two_through)
+through_alike disk start other [] (transition ∷ b) later rest alike told first second lines one_through two_through files = absurd (not_through transition (lines_of b ++ rest) later lines one_through)
+through_alike disk start other (transition ∷ a) [] later rest alike told first second lines one_through two_through files = absurd (not_through transition (lines_of a ++ later) rest (sym lines) two_through)
 through_alike disk start other (one ∷ a) (two ∷ b) later rest alike told first second lines one_through two_through files =
     let line : one.line ≡ two.line = cc in
     let more : lines_of a ++ later ≡ lines_of b ++ rest = cc in
-    let here = heeds_alike disk start other.terminal alike.terminals told one.did two.did one.new two.new files.0 two.line (subst (λ (l : Line). Heeds start l one.did one.new) line first.0)
-    (subst (λ (s : SessionState). Heeds s two.line two.did two.new) alike.rest second.0) in (
+    let here = heeds_alike disk start other.terminal alike.terminals told one.did two.did one.new two.new files.0 two.line (subst (λ (l : Line). Handles start l one.did one.new) line first.0)
+    (subst (λ (s : SessionState). Handles s two.line two.did two.new) alike.rest second.0) in (
       here.0,
       here.1,
       elim (cases_Bool (is_stop one.did)) [
@@ -57,22 +57,22 @@ through_alike disk start other (one ∷ a) (two ∷ b) later rest alike told fir
 
 -- ---- what alike turns say and leave
 
-same_replies : (a b : List (Turn SessionState)) → AreTurnsAlike a b → replies a ≡ replies b
+same_replies : (a b : List (Transition SessionState)) → AreTransitionsAlike a b → replies a ≡ replies b
 same_replies [] [] alike = refl
-same_replies [] (turn ∷ b) alike = absurd alike
-same_replies (turn ∷ a) [] alike = absurd alike
+same_replies [] (transition ∷ b) alike = absurd alike
+same_replies (transition ∷ a) [] alike = absurd alike
 same_replies (one ∷ a) (two ∷ b) alike = λ i. add_reply (alike.0 i) (same_replies a b alike.2 i)
 
-same_code : (code number : ℕ) (a b : List (Turn SessionState)) → code ≡ number → AreTurnsAlike a b → last_code_from code a ≡ last_code_from number b
+same_code : (code number : ℕ) (a b : List (Transition SessionState)) → code ≡ number → AreTransitionsAlike a b → last_code_from code a ≡ last_code_from number b
 same_code code number [] [] same alike = same
-same_code code number [] (turn ∷ b) same alike = absurd alike
-same_code code number (turn ∷ a) [] same alike = absurd alike
+same_code code number [] (transition ∷ b) same alike = absurd alike
+same_code code number (transition ∷ a) [] same alike = absurd alike
 same_code code number (one ∷ a) (two ∷ b) same alike = same_code (code_after code one.did) (code_after number two.did) a b (λ i. code_after (same i) (alike.0 i)) alike.2
 
-left_alike : (start other : SessionState) (a b : List (Turn SessionState)) → AreAlike start other → AreTurnsAlike a b → AreAlike (state_after start a) (state_after other b)
+left_alike : (start other : SessionState) (a b : List (Transition SessionState)) → AreAlike start other → AreTransitionsAlike a b → AreAlike (state_after start a) (state_after other b)
 left_alike start other [] [] same alike = same
-left_alike start other [] (turn ∷ b) same alike = absurd alike
-left_alike start other (turn ∷ a) [] same alike = absurd alike
+left_alike start other [] (transition ∷ b) same alike = absurd alike
+left_alike start other (transition ∷ a) [] same alike = absurd alike
 left_alike start other (one ∷ a) (two ∷ b) same alike = left_alike one.new two.new a b alike.1 alike.2
 
 -- ---- runs
@@ -86,36 +86,36 @@ front_taken : (front : List ℕ) (left : Option (List ℕ)) (input : List ℕ) �
 front_taken front None input took = absurd (cc)
 front_taken front (Some back) input took = (back, cc)
 
-module _ (input : List ℕ) (talk new_talk : Option (List Piece)) (left : Option (List ℕ)) (start new : SessionState) (code : ℕ) (run : HasRun Heeds Breaks talk new_talk (Some input) left start Done new code) where
+module _ (input : List ℕ) (talk new_talk : Option (List Piece)) (left : Option (List ℕ)) (start new : SessionState) (code : ℕ) (run : IsLinkRun Handles Aborts talk new_talk (Some input) left start Done new code) where
   -- its lines are the first ones of all, and it was through with them
   abbrev IsThrough : Type 0
-  IsThrough = (rest : List Line) × (lines_of run.turns ++ rest ≡ all_lines input) × AreThrough run.turns rest
+  IsThrough = (rest : List Line) × (lines_of run.transitions ++ rest ≡ all_lines input) × AreThrough run.transitions rest
 
-  stopped : AreServed run.pieces (Some input) (lines_of run.turns ++ run.rest) → stops run.turns ≡ true → IsThrough
+  stopped : AreServed run.pieces (Some input) (lines_of run.transitions ++ run.rest) → stops run.transitions ≡ true → IsThrough
   stopped (inl lines) stop =
       let cut = front_taken (got run.pieces) left input run.took in
       let behind : List Line = whole_lines (rest_of (got run.pieces) ++ cut.0) ++ line_of_rest (rest_of (got run.pieces ++ cut.0)) in
-      (run.rest ++ behind, sym (append_assoc (lines_of run.turns) run.rest behind) ∙ ap (λ (l : List Line). l ++ behind) lines ∙ sym (all_lines-append (got run.pieces) cut.0) ∙ ap all_lines (sym cut.1), inl stop)
+      (run.rest ++ behind, sym (append_assoc (lines_of run.transitions) run.rest behind) ∙ ap (λ (l : List Line). l ++ behind) lines ∙ sym (all_lines-append (got run.pieces) cut.0) ∙ ap all_lines (sym cut.1), inl stop)
   stopped (inr all) stop = (run.rest, all.0 ∙ ap all_lines all.1.whole, inl stop)
 
   is_through : IsThrough
   is_through = elim run.answered.read [
     | inl stop ↦ stopped run.served stop
-    | inr read ↦ ([], append-nil (lines_of run.turns) ∙ read.0 ∙ ap all_lines read.1.whole, inr refl)
+    | inr read ↦ ([], append-nil (lines_of run.transitions) ∙ read.0 ∙ ap all_lines read.1.whole, inr refl)
   ]
 
 pub runs_alike : (disk : Disk) (calls : List FilesCall) (start other new last : SessionState) (input : List ℕ) (talk new_talk told new_told : Option (List Piece)) (left rest : Option (List ℕ)) (code number : ℕ)
     → start.files.told ≡ record { disk = Some disk; calls = Some calls } → AreAlike start other
-    → (one : HasRun Heeds Breaks talk new_talk (Some input) left start Done new code) → (two : HasRun Heeds Breaks told new_told (Some input) rest other Done last number)
-    → AreFilesAlike one.turns two.turns → EndAlike one.pieces two.pieces code number new last
+    → (one : IsLinkRun Handles Aborts talk new_talk (Some input) left start Done new code) → (two : IsLinkRun Handles Aborts told new_told (Some input) rest other Done last number)
+    → AreFilesAlike one.transitions two.transitions → EndAlike one.pieces two.pieces code number new last
 runs_alike disk calls start other new last input talk new_talk told new_told left rest code number files_told alike one two files =
     let first = is_through input talk new_talk left start new code one in
     let second = is_through input told new_told rest other last number two in
-    let turns = through_alike disk start other one.turns two.turns first.0 second.0 alike (calls, files_told) one.course two.course (first.1 ∙ sym second.1) first.2 second.2 files in
+    let transitions = through_alike disk start other one.transitions two.transitions first.0 second.0 alike (calls, files_told) one.course two.course (first.1 ∙ sym second.1) first.2 second.2 files in
     let one_said = one.answered.are_said in
     let two_said = two.answered.are_said in
     record {
-      replies = one_said.pieces_are ∙ same_replies one.turns two.turns turns ∙ sym two_said.pieces_are;
-      code_is = one_said.code_is ∙ same_code 0 0 one.turns two.turns refl turns ∙ sym two_said.code_is;
-      states = subst (λ (s : SessionState). AreAlike new s) (sym two_said.state_is) (subst (λ (s : SessionState). AreAlike s (state_after other two.turns)) (sym one_said.state_is) (left_alike start other one.turns two.turns alike turns));
+      replies = one_said.pieces_are ∙ same_replies one.transitions two.transitions transitions ∙ sym two_said.pieces_are;
+      code_is = one_said.code_is ∙ same_code 0 0 one.transitions two.transitions refl transitions ∙ sym two_said.code_is;
+      states = subst (λ (s : SessionState). AreAlike new s) (sym two_said.state_is) (subst (λ (s : SessionState). AreAlike s (state_after other two.transitions)) (sym one_said.state_is) (left_alike start other one.transitions two.transitions alike transitions));
     }

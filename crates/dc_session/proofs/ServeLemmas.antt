@@ -10,31 +10,31 @@ use Rattle.dc_frontend.specs.declared.frontend.Frontend.TheVariants.{Teletype}
 use Rattle.dc_proto.specs.Priorities.{priority_of}
 use Rattle.dc_proto.specs.declared.priority.Priority.{Priority}
 use Rattle.dc_proto.specs.declared.priority.Priority.TheVariants.{High}
-use Rattle.dc_question.specs.Questions.{Setting, value}
+use Rattle.dc_question.specs.Questions.{QuestionContext, value}
 use Rattle.dc_question.specs.declared.errors.QuestionError.{QuestionError}
 use Rattle.dc_serve.specs.Ends.{LinkFaults, LinkRefusals}
-use Rattle.dc_serve.specs.Run.{HasRun}
+use Rattle.dc_serve.specs.LinkRun.{IsLinkRun}
 use Rattle.dc_serve.specs.declared.outcome.LinkEnd.{LinkEnd}
 use Rattle.dc_serve.specs.declared.outcome.LinkEnd.TheVariants as link
 use Rattle.dc_serve.proofs.Progress.{run_unstarted}
 use Rattle.dc_store.specs.Plans.{stored}
-use Rattle.dc_teletype.specs.TerminalLines.{Ahead}
-use Rattle.dc_session.specs.Asking.{nothing_asked, threshold_by, frontend_by, manner_by}
+use Rattle.dc_teletype.specs.TerminalLines.{TypeAhead}
+use Rattle.dc_session.specs.Asking.{nothing_asked, threshold_by, frontend_by, policy_by}
 use Rattle.dc_session.specs.declared.asking.Asking.{Asking}
-use Rattle.dc_session.specs.declared.manner.Manner.{Manner}
-use Rattle.dc_session.specs.Machine.{Heeds, Breaks}
+use Rattle.dc_session.specs.declared.policy.AskPolicy.{AskPolicy}
+use Rattle.dc_session.specs.Machine.{Handles, Aborts}
 use Rattle.dc_session.specs.Serving.{IsServed, Finishes}
 use Rattle.dc_session.specs.SessionState.{FilesState, LinkState, nothing_typed, SessionState}
 use Rattle.dc_session.specs.declared.stepped.StepError.{StepError}
 
 -- a session that was served from the state that it began in, and finished
 pub served_from : (start begun state : SessionState) (layers : List LayerState) (files : FilesState) (terminal old new : LinkState) (served ended : LinkEnd StepError) (code last : ℕ)
-    → HasRun Heeds Breaks old.talk new.talk old.input new.input start served state code → last ≡ code → start ≡ begun → files ≡ state.files → terminal ≡ state.terminal.link → Finishes served state layers ended
+    → IsLinkRun Handles Aborts old.talk new.talk old.input new.input start served state code → last ≡ code → start ≡ begun → files ≡ state.files → terminal ≡ state.terminal.link → Finishes served state layers ended
     → LinkFaults served old.counts.faults new.counts.faults → LinkRefusals served old.counts.refusals new.counts.refusals → IsServed begun layers files terminal old new ended last
 served_from start begun state layers files terminal old new served ended code last ran last_is same told shown finishes faults refusals = record {
   state = state;
   served = served;
-  ran = subst (λ (s : SessionState). HasRun Heeds Breaks old.talk new.talk old.input new.input s served state last) same (subst (λ (n : ℕ). HasRun Heeds Breaks old.talk new.talk old.input new.input start served state n) (sym last_is) ran);
+  ran = subst (λ (s : SessionState). IsLinkRun Handles Aborts old.talk new.talk old.input new.input s served state last) same (subst (λ (n : ℕ). IsLinkRun Handles Aborts old.talk new.talk old.input new.input start served state n) (sym last_is) ran);
   files_are = told;
   terminal_is = shown;
   finishes = finishes;
@@ -51,14 +51,14 @@ served_as start begun left layers kept files stays terminal old new ended code s
     (subst (λ (f : FilesState). IsServed start left f terminal old new ended code) (sym told) (subst (λ (t : LinkState). IsServed start left kept t old new ended code) (sym shown) served)))
 
 -- the state that a session begins in, of equal parts
-pub begun_as : (layers others : List LayerState) (told : List ℕ) (files : FilesState) (link : LinkState) (ahead : Ahead) (at other : Setting) (owner name : List ℕ) (manner : Manner) (frontend : Option Frontend) (threshold : Option Priority)
+pub begun_as : (layers others : List LayerState) (told : List ℕ) (files : FilesState) (link : LinkState) (ahead : TypeAhead) (at other : QuestionContext) (owner name : List ℕ) (policy : AskPolicy) (frontend : Option Frontend) (threshold : Option Priority)
     (nonint : Bool) (asking : Asking)
-    → ahead ≡ nothing_typed → layers ≡ others → told ≡ [] → at ≡ other → owner ≡ name → manner ≡ manner_by frontend threshold nonint layers at → asking ≡ nothing_asked
-    → ◌≡◌ {A = SessionState} (record { store = stored layers told; files = files; terminal = record { link = link; ahead = ahead }; at = at; owner = owner; manner = manner; asking = asking })
-    (record { store = stored others []; files = files; terminal = record { link = link; ahead = nothing_typed }; at = other; owner = name; manner = manner_by frontend threshold nonint others other; asking = nothing_asked })
-begun_as layers others told files link ahead at other owner name manner frontend threshold nonint asking none_typed same_layers none same_at same_owner same_manner nothing =
-    let asks : manner ≡ manner_by frontend threshold nonint others other = same_manner ∙ (λ i. manner_by frontend threshold nonint (same_layers i) (same_at i)) in
-    λ i. record { store = stored (same_layers i) (none i); files = files; terminal = record { link = link; ahead = none_typed i }; at = same_at i; owner = same_owner i; manner = asks i; asking = nothing i }
+    → ahead ≡ nothing_typed → layers ≡ others → told ≡ [] → at ≡ other → owner ≡ name → policy ≡ policy_by frontend threshold nonint layers at → asking ≡ nothing_asked
+    → ◌≡◌ {A = SessionState} (record { store = stored layers told; files = files; terminal = record { link = link; ahead = ahead }; at = at; owner = owner; policy = policy; asking = asking })
+    (record { store = stored others []; files = files; terminal = record { link = link; ahead = nothing_typed }; at = other; owner = name; policy = policy_by frontend threshold nonint others other; asking = nothing_asked })
+begun_as layers others told files link ahead at other owner name policy frontend threshold nonint asking none_typed same_layers none same_at same_owner same_manner nothing =
+    let asks : policy ≡ policy_by frontend threshold nonint others other = same_manner ∙ (λ i. policy_by frontend threshold nonint (same_layers i) (same_at i)) in
+    λ i. record { store = stored (same_layers i) (none i); files = files; terminal = record { link = link; ahead = none_typed i }; at = same_at i; owner = same_owner i; policy = asks i; asking = nothing i }
 
 -- one that wasn't begun, for want of memory
 pub unserved : (start : SessionState) (layers : List LayerState) (files : FilesState) (terminal old : LinkState) → layers ≡ start.store.layers → files ≡ start.files → terminal ≡ start.terminal.link
@@ -66,7 +66,7 @@ pub unserved : (start : SessionState) (layers : List LayerState) (files : FilesS
 unserved start layers files terminal old are told shown = record {
   state = start;
   served = link.OutOfMemory;
-  ran = run_unstarted Heeds Breaks old.talk old.input start;
+  ran = run_unstarted Handles Aborts old.talk old.input start;
   files_are = told;
   terminal_is = shown;
   finishes = (are, refl);
@@ -76,7 +76,7 @@ unserved start layers files terminal old are told shown = record {
 
 -- ---- the threshold
 
-module _ (layers : List LayerState) (at : Setting) (name : List ℕ) (named : name ≡ codes "debconf/priority") where
+module _ (layers : List LayerState) (at : QuestionContext) (name : List ℕ) (named : name ≡ codes "debconf/priority") where
   by_value : (reading : Result (List ℕ) QuestionError) → value layers at name ≡ reading → threshold_by None layers at ≡ unwrap_or (option_and_then priority_of (result_ok reading)) High
   by_value reading is = ap (λ (r : Result (List ℕ) QuestionError). unwrap_or (option_and_then priority_of (result_ok r)) High) (ap (value layers at) (sym named) ∙ is)
 
@@ -90,7 +90,7 @@ module _ (layers : List LayerState) (at : Setting) (name : List ℕ) (named : na
 
 -- ---- the frontend
 
-module _ (layers : List LayerState) (at : Setting) (name : List ℕ) (named : name ≡ codes "debconf/frontend") where
+module _ (layers : List LayerState) (at : QuestionContext) (name : List ℕ) (named : name ≡ codes "debconf/frontend") where
   -- what the question says
   pub frontend_read : (result : Result Frontend OutOfMemory) → IfOk result (λ frontend. frontend ≡ unwrap_or (option_and_then frontend_of (result_ok (value layers at name))) Teletype) → IfOk result (λ frontend. frontend ≡ frontend_by None layers at)
   frontend_read (Ok frontend) is = is ∙ ap (λ (n : List ℕ). unwrap_or (option_and_then frontend_of (result_ok (value layers at n))) Teletype) named

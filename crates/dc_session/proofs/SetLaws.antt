@@ -18,14 +18,14 @@ use Rattle.dc_proto.specs.Replies.{reply}
 use Rattle.dc_proto.specs.declared.command.Command.TheVariants.{Get, Set}
 use Rattle.dc_proto.specs.declared.reply.Reply.{Reply}
 use Rattle.dc_store.specs.Plans.{StoreState, look, look_below, look_after, seen_after}
-use Rattle.dc_store.specs.Rows.{Write, row_done, all_done, is_refused}
+use Rattle.dc_store.specs.Batches.{Write, commit, all_done, is_refused}
 use Rattle.dc_store.proofs.TakenLemmas.{row_seen}
 use Rattle.dc_question.specs.Changes.{value_set, done_or, question_write}
-use Rattle.dc_question.specs.Questions.{Setting, value, template, read}
+use Rattle.dc_question.specs.Questions.{QuestionContext, value, template, read}
 use Rattle.dc_question.specs.Readings.{value_of}
 use Rattle.dc_question.specs.declared.errors.QuestionError.{QuestionError}
 use Rattle.dc_question.specs.declared.errors.QuestionError.TheVariants as error
-use Rattle.dc_session.specs.Answers.{nothing, answer, does, on, says, text_reply}
+use Rattle.dc_session.specs.Answers.{nothing, answer, reply_write, for_question, reply_read, text_reply}
 use Rattle.dc_session.specs.Machine.{HasDone}
 use Rattle.dc_session.specs.Refusals.{refusal}
 use Rattle.dc_session.specs.SessionState.{SessionState}
@@ -59,7 +59,7 @@ never_gone text (Some item) is = by_same (parts_eq (asked (value_op text) item) 
 
 -- ---- what the write leaves
 
-module _ (store : StoreState) (at : Setting) (name text : List ℕ) (alone : at.config.backup ≡ None) (item : ItemParts) (there : look store.layers at.config name ≡ Some item) where
+module _ (store : StoreState) (at : QuestionContext) (name text : List ℕ) (alone : at.config.backup ≡ None) (item : ItemParts) (there : look store.layers at.config name ≡ Some item) where
   abbrev the_write : Write
   the_write = question_write store.layers at name item (value_op text)
 
@@ -75,7 +75,7 @@ module _ (store : StoreState) (at : Setting) (name text : List ℕ) (alone : at.
 -- ---- the reply
 
 told_of : (state : SessionState) (name text : List ℕ) (seen : Option ItemParts) → HasValue text seen
-    → (says state [] (text_reply state) (read name seen (λ item. Ok (value_of state.at.lang item (template state.store.layers state.at item))))).stepped ≡ Replied (text_reply state (settled text))
+    → (reply_read state [] (text_reply state) (read name seen (λ item. Ok (value_of state.at.lang item (template state.store.layers state.at item))))).stepped ≡ Replied (text_reply state (settled text))
 told_of state name text None has = absurd has
 told_of state name text (Some item) has = rw has refl
 
@@ -88,7 +88,7 @@ refused_code (error.Twice name) = refl
 refused_code error.OutOfMemory = refl
 
 -- what a set leaves where it is confirmed
-abbrev IsConfirmed : List ℕ → List ℕ → Setting → Result StoreState QuestionError → Type 0
+abbrev IsConfirmed : List ℕ → List ℕ → QuestionContext → Result StoreState QuestionError → Type 0
 IsConfirmed name text at (Ok new) = HasValue text (look new.layers at.config name)
 IsConfirmed name text at (Err e) = Unit {0}
 
@@ -96,12 +96,12 @@ first_false : (a : Bool) → (a || false) ≡ false → a ≡ false
 first_false true is = cc
 first_false false is = refl
 
-confirmed : (store : StoreState) (at : Setting) (name text : List ℕ) → at.config.backup ≡ None → (found : Option ItemParts) → look store.layers at.config name ≡ found
-    → IsConfirmed name text at (read name found (λ item. done_or name (row_done store (question_write store.layers at name item (value_op text) ∷ []))))
+confirmed : (store : StoreState) (at : QuestionContext) (name text : List ℕ) → at.config.backup ≡ None → (found : Option ItemParts) → look store.layers at.config name ≡ found
+    → IsConfirmed name text at (read name found (λ item. done_or name (commit store (question_write store.layers at name item (value_op text) ∷ []))))
 confirmed store at name text alone None is = tt
 confirmed store at name text alone (Some item) is = by_test (list_any (is_refused store.layers) (the_write store at name text alone item is ∷ [])) refl where
   by_test : (b : Bool) → list_any (is_refused store.layers) (the_write store at name text alone item is ∷ []) ≡ b
-      → IsConfirmed name text at (done_or name (row_done store (question_write store.layers at name item (value_op text) ∷ [])))
+      → IsConfirmed name text at (done_or name (commit store (question_write store.layers at name item (value_op text) ∷ [])))
   by_test true refused = rw refused tt
   by_test false free = rw free (left_has store at name text alone item is (first_false (is_refused store.layers (the_write store at name text alone item is)) free))
 
@@ -115,12 +115,12 @@ module _ (old mid : SessionState) (question_name text : List ℕ) (r : Reply) (a
   mid_at : mid.at ≡ old.at
   mid_at = ap (λ (s : SessionState). s.at) done.new_is
 
-  by_row : (row : Result StoreState QuestionError) → on question_name (λ name. value_set old.store old.at name text) ≡ row → IsConfirmed question_name text old.at row
+  by_row : (batch : Result StoreState QuestionError) → for_question question_name (λ name. value_set old.store old.at name text) ≡ batch → IsConfirmed question_name text old.at batch
       → HasValue text (look mid.store.layers mid.at.config question_name)
   by_row (Ok new) is has =
-      let store_is : mid.store ≡ new = ap (λ (s : SessionState). s.store) done.new_is ∙ ap (λ (row : Result StoreState QuestionError). (does old (reply 0 (codes "value set")) row).store) is in
+      let store_is : mid.store ≡ new = ap (λ (s : SessionState). s.store) done.new_is ∙ ap (λ (batch : Result StoreState QuestionError). (reply_write old (reply 0 (codes "value set")) batch).store) is in
       subst (λ (s : SessionState). HasValue text (look s.store.layers s.at.config question_name)) (λ i. record mid { store = sym store_is i; at = sym mid_at i }) has
-  by_row (Err e) is has = absurd (not_refused e (done.stepped_is ∙ ap (λ (row : Result StoreState QuestionError). (does old (reply 0 (codes "value set")) row).stepped) is))
+  by_row (Err e) is has = absurd (not_refused e (done.stepped_is ∙ ap (λ (batch : Result StoreState QuestionError). (reply_write old (reply 0 (codes "value set")) batch).stepped) is))
 
   named : is_name question_name ≡ true
   named = by_name (is_name question_name) refl where
@@ -128,7 +128,7 @@ module _ (old mid : SessionState) (question_name text : List ℕ) (r : Reply) (a
     by_name true is = is
     by_name false none =
         absurd (not_refused (error.NoQuestion question_name)
-        (done.stepped_is ∙ ap (λ (b : Bool). (does old (reply 0 (codes "value set")) (if b then value_set old.store old.at question_name text else Err (error.NoQuestion question_name))).stepped) none))
+        (done.stepped_is ∙ ap (λ (b : Bool). (reply_write old (reply 0 (codes "value set")) (if b then value_set old.store old.at question_name text else Err (error.NoQuestion question_name))).stepped) none))
 
   is_set : HasValue text (look mid.store.layers mid.at.config question_name)
   is_set =
@@ -137,5 +137,5 @@ module _ (old mid : SessionState) (question_name text : List ℕ) (r : Reply) (a
 
   pub set_told : (answer mid (Get question_name) nothing).stepped ≡ Replied (text_reply mid (settled text))
   set_told =
-      ap (λ (b : Bool). (says mid [] (text_reply mid) (if b then value mid.store.layers mid.at question_name else Err (error.NoQuestion question_name))).stepped) named
+      ap (λ (b : Bool). (reply_read mid [] (text_reply mid) (if b then value mid.store.layers mid.at question_name else Err (error.NoQuestion question_name))).stepped) named
       ∙ told_of mid question_name text (look mid.store.layers mid.at.config question_name) is_set

@@ -14,9 +14,9 @@ use Rattle.dc_layer.specs.State.{LayerState}
 use Rattle.dc_outside.specs.declared.link.LinkError.{LinkError}
 use Rattle.dc_proto.specs.declared.command.Command.TheVariants as command
 use Rattle.dc_question.specs.Changes.{values_set, value_write}
-use Rattle.dc_question.specs.Questions.{Setting, kind, can_change}
+use Rattle.dc_question.specs.Questions.{QuestionContext, kind, can_change}
 use Rattle.dc_question.proofs.AnswerLemmas.{values_left}
-use Rattle.dc_store.specs.Rows.{all_done}
+use Rattle.dc_store.specs.Batches.{all_done}
 use Rattle.dc_teletype.specs.Answers.{answer_to, answer_by}
 use Rattle.dc_teletype.specs.Answered.{HaveAnswers}
 use Rattle.dc_teletype.specs.declared.answering.Reading.TheVariants as reading
@@ -27,7 +27,7 @@ use Rattle.dc_teletype.specs.declared.teletype.Asked.TheVariants.{Answers, Back}
 use Rattle.dc_teletype.proofs.AnsweredLemmas.{all_answered}
 use Rattle.dc_template.specs.declared.kinds.Kind.{Kind}
 use Rattle.dc_template.specs.declared.kinds.Kind.TheVariants.{Str, Bool as Boolean, Select, Multiselect, Password, Note, Txt, Error, Title}
-use Rattle.dc_session.specs.Answers.{Outcome, answer, heard_out, answered}
+use Rattle.dc_session.specs.Answers.{CommandOutcome, answer, heard_out, answered}
 use Rattle.dc_session.specs.Asking.{shown, to_show, values_given, first_fixed, is_fixed, has_value}
 use Rattle.dc_session.specs.Displays.{Display, displayed, dialogue, Shows}
 use Rattle.dc_session.specs.Machine.{HasDone}
@@ -68,7 +68,7 @@ changeable false can is free = absurd (cc)
 
 -- ---- all questions
 
-module _ (backup : Bool) (layers : List LayerState) (at : Setting) where
+module _ (backup : Bool) (layers : List LayerState) (at : QuestionContext) where
   abbrev pick : List ℕ → Option Shown
   pick name = option_map (shown layers at name) (kind layers at name)
 
@@ -107,7 +107,7 @@ module _ (asking : Asking) (old new : TerminalState) where
   all_have [] (answer ∷ answers) shows = absurd (let off = one_asked _ _ shows.0 in cc)
   all_have (question ∷ questions) answers shows = all_answered asking.backup asking.title (question ∷ questions) old.ahead new.ahead old.link.talk new.link.talk old.link.input new.link.input answers shows.held
 
-module _ (old : SessionState) (user : old.manner.frontend ≡ Teletype) (free : first_fixed old ≡ None) where
+module _ (old : SessionState) (user : old.policy.frontend ≡ Teletype) (free : first_fixed old ≡ None) where
   all_set : (answers : List Answer) (terminal : TerminalState) → Shows old.asking (displayed old command.Go) old.terminal (Ok (Answers answers)) terminal
       → values_set old.store old.at (values_given (to_show old) answers) ≡ Ok (all_done old.store (each (value_write old.store.layers old.at) (values_given (to_show old) answers)))
   all_set answers terminal shows =
@@ -123,18 +123,18 @@ module _ (old : SessionState) (user : old.manner.frontend ≡ Teletype) (free : 
     taken_by Back is =
         let outcome : answer old command.Go done.given ≡ heard_out old Back = comes ∙ ap (heard_out old) is in
         record {
-          did_is = done.stepped_is ∙ ap (λ (o : Outcome). o.stepped) outcome;
-          store = ap (λ (s : SessionState). s.store) done.new_is ∙ ap (λ (o : Outcome). o.store) outcome;
-          asking = ap (λ (s : SessionState). s.asking) done.new_is ∙ ap (λ (o : Outcome). o.asking) outcome;
+          did_is = done.stepped_is ∙ ap (λ (o : CommandOutcome). o.stepped) outcome;
+          store = ap (λ (s : SessionState). s.store) done.new_is ∙ ap (λ (o : CommandOutcome). o.store) outcome;
+          asking = ap (λ (s : SessionState). s.asking) done.new_is ∙ ap (λ (o : CommandOutcome). o.asking) outcome;
         }
     taken_by (Answers answers) is =
         let shows = subst (λ (a : Asked). Shows old.asking (displayed old command.Go) old.terminal (Ok a) new.terminal) is done.gives.shows in
         let outcome : answer old command.Go done.given ≡ answered old (Ok (all_done old.store (each (value_write old.store.layers old.at) (values_given (to_show old) answers))))
         = comes ∙ ap (heard_out old) is ∙ ap (answered old) (all_set answers new.terminal shows) in
         record {
-          did_is = done.stepped_is ∙ ap (λ (o : Outcome). o.stepped) outcome;
-          store = ap (λ (s : SessionState). s.store) done.new_is ∙ ap (λ (o : Outcome). o.store) outcome;
-          asking = ap (λ (s : SessionState). s.asking) done.new_is ∙ ap (λ (o : Outcome). o.asking) outcome;
+          did_is = done.stepped_is ∙ ap (λ (o : CommandOutcome). o.stepped) outcome;
+          store = ap (λ (s : SessionState). s.store) done.new_is ∙ ap (λ (o : CommandOutcome). o.store) outcome;
+          asking = ap (λ (s : SessionState). s.asking) done.new_is ∙ ap (λ (o : CommandOutcome). o.asking) outcome;
         }
 
     -- what the user answers is done

@@ -13,11 +13,11 @@ use Rattle.dc_proto.specs.declared.command.Command.{Command}
 use Rattle.dc_proto.specs.declared.command.Command.TheVariants.{Go, ProgressStart, ProgressSet, ProgressStep, ProgressInfo}
 use Rattle.dc_proto.specs.declared.command.Heard.{Heard}
 use Rattle.dc_proto.specs.declared.command.Heard.TheVariants.{Nothing, Known, Refused}
-use Rattle.dc_serve.specs.Course.{Turn, state_after, IsCourse}
+use Rattle.dc_serve.specs.Execution.{Transition, state_after, IsExecution}
 use Rattle.dc_teletype.specs.declared.teletype.Asked.{Asked}
 use Rattle.dc_teletype.specs.declared.teletype.Asked.TheVariants.{Answers}
 use Rattle.dc_session.specs.Displays.{Display, Blank, OneLine, Dialogue, CountsOn, displayed, where_asked, Shows}
-use Rattle.dc_session.specs.Machine.{Heeds, Steps, StepsHeard, Breaks, BreaksHeard, BreaksIdle, BreaksOff, GivesInPart, IsDoneInPart}
+use Rattle.dc_session.specs.Machine.{Handles, Steps, StepsHeard, Aborts, BreaksHeard, BreaksIdle, BreaksOff, GivesInPart, IsDoneInPart}
 use Rattle.dc_session.specs.SessionState.{TerminalState, SessionState}
 use Rattle.dc_session.specs.declared.asking.Asking.{Asking}
 use Rattle.dc_session.specs.declared.stepped.StepError.{StepError}
@@ -106,14 +106,14 @@ heard_breaks (Known command) old new error off = off_counts command old new erro
 heard_breaks (Refused reply) old new error idle = idle_counts old new error idle
 
 -- the terminal failed at a line, or found no memory at most
-pub breaks_count : (old new : SessionState) (line : Line) (error : StepError) → Breaks old line error new → CountsBreak error old.terminal.link.counts new.terminal.link.counts
+pub breaks_count : (old new : SessionState) (line : Line) (error : StepError) → Aborts old line error new → CountsBreak error old.terminal.link.counts new.terminal.link.counts
 breaks_count old new TooLong error idle = idle_counts old new error idle
-breaks_count old new (Whole line) error breaks = heard_breaks (heard old.asking.escape line) old new error breaks
+breaks_count old new (Whole line) error aborts = heard_breaks (heard old.asking.escape line) old new error aborts
 
 -- at lines that are answered it counted nothing
-pub course_counts : (start : SessionState) (turns : List (Turn SessionState)) → IsCourse Heeds start turns → CountsNothing start (state_after start turns)
+pub course_counts : (start : SessionState) (transitions : List (Transition SessionState)) → IsExecution Handles start transitions → CountsNothing start (state_after start transitions)
 course_counts start [] course = refl
-course_counts start (turn ∷ turns) course = course_counts turn.new turns course.2 ∙ steps_count turn.line start turn.new course.0.stepped course.0.steps
+course_counts start (transition ∷ transitions) course = course_counts transition.new transitions course.2 ∙ steps_count transition.line start transition.new course.0.stepped course.0.steps
 
 -- ---- a session that asks nobody
 
@@ -122,29 +122,29 @@ where_none frontend display is = ap (λ (f : Frontend). where_asked f display) i
 
 -- the session asks nobody
 abbrev pub AsksNobody : SessionState → Type 0
-AsksNobody state = state.manner.frontend ≡ Noninteractive
+AsksNobody state = state.policy.frontend ≡ Noninteractive
 
 -- it shows nothing
 pub displays_none : (state : SessionState) → AsksNobody state → (command : Command) → displayed state command ≡ Blank
-displays_none state nobody Go = where_none state.manner.frontend _ nobody
-displays_none state nobody (ProgressStart low high word) = where_none state.manner.frontend _ nobody
-displays_none state nobody (ProgressSet number) = where_none state.manner.frontend _ nobody
-displays_none state nobody (ProgressStep number) = where_none state.manner.frontend _ nobody
-displays_none state nobody (ProgressInfo word) = where_none state.manner.frontend _ nobody
+displays_none state nobody Go = where_none state.policy.frontend _ nobody
+displays_none state nobody (ProgressStart low high word) = where_none state.policy.frontend _ nobody
+displays_none state nobody (ProgressSet number) = where_none state.policy.frontend _ nobody
+displays_none state nobody (ProgressStep number) = where_none state.policy.frontend _ nobody
+displays_none state nobody (ProgressInfo word) = where_none state.policy.frontend _ nobody
 displays_none state nobody command = refl
 
 heard_nobody : (said : Heard) (old new : SessionState) (did : Stepped) → AsksNobody old → StepsHeard said old did new → AsksNobody new
-heard_nobody Nothing old new did nobody steps = ap (λ (s : SessionState). s.manner.frontend) steps.1 ∙ nobody
-heard_nobody (Known command) old new did nobody steps = ap (λ (s : SessionState). s.manner.frontend) steps.new_is ∙ nobody
-heard_nobody (Refused reply) old new did nobody steps = ap (λ (s : SessionState). s.manner.frontend) steps.1 ∙ nobody
+heard_nobody Nothing old new did nobody steps = ap (λ (s : SessionState). s.policy.frontend) steps.1 ∙ nobody
+heard_nobody (Known command) old new did nobody steps = ap (λ (s : SessionState). s.policy.frontend) steps.new_is ∙ nobody
+heard_nobody (Refused reply) old new did nobody steps = ap (λ (s : SessionState). s.policy.frontend) steps.1 ∙ nobody
 
 pub steps_nobody : (line : Line) (old new : SessionState) (did : Stepped) → AsksNobody old → Steps old line did new → AsksNobody new
-steps_nobody TooLong old new did nobody steps = ap (λ (s : SessionState). s.manner.frontend) steps.1 ∙ nobody
+steps_nobody TooLong old new did nobody steps = ap (λ (s : SessionState). s.policy.frontend) steps.1 ∙ nobody
 steps_nobody (Whole line) old new did nobody steps = heard_nobody (heard old.asking.escape line) old new did nobody steps
 
-pub course_nobody : (start : SessionState) (turns : List (Turn SessionState)) → AsksNobody start → IsCourse Heeds start turns → AsksNobody (state_after start turns)
+pub course_nobody : (start : SessionState) (transitions : List (Transition SessionState)) → AsksNobody start → IsExecution Handles start transitions → AsksNobody (state_after start transitions)
 course_nobody start [] nobody course = nobody
-course_nobody start (turn ∷ turns) nobody course = course_nobody turn.new turns (steps_nobody turn.line start turn.new course.0.stepped nobody course.0.steps) course.2
+course_nobody start (transition ∷ transitions) nobody course = course_nobody transition.new transitions (steps_nobody transition.line start transition.new course.0.stepped nobody course.0.steps) course.2
 
 heard_unfailed : (said : Heard) (old new : SessionState) → AsksNobody old → BreaksHeard said old step.Term new → ⊥
 heard_unfailed Nothing old new nobody none = none
@@ -153,6 +153,6 @@ heard_unfailed (Known command) old new nobody fails =
 heard_unfailed (Refused reply) old new nobody none = none
 
 -- so its terminal fails at no line
-pub never_fails : (old new : SessionState) (line : Line) → AsksNobody old → Breaks old line step.Term new → ⊥
+pub never_fails : (old new : SessionState) (line : Line) → AsksNobody old → Aborts old line step.Term new → ⊥
 never_fails old new TooLong nobody none = none
-never_fails old new (Whole line) nobody breaks = heard_unfailed (heard old.asking.escape line) old new nobody breaks
+never_fails old new (Whole line) nobody aborts = heard_unfailed (heard old.asking.escape line) old new nobody aborts

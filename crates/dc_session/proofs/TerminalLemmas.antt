@@ -5,7 +5,7 @@ use Rattle.dc_text.specs.declared.memory.OutOfMemory.{OutOfMemory}
 use Rattle.dc_outside.specs.declared.link.LinkError.TheVariants as link
 use Rattle.dc_proto.specs.declared.command.Command.{Command}
 use Rattle.dc_teletype.specs.declared.teletype.Asked.{Asked}
-use Rattle.dc_session.specs.Answers.{Given, Outcome, answer, names_on}
+use Rattle.dc_session.specs.Answers.{CommandInputs, CommandOutcome, answer, names_on}
 use Rattle.dc_session.specs.Displays.{Display, displayed, Shows}
 use Rattle.dc_session.specs.Inside.{Comes, ComesAsking, HasShown, StopsShowing, lifted}
 use Rattle.dc_session.specs.Machine.{Gives, Looks, Does, DoesShowing, BreaksOff, file_of}
@@ -22,7 +22,7 @@ lifts command old new (Ok did) does = does
 lifts command old new (Err memory) does = does
 
 -- what was answered on the terminal
-abbrev pub answered_so : Asked → Given
+abbrev pub answered_so : Asked → CommandInputs
 answered_so asked = record { found = Missing; asked = asked }
 
 module _ (command : Command) (old : SessionState) (none : file_of command ≡ None) (display : Display) (is : displayed old command ≡ display) where
@@ -34,14 +34,14 @@ module _ (command : Command) (old : SessionState) (none : file_of command ≡ No
     }
 
     -- it was shown, and then this came of the command
-    pub shown_asking : (outcome : Outcome) (names : List (List ℕ)) (result : Result Stepped OutOfMemory) → outcome ≡ answer old command (answered_so asked) → names ≡ names_on old command (answered_so asked)
+    pub shown_asking : (outcome : CommandOutcome) (names : List (List ℕ)) (result : Result Stepped OutOfMemory) → outcome ≡ answer old command (answered_so asked) → names ≡ names_on old command (answered_so asked)
         → ComesAsking outcome names mid new result → DoesShowing command old new (lifted result)
     shown_asking outcome names result alike same comes =
         lifts command old new result
         (asking_does command (answered_so asked) old new old.files mid.terminal outcome names result gives alike same
         (subst (λ (s : SessionState). ComesAsking outcome names s new result) shown.kept comes))
 
-    pub shown_does : (outcome : Outcome) (names : List (List ℕ)) (result : Result Stepped OutOfMemory) → outcome ≡ answer old command (answered_so asked) → names ≡ names_on old command (answered_so asked)
+    pub shown_does : (outcome : CommandOutcome) (names : List (List ℕ)) (result : Result Stepped OutOfMemory) → outcome ≡ answer old command (answered_so asked) → names ≡ names_on old command (answered_so asked)
         → Comes outcome names mid new result → DoesShowing command old new (lifted result)
     shown_does outcome names result alike same comes = shown_asking outcome names result alike same (comes_asking outcome names mid new result comes)
 
@@ -56,5 +56,5 @@ module _ (command : Command) (old : SessionState) (none : file_of command ≡ No
     };
     at = ap (λ (s : SessionState). s.at) shown.kept;
     owner = ap (λ (s : SessionState). s.owner) shown.kept;
-    manner = ap (λ (s : SessionState). s.manner) shown.kept;
+    policy = ap (λ (s : SessionState). s.policy) shown.kept;
   }

@@ -2,7 +2,7 @@
 use Rattle.std.specs.Prelude.{◌≡◌, ⊤, ℕ, List, [], ◌∷◌, Some}
 use Rattle.dc_outside.specs.Talk.{sent}
 use Rattle.dc_outside.specs.declared.link.Piece.{Piece}
-use Rattle.dc_serve.specs.Course.{Turn}
+use Rattle.dc_serve.specs.Execution.{Transition}
 use Rattle.dc_serve.specs.Said.{said}
 use Rattle.dc_teletype.specs.Typed.{ToldTerminal, IsUsedUp, typed}
 use Rattle.dc_session.specs.SessionState.{TerminalState, SessionState}
@@ -29,14 +29,14 @@ pub record AreAlike (one other : SessionState) : Type 0 where
   pub terminals : AreTerminalsAlike one.terminal other.terminal
 
 -- turn by turn the same is replied, and what is left is alike
-abbrev pub AreTurnsAlike : List (Turn SessionState) → List (Turn SessionState) → Type 0
-AreTurnsAlike [] [] = ⊤
-AreTurnsAlike [] (other ∷ others) = ⊥
-AreTurnsAlike (one ∷ ones) [] = ⊥
-AreTurnsAlike (one ∷ ones) (other ∷ others) = (one.did ≡ other.did) × AreAlike one.new other.new × AreTurnsAlike ones others
+abbrev pub AreTransitionsAlike : List (Transition SessionState) → List (Transition SessionState) → Type 0
+AreTransitionsAlike [] [] = ⊤
+AreTransitionsAlike [] (other ∷ others) = ⊥
+AreTransitionsAlike (one ∷ ones) [] = ⊥
+AreTransitionsAlike (one ∷ ones) (other ∷ others) = (one.did ≡ other.did) × AreAlike one.new other.new × AreTransitionsAlike ones others
 
 -- turn by turn the same files are left, as far as both go
-abbrev pub AreFilesAlike : List (Turn SessionState) → List (Turn SessionState) → Type 0
+abbrev pub AreFilesAlike : List (Transition SessionState) → List (Transition SessionState) → Type 0
 AreFilesAlike [] others = ⊤
 AreFilesAlike (one ∷ ones) [] = ⊤
 AreFilesAlike (one ∷ ones) (other ∷ others) = (one.new.files ≡ other.new.files) × AreFilesAlike ones others

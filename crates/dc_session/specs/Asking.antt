@@ -16,7 +16,7 @@ use Rattle.dc_proto.specs.Priorities.{priority_of}
 use Rattle.dc_proto.specs.declared.priority.Priority.{Priority}
 use Rattle.dc_proto.specs.declared.priority.Priority.TheVariants.{High}
 use Rattle.dc_question.specs.Changes.{flag_set}
-use Rattle.dc_question.specs.Questions.{Setting, value, flag, kind, can_change, expanded_field, choices}
+use Rattle.dc_question.specs.Questions.{QuestionContext, value, flag, kind, can_change, expanded_field, choices}
 use Rattle.dc_question.specs.declared.errors.QuestionError.{QuestionError}
 use Rattle.dc_question.specs.declared.errors.QuestionError.TheVariants.{NoQuestion, NoTemplate}
 use Rattle.dc_store.specs.Plans.{StoreState}
@@ -27,7 +27,7 @@ use Rattle.dc_template.specs.declared.kinds.Kind.TheVariants.{Note, Txt, Error, 
 use Rattle.dc_session.specs.SessionState.{SessionState}
 use Rattle.dc_session.specs.declared.asking.Asking.{Asking}
 use Rattle.dc_session.specs.declared.asking.Bar.{Bar}
-use Rattle.dc_session.specs.declared.manner.Manner.{Manner}
+use Rattle.dc_session.specs.declared.policy.AskPolicy.{AskPolicy}
 
 -- the text is among the texts
 abbrev pub is_among : List (List ℕ) → List ℕ → Bool
@@ -44,16 +44,16 @@ abbrev pub nothing_asked : Asking
 nothing_asked = record { escape = Bool.false; backup = Bool.false; title = []; prepared = []; asked = []; bar = None }
 
 -- the least priority of a question that is shown: the one that was chosen, else the one that the value of `debconf/priority` names, else high
-abbrev pub threshold_by : Option Priority → List LayerState → Setting → Priority
+abbrev pub threshold_by : Option Priority → List LayerState → QuestionContext → Priority
 threshold_by chosen layers at = unwrap_or (option_or chosen (option_and_then priority_of (result_ok (value layers at (codes "debconf/priority"))))) High
 
 -- the frontend: the one that was chosen, else the one that the value of `debconf/frontend` names, else the teletype
-abbrev pub frontend_by : Option Frontend → List LayerState → Setting → Frontend
+abbrev pub frontend_by : Option Frontend → List LayerState → QuestionContext → Frontend
 frontend_by chosen layers at = unwrap_or (option_or chosen (option_and_then frontend_of (result_ok (value layers at (codes "debconf/frontend"))))) Teletype
 
 -- how questions are asked, by what was chosen
-abbrev pub manner_by : Option Frontend → Option Priority → Bool → List LayerState → Setting → Manner
-manner_by frontend threshold nonint_seen layers at = record { frontend = frontend_by frontend layers at; threshold = threshold_by threshold layers at; nonint_seen = nonint_seen }
+abbrev pub policy_by : Option Frontend → Option Priority → Bool → List LayerState → QuestionContext → AskPolicy
+policy_by frontend threshold nonint_seen layers at = record { frontend = frontend_by frontend layers at; threshold = threshold_by threshold layers at; nonint_seen = nonint_seen }
 
 -- ---- descriptions
 
@@ -64,7 +64,7 @@ or_empty (Err (NoQuestion name)) = Err (NoQuestion name)
 or_empty (Err error) = Ok []
 
 -- the expanded description of a question
-abbrev pub description : List LayerState → Setting → List ℕ → Result (List ℕ) QuestionError
+abbrev pub description : List LayerState → QuestionContext → List ℕ → Result (List ℕ) QuestionError
 description layers at name = or_empty (expanded_field layers at name (codes "description"))
 
 -- ---- which questions are shown
@@ -73,7 +73,7 @@ description layers at name = or_empty (expanded_field layers at name (codes "des
 abbrev pub shown_by : SessionState → Priority → List ℕ → Option Kind → Result Bool QuestionError → Result Bool QuestionError
 shown_by state priority name kind (Err error) = Err error
 shown_by state priority name None (Ok seen) = Err (NoTemplate name)
-shown_by state priority name (Some kind) (Ok seen) = Ok (is_shown state.manner.threshold priority kind seen)
+shown_by state priority name (Some kind) (Ok seen) = Ok (is_shown state.policy.threshold priority kind seen)
 
 -- whether a question is to be shown, that is asked with this priority
 abbrev pub is_to_be_shown : SessionState → Priority → List ℕ → Result Bool QuestionError
@@ -90,7 +90,7 @@ abbrev pub askable : SessionState → List (List ℕ)
 askable state = filter (λ name. is_some (kind state.store.layers state.at name)) state.asking.prepared
 
 -- a question of this kind as it is shown
-abbrev pub shown : List LayerState → Setting → List ℕ → Kind → Shown
+abbrev pub shown : List LayerState → QuestionContext → List ℕ → Kind → Shown
 shown layers at name kind = record {
   name = name;
   kind = kind;
@@ -104,7 +104,7 @@ shown layers at name kind = record {
 -- ---- what GO does without a user
 
 -- the question with the choice that it is set to, where it is set to one
-abbrev pub choice_for : List LayerState → Setting → List ℕ → Option (List ℕ × List ℕ)
+abbrev pub choice_for : List LayerState → QuestionContext → List ℕ → Option (List ℕ × List ℕ)
 choice_for layers at name = option_map (λ choice. (name, choice)) (option_and_then (λ k. settled_choice (shown layers at name k)) (kind layers at name))
 
 -- the prepared questions that are set to a choice, in the order of asking
@@ -113,7 +113,7 @@ choices_for state = filter_map (choice_for state.store.layers state.at) state.as
 
 -- nothing is prepared any more, and the questions that were skipped are asked, where that is the manner
 abbrev pub skipped : SessionState → Asking
-skipped state = record state.asking { prepared = []; asked = if state.manner.nonint_seen then fold with_name state.asking.asked (askable state) else state.asking.asked }
+skipped state = record state.asking { prepared = []; asked = if state.policy.nonint_seen then fold with_name state.asking.asked (askable state) else state.asking.asked }
 
 -- ---- what GO does with a user
 
@@ -130,7 +130,7 @@ has_value Title = Bool.false
 has_value kind = Bool.true
 
 -- the question has a value that can't be changed
-abbrev pub is_fixed : List LayerState → Setting → List ℕ → Bool
+abbrev pub is_fixed : List LayerState → QuestionContext → List ℕ → Bool
 is_fixed layers at name = option_map_or (λ k. has_value k && not (can_change layers at name)) (kind layers at name) Bool.false
 
 -- the first prepared question whose value can't be changed
@@ -159,7 +159,7 @@ first_busy asking names = find (is_among asking.prepared) names
 -- ---- when the session ends
 
 -- `seen` is set on a question, where it is there and the write is taken
-abbrev pub with_seen : Setting → StoreState → List ℕ → StoreState
+abbrev pub with_seen : QuestionContext → StoreState → List ℕ → StoreState
 with_seen at store name = result_unwrap_or (flag_set store at name (codes "seen") Bool.true) store
 
 -- it is set on each question that was asked, in the order of first asking

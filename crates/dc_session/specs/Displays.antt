@@ -11,11 +11,11 @@ use Rattle.dc_outside.specs.declared.link.LinkError.{LinkError}
 use Rattle.dc_proto.specs.declared.command.Command.{Command}
 use Rattle.dc_proto.specs.declared.command.Command.TheVariants.{Go, ProgressStart, ProgressSet, ProgressStep, ProgressInfo}
 use Rattle.dc_question.specs.declared.errors.QuestionError.{QuestionError}
-use Rattle.dc_teletype.specs.Dialogue.{opening, IsHeld}
+use Rattle.dc_teletype.specs.Dialogue.{opening, IsDialogue}
 use Rattle.dc_teletype.specs.TerminalLines.{RefusalsBy, EndsWell}
 use Rattle.dc_teletype.specs.declared.teletype.Asked.{Asked}
 use Rattle.dc_teletype.specs.declared.teletype.Asked.TheVariants.{Answers}
-use Rattle.dc_session.specs.Answers.{on}
+use Rattle.dc_session.specs.Answers.{for_question}
 use Rattle.dc_session.specs.Asking.{description, first_fixed, to_show, bar_at}
 use Rattle.dc_session.specs.SessionState.{SessionState, TerminalState}
 use Rattle.dc_session.specs.declared.asking.Asking.{Asking}
@@ -41,7 +41,7 @@ line_read (Err error) = Blank
 
 -- the description of a question that is there
 abbrev pub described : SessionState → List ℕ → Display
-described state word = line_read (on word (description state.store.layers state.at))
+described state word = line_read (for_question word (description state.store.layers state.at))
 
 -- how much of its way the bar is along, in whole percent, rounded down; all of it where there is no way
 abbrev pub percent : Bar → ℕ
@@ -57,11 +57,11 @@ where_asked Teletype display = display
 
 -- what a command shows on the terminal
 abbrev pub displayed : SessionState → Command → Display
-displayed state Go = where_asked state.manner.frontend (option_map_or (λ name. Blank) (first_fixed state) (dialogue (to_show state)))
-displayed state (ProgressStart low high word) = where_asked state.manner.frontend (described state word)
-displayed state (ProgressSet number) = where_asked state.manner.frontend (option_map_or (λ bar. percent_line (bar_at bar number)) state.asking.bar Blank)
-displayed state (ProgressStep number) = where_asked state.manner.frontend (option_map_or (λ bar. percent_line (bar_at bar (bar.place + number))) state.asking.bar Blank)
-displayed state (ProgressInfo word) = where_asked state.manner.frontend (option_map_or (λ bar. described state word) state.asking.bar Blank)
+displayed state Go = where_asked state.policy.frontend (option_map_or (λ name. Blank) (first_fixed state) (dialogue (to_show state)))
+displayed state (ProgressStart low high word) = where_asked state.policy.frontend (described state word)
+displayed state (ProgressSet number) = where_asked state.policy.frontend (option_map_or (λ bar. percent_line (bar_at bar number)) state.asking.bar Blank)
+displayed state (ProgressStep number) = where_asked state.policy.frontend (option_map_or (λ bar. percent_line (bar_at bar (bar.place + number))) state.asking.bar Blank)
+displayed state (ProgressInfo word) = where_asked state.policy.frontend (option_map_or (λ bar. described state word) state.asking.bar Blank)
 displayed state command = Blank
 
 -- ---- what becomes of the terminal
@@ -81,7 +81,7 @@ pub record HasLine (text : List ℕ) (old new : TerminalState) (result : Result 
 
 -- a dialogue was held over these questions, or it stopped
 pub record HasDialogue (asking : Asking) (questions : List Shown) (old new : TerminalState) (result : Result Asked LinkError) : Type 0 where
-  pub held : IsHeld asking.backup (opening asking.title questions) old.ahead new.ahead old.link.talk new.link.talk old.link.input new.link.input result
+  pub held : IsDialogue asking.backup (opening asking.title questions) old.ahead new.ahead old.link.talk new.link.talk old.link.input new.link.input result
   pub ends : EndsWell old.ahead new.ahead new.link.input
   pub counts : CountsOn old new result
 

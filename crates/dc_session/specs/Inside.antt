@@ -16,7 +16,7 @@ use Rattle.dc_teletype.specs.declared.teletype.Asked.TheVariants.{Answers}
 use Rattle.dc_template.specs.Reading.{IsAnswer}
 use Rattle.dc_template.specs.declared.faults.TemplateKind.{TemplateKind}
 use Rattle.dc_template.specs.declared.faults.TemplateError.TheVariants.{Bad}
-use Rattle.dc_session.specs.Answers.{Outcome, says, text_reply, field_read}
+use Rattle.dc_session.specs.Answers.{CommandOutcome, reply_read, text_reply, field_read}
 use Rattle.dc_session.specs.Machine.{StepsHeard, BreaksHeard}
 use Rattle.dc_session.specs.Refusals.{refusal}
 use Rattle.dc_session.specs.Displays.{Display, Shows}
@@ -64,18 +64,18 @@ Tells field reply (Err error) result = TellsRefusal field error result
 -- ---- commands
 
 -- A command comes to this, or memory ran out at its calls and at most the items of these names changed.
-abbrev pub Comes : Outcome → List (List ℕ) → SessionState → SessionState → Result Stepped OutOfMemory → Type 0
+abbrev pub Comes : CommandOutcome → List (List ℕ) → SessionState → SessionState → Result Stepped OutOfMemory → Type 0
 Comes outcome names old new (Ok did) = (did ≡ outcome.stepped) × (new ≡ record old { store = outcome.store; asking = outcome.asking })
 Comes outcome names old new (Err memory) = AreSameButAll names old.store.layers new.store.layers × (new ≡ record old { store = new.store })
 
 -- The same, where memory running out may also leave more asked for.
-abbrev pub ComesAsking : Outcome → List (List ℕ) → SessionState → SessionState → Result Stepped OutOfMemory → Type 0
+abbrev pub ComesAsking : CommandOutcome → List (List ℕ) → SessionState → SessionState → Result Stepped OutOfMemory → Type 0
 ComesAsking outcome names old new (Ok did) = (did ≡ outcome.stepped) × (new ≡ record old { store = outcome.store; asking = outcome.asking })
 ComesAsking outcome names old new (Err memory) = AreSameButAll names old.store.layers new.store.layers × (new ≡ record old { store = new.store; asking = new.asking })
 
 -- a field of a question is told, unless memory ran out
 pub record ReadsField (state : SessionState) (field name : List ℕ) (result : Result Stepped OutOfMemory) : Type 0 where
-  pub told_is : IfOk result (λ did. did ≡ (says state field (text_reply state) (field_read state field name)).stepped)
+  pub told_is : IfOk result (λ did. did ≡ (reply_read state field (text_reply state) (field_read state field name)).stepped)
 
 -- what a line does, or how it came to nothing
 abbrev pub DoesHeard : Heard → SessionState → SessionState → Result Stepped StepError → Type 0

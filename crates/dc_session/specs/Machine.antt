@@ -11,9 +11,9 @@ use Rattle.dc_proto.specs.declared.command.Command.TheVariants.{LoadTemplateFile
 use Rattle.dc_proto.specs.declared.command.Heard.{Heard}
 use Rattle.dc_proto.specs.declared.command.Heard.TheVariants.{Nothing, Known, Refused}
 use Rattle.dc_store.specs.StoreLaws.{AreSameButAll}
-use Rattle.dc_serve.specs.declared.heeds.Heeded.{Heeded}
-use Rattle.dc_serve.specs.declared.heeds.Heeded.TheVariants as heeded
-use Rattle.dc_session.specs.Answers.{Given, answer, after_command, names_on}
+use Rattle.dc_serve.specs.declared.machine.Response.{Response}
+use Rattle.dc_serve.specs.declared.machine.Response.TheVariants as heeded
+use Rattle.dc_session.specs.Answers.{CommandInputs, answer, after_command, names_on}
 use Rattle.dc_session.specs.Displays.{displayed, Shows}
 use Rattle.dc_session.specs.SessionState.{FilesState, TerminalState, SessionState}
 use Rattle.dc_session.specs.declared.stepped.StepError.{StepError}
@@ -37,13 +37,13 @@ Looks None old found new = (found ≡ Missing) × (new ≡ old)
 Looks (Some path) old found new = Finds path old found new
 
 -- a command is given this, by the files and by the terminal
-pub record Gives (command : Command) (old : SessionState) (given : Given) (files : FilesState) (terminal : TerminalState) : Type 0 where
+pub record Gives (command : Command) (old : SessionState) (given : CommandInputs) (files : FilesState) (terminal : TerminalState) : Type 0 where
   pub looks : Looks (file_of command) old.files given.found files
   pub shows : Shows old.asking (displayed old command) old.terminal (Ok given.asked) terminal
 
 -- the command was answered, and left this
 pub record HasDone (command : Command) (old : SessionState) (stepped : Stepped) (new : SessionState) : Type 0 where
-  pub given : Given
+  pub given : CommandInputs
   pub gives : Gives command old given new.files new.terminal
   pub stepped_is : stepped ≡ (answer old command given).stepped
   pub new_is : new ≡ after_command old command given new.files new.terminal
@@ -61,7 +61,7 @@ pub record GivesInPart (command : Command) (old new : SessionState) : Type 0 whe
 
 -- it was given all, and then memory ran out: at most the items that its writes are on changed
 pub record LeavesInPart (command : Command) (old new : SessionState) : Type 0 where
-  pub given : Given
+  pub given : CommandInputs
   pub gives : Gives command old given new.files new.terminal
   pub others : AreSameButAll (names_on old command given) old.store.layers new.store.layers
 
@@ -70,7 +70,7 @@ pub record IsDoneInPart (command : Command) (old new : SessionState) : Type 0 wh
   pub part : GivesInPart command old new ⊎ LeavesInPart command old new
   pub at : new.at ≡ old.at
   pub owner : new.owner ≡ old.owner
-  pub manner : new.manner ≡ old.manner
+  pub policy : new.policy ≡ old.policy
 
 -- the terminal failed at a command, and nothing else has changed
 pub record FailsToShow (command : Command) (old new : SessionState) : Type 0 where
@@ -90,13 +90,13 @@ Steps old TooLong did new = (did ≡ Replied line_too_long) × (new ≡ old)
 Steps old (Whole line) did new = StepsHeard (heard old.asking.escape line) old did new
 
 -- a reply is sent as it is printed
-abbrev pub sent_in : Bool → Stepped → Heeded
+abbrev pub sent_in : Bool → Stepped → Response
 sent_in escape Silent = heeded.Silent
 sent_in escape (Replied reply) = heeded.Replied reply.code (printed escape reply)
 sent_in escape Stopped = heeded.Stopped
 
 -- and its reply is sent in the same mode
-pub record Heeds (old : SessionState) (line : Line) (did : Heeded) (new : SessionState) : Type 0 where
+pub record Handles (old : SessionState) (line : Line) (did : Response) (new : SessionState) : Type 0 where
   pub stepped : Stepped
   pub steps : Steps old line stepped new
   pub did_is : did ≡ sent_in old.asking.escape stepped
@@ -117,9 +117,9 @@ BreaksHeard (Known command) old error new = BreaksOff command old error new
 BreaksHeard (Refused reply) old error new = BreaksIdle old error new
 
 -- memory ran out at a line, or the terminal failed
-abbrev pub Breaks : SessionState → Line → StepError → SessionState → Type 0
-Breaks old TooLong error new = BreaksIdle old error new
-Breaks old (Whole line) error new = BreaksHeard (heard old.asking.escape line) old error new
+abbrev pub Aborts : SessionState → Line → StepError → SessionState → Type 0
+Aborts old TooLong error new = BreaksIdle old error new
+Aborts old (Whole line) error new = BreaksHeard (heard old.asking.escape line) old error new
 
 -- ---- what the calls of a session do: they are answered, or memory ran out, or the terminal failed
 

@@ -2,12 +2,12 @@
 use Rattle.std.specs.Prelude.{◌≡◌, ◌⊎◌, ℕ, List}
 use Rattle.dc_layer.specs.State.{LayerState}
 use Rattle.dc_serve.specs.Ends.{LinkFaults, LinkRefusals}
-use Rattle.dc_serve.specs.Run.{HasRun}
+use Rattle.dc_serve.specs.LinkRun.{IsLinkRun}
 use Rattle.dc_serve.specs.declared.outcome.LinkEnd.{LinkEnd}
 use Rattle.dc_serve.specs.declared.outcome.LinkEnd.TheVariants as link
 use Rattle.dc_store.specs.StoreLaws.{AreSameButAll}
 use Rattle.dc_session.specs.Asking.{finished}
-use Rattle.dc_session.specs.Machine.{Heeds, Breaks}
+use Rattle.dc_session.specs.Machine.{Handles, Aborts}
 use Rattle.dc_session.specs.SessionState.{FilesState, LinkState, SessionState}
 use Rattle.dc_session.specs.declared.stepped.StepError.{StepError}
 use Rattle.dc_session.specs.declared.stepped.StepError.TheVariants as step
@@ -34,7 +34,7 @@ Finishes (link.Broken error) state layers ended = (layers ≡ state.store.layers
 pub record IsServed (start : SessionState) (layers : List LayerState) (files : FilesState) (terminal : LinkState) (old new : LinkState) (ended : LinkEnd StepError) (code : ℕ) : Type 0 where
   pub state : SessionState
   pub served : LinkEnd StepError
-  pub ran : HasRun Heeds Breaks old.talk new.talk old.input new.input start served state code
+  pub ran : IsLinkRun Handles Aborts old.talk new.talk old.input new.input start served state code
   pub files_are : files ≡ state.files
   pub terminal_is : terminal ≡ state.terminal.link
   pub finishes : Finishes served state layers ended

@@ -3,10 +3,10 @@ use Rattle.std.specs.Prelude.{ℕ, Bool, List, [], Option, None}
 use Rattle.dc_outside.specs.Told.{Told, Counts}
 use Rattle.dc_outside.specs.declared.link.Piece.{Piece}
 use Rattle.dc_store.specs.Plans.{StoreState}
-use Rattle.dc_question.specs.Questions.{Setting}
-use Rattle.dc_teletype.specs.TerminalLines.{Ahead}
+use Rattle.dc_question.specs.Questions.{QuestionContext}
+use Rattle.dc_teletype.specs.TerminalLines.{TypeAhead}
 use Rattle.dc_session.specs.declared.asking.Asking.{Asking}
-use Rattle.dc_session.specs.declared.manner.Manner.{Manner}
+use Rattle.dc_session.specs.declared.policy.AskPolicy.{AskPolicy}
 
 -- what the files tell, and how they count their calls
 pub record FilesState : Type 0 where
@@ -20,13 +20,13 @@ pub record LinkState : Type 0 where
   pub counts : Counts
 
 -- nothing was typed on a terminal that wasn't used
-abbrev pub nothing_typed : Ahead
+abbrev pub nothing_typed : TypeAhead
 nothing_typed = record { held = []; has_ended = Bool.false }
 
 -- a terminal, and what was typed there and isn't used yet
 pub record TerminalState : Type 0 where
   pub link : LinkState
-  pub ahead : Ahead
+  pub ahead : TypeAhead
 
 -- the terminal of a session that asks nobody
 abbrev pub no_terminal : TerminalState
@@ -38,7 +38,7 @@ pub record SessionState : Type 0 where
   pub store : StoreState
   pub files : FilesState
   pub terminal : TerminalState
-  pub at : Setting
+  pub at : QuestionContext
   pub owner : List ℕ
-  pub manner : Manner
+  pub policy : AskPolicy
   pub asking : Asking

@@ -2,7 +2,7 @@
 use Rattle.std.specs.Prelude.{◌≡◌, List, [], codes, map as each}
 use Rattle.dc_proto.specs.Replies.{reply}
 use Rattle.dc_question.specs.Changes.{value_write}
-use Rattle.dc_store.specs.Rows.{all_done}
+use Rattle.dc_store.specs.Batches.{all_done}
 use Rattle.dc_teletype.specs.declared.teletype.Answer.{Answer}
 use Rattle.dc_teletype.specs.declared.teletype.Asked.{Asked}
 use Rattle.dc_teletype.specs.declared.teletype.Asked.TheVariants.{Answers, Back}

@@ -16,17 +16,17 @@ ghost use Rattle.dc_proto.specs.declared.command.Command.TheVariants.{Get, Go, S
 ghost use Rattle.dc_proto.specs.declared.command.Heard.TheVariants.{Known};
 ghost use Rattle.dc_proto.specs.declared.reply.Reply.{Reply};
 ghost use Rattle.dc_store.specs.StoreLaws.{AreSameButAll};
-ghost use Rattle.dc_serve.specs.Course.{Turn, lines_of, state_after, IsCourse};
-ghost use Rattle.dc_serve.specs.Run.{HasRun};
+ghost use Rattle.dc_serve.specs.Execution.{Transition, lines_of, state_after, IsExecution};
+ghost use Rattle.dc_serve.specs.LinkRun.{IsLinkRun};
 ghost use Rattle.dc_serve.specs.declared.outcome.LinkEnd.TheVariants.{Done};
-ghost use Rattle.dc_serve.specs.Step.{IsRead, InStep};
-ghost use Rattle.dc_serve.specs.declared.heeds.Heeded.{Heeded};
-ghost use Rattle.dc_serve.specs.declared.heeds.Heeded.TheVariants as heeded;
-ghost use Rattle.dc_session.specs.Alike.{AreAlike, AreTurnsAlike, AreFilesAlike, EndAlike};
+ghost use Rattle.dc_serve.specs.Answering.{IsRead, AnswersBeforeReads};
+ghost use Rattle.dc_serve.specs.declared.machine.Response.{Response};
+ghost use Rattle.dc_serve.specs.declared.machine.Response.TheVariants as heeded;
+ghost use Rattle.dc_session.specs.Alike.{AreAlike, AreTransitionsAlike, AreFilesAlike, EndAlike};
 ghost use Rattle.dc_session.specs.Answers.{nothing, answer, names_on, text_reply};
 ghost use Rattle.dc_session.specs.Asking.{first_fixed};
 ghost use Rattle.dc_session.specs.Escaping.{set_line, unescaped};
-ghost use Rattle.dc_session.specs.Machine.{Heeds, Steps, Breaks, HasDone};
+ghost use Rattle.dc_session.specs.Machine.{Handles, Steps, Aborts, HasDone};
 ghost use Rattle.dc_session.specs.SessionState.{SessionState};
 ghost use Rattle.dc_session.specs.Taken.{Takes};
 ghost use Rattle.dc_session.specs.declared.stepped.StepError.TheVariants.{Term};
@@ -37,7 +37,7 @@ ghost use Rattle.dc_session.specs.declared.stepped.Stepped.TheVariants.{Replied}
 /// code 1 or 30 leaves the store too.
 pub fn refused_commands_change_nothing()
     ensures store { (old new : SessionState) (line : Line) (reply : Reply) → Steps old line (Replied reply) new → reply.code ≢ 0
-        → (new.store ≡ old.store) × (new.at ≡ old.at) × (new.owner ≡ old.owner) × (new.manner ≡ old.manner) }
+        → (new.store ≡ old.store) × (new.at ≡ old.at) × (new.owner ≡ old.owner) × (new.policy ≡ old.policy) }
     ensures asking { (old new : SessionState) (line : Line) (reply : Reply) → Steps old line (Replied reply) new → reply.code ≢ 0 → reply.code ≢ 30 → new.asking ≡ old.asking }
 {}
 
@@ -49,16 +49,16 @@ pub fn other_items_stay()
 /// Where the files tell of the disk and of the calls on them, the lines and the files determine what a session says and leaves that asks
 /// nobody.
 pub fn lines_and_files_determine_the_course()
-    ensures { (start : SessionState) (disk : Disk) (calls : List FilesCall) (a b : List (Turn SessionState)) → start.files.told ≡ record { disk = Some disk; calls = Some calls } → start.manner.frontend ≡ Noninteractive
-        → IsCourse Heeds start a → IsCourse Heeds start b → lines_of a ≡ lines_of b → each (λ turn. turn.new.files) a ≡ each (λ turn. turn.new.files) b → a ≡ b }
+    ensures { (start : SessionState) (disk : Disk) (calls : List FilesCall) (a b : List (Transition SessionState)) → start.files.told ≡ record { disk = Some disk; calls = Some calls } → start.policy.frontend ≡ Noninteractive
+        → IsExecution Handles start a → IsExecution Handles start b → lines_of a ≡ lines_of b → each (λ transition. transition.new.files) a ≡ each (λ transition. transition.new.files) b → a ≡ b }
 {}
 
 /// Where the files tell of the disk and of the calls on them, and the terminal of its talk and its input, the lines, the files and what is
 /// typed determine what a session says and leaves, in any manner of asking and in whatever pieces what is typed comes: the replies, the store
 /// and what is asked for, what is said on the terminal, and what is left of what is typed.
 pub fn lines_files_and_answers_determine_the_course()
-    ensures { (start other : SessionState) (disk : Disk) (calls : List FilesCall) (a b : List (Turn SessionState)) → start.files.told ≡ record { disk = Some disk; calls = Some calls } → AreAlike start other
-        → IsCourse Heeds start a → IsCourse Heeds other b → lines_of a ≡ lines_of b → each (λ turn. turn.new.files) a ≡ each (λ turn. turn.new.files) b → AreTurnsAlike a b }
+    ensures { (start other : SessionState) (disk : Disk) (calls : List FilesCall) (a b : List (Transition SessionState)) → start.files.told ≡ record { disk = Some disk; calls = Some calls } → AreAlike start other
+        → IsExecution Handles start a → IsExecution Handles other b → lines_of a ≡ lines_of b → each (λ transition. transition.new.files) a ≡ each (λ transition. transition.new.files) b → AreTransitionsAlike a b }
 {}
 
 /// Two runs over links of which the same bytes are to come, that both come to the end, say the same and leave what is alike, however the
@@ -67,27 +67,27 @@ pub fn lines_files_and_answers_determine_the_course()
 pub fn bytes_files_and_answers_determine_the_run()
     ensures { (start other new last : SessionState) (disk : Disk) (calls : List FilesCall) (input : List ℕ) (talk new_talk told new_told : Option (List Piece)) (left rest : Option (List ℕ)) (code number : ℕ)
         → start.files.told ≡ record { disk = Some disk; calls = Some calls } → AreAlike start other
-        → (one : HasRun Heeds Breaks talk new_talk (Some input) left start Done new code) → (two : HasRun Heeds Breaks told new_told (Some input) rest other Done last number)
-        → AreFilesAlike one.turns two.turns → EndAlike one.pieces two.pieces code number new last }
+        → (one : IsLinkRun Handles Aborts talk new_talk (Some input) left start Done new code) → (two : IsLinkRun Handles Aborts told new_told (Some input) rest other Done last number)
+        → AreFilesAlike one.transitions two.transitions → EndAlike one.pieces two.pieces code number new last }
 {}
 
 /// Where a user is asked, and no prepared question has a value that can't be changed, GO does what the user answers: all questions that were
 /// shown are set to the values that they were given, or the user went back. The reply is `0 ok` or `30 backup`.
 pub fn given_answers_are_taken()
-    ensures { (old new : SessionState) (did : Stepped) → old.manner.frontend ≡ Teletype → first_fixed old ≡ None → (done : HasDone Go old did new) → Takes old done.given.asked did new }
+    ensures { (old new : SessionState) (did : Stepped) → old.policy.frontend ≡ Teletype → first_fixed old ≡ None → (done : HasDone Go old did new) → Takes old done.given.asked did new }
 {}
 
 /// A run in which a line has come that has a reply, and the next piece is a read, whether more came or it failed, isn't in
 /// step: the line is answered first.
 pub fn lines_are_answered_first()
-    ensures { (start : SessionState) (turns : List (Turn SessionState)) (bytes : List ℕ) (line : Line) (piece : Piece) → IsCourse Heeds start turns → whole_lines bytes ≡ line ∷ []
-        → ((did : Heeded) (new : SessionState) → Heeds start line did new → (code : ℕ) × (text : List ℕ) × (did ≡ heeded.Replied code text))
-        → IsRead piece → InStep turns (Got bytes ∷ piece ∷ []) → ⊥ }
+    ensures { (start : SessionState) (transitions : List (Transition SessionState)) (bytes : List ℕ) (line : Line) (piece : Piece) → IsExecution Handles start transitions → whole_lines bytes ≡ line ∷ []
+        → ((did : Response) (new : SessionState) → Handles start line did new → (code : ℕ) × (text : List ℕ) × (did ≡ heeded.Replied code text))
+        → IsRead piece → AnswersBeforeReads transitions (Got bytes ∷ piece ∷ []) → ⊥ }
 {}
 
 /// A session leaves the disk as it was: it only reads files.
 pub fn reads_leave_the_disk()
-    ensures { (start : SessionState) (turns : List (Turn SessionState)) → IsCourse Heeds start turns → (state_after start turns).files.told.disk ≡ start.files.told.disk }
+    ensures { (start : SessionState) (transitions : List (Transition SessionState)) → IsExecution Handles start transitions → (state_after start transitions).files.told.disk ≡ start.files.told.disk }
 {}
 
 /// `read fault` is told exactly where the files' count of faults rose in that command's read, and at every other reply their counts stay.
@@ -99,9 +99,9 @@ pub fn read_faults_are_counted()
 /// A session that comes to nothing at a line for a fault of its terminal counted one there, and at a line that is answered the terminal counts
 /// nothing. One that asks nobody meets no such fault.
 pub fn terminal_faults_are_counted()
-    ensures failed { (old new : SessionState) (line : Line) → Breaks old line Term new → FaultRose old.terminal.link.counts new.terminal.link.counts }
-    ensures stays { (start : SessionState) (turns : List (Turn SessionState)) → IsCourse Heeds start turns → (state_after start turns).terminal.link.counts ≡ start.terminal.link.counts }
-    ensures nobody { (old new : SessionState) (line : Line) → old.manner.frontend ≡ Noninteractive → Breaks old line Term new → ⊥ }
+    ensures failed { (old new : SessionState) (line : Line) → Aborts old line Term new → FaultRose old.terminal.link.counts new.terminal.link.counts }
+    ensures stays { (start : SessionState) (transitions : List (Transition SessionState)) → IsExecution Handles start transitions → (state_after start transitions).terminal.link.counts ≡ start.terminal.link.counts }
+    ensures nobody { (old new : SessionState) (line : Line) → old.policy.frontend ≡ Noninteractive → Aborts old line Term new → ⊥ }
 {}
 
 /// In escape mode a question can be set to any text, and GET tells the text that it was set to, whatever bytes it has, once its escapes are

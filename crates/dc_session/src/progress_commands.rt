@@ -2,7 +2,7 @@
 ghost use Rattle.std.specs.Prelude.{◌≡◌, ◌+◌, ◌++◌, [], Option, Some, None, IfOk, codes, decimal};
 ghost use Rattle.dc_proto.specs.Replies.{reply};
 ghost use Rattle.dc_proto.specs.declared.command.Command.TheVariants as command;
-ghost use Rattle.dc_session.specs.Answers.{asks, with_bar};
+ghost use Rattle.dc_session.specs.Answers.{reply_asking, with_bar};
 ghost use Rattle.dc_session.specs.Asking.{description as description_of};
 ghost use Rattle.dc_session.specs.Displays.{OneLine, where_asked, line_read, percent as percent_of, percent_line};
 ghost use Rattle.dc_session.specs.Inside.{Comes, TellsUser};
@@ -16,7 +16,7 @@ use crate::terminal::tell_on;
 use dc_frontend::Frontend;
 use dc_outside::{Files, Link};
 use dc_question::QuestionError;
-use dc_serve::Heeds;
+use dc_serve::LineMachine;
 use dc_text::{Mem, Name, Text};
 use std::alloc::Global;
 
@@ -29,8 +29,8 @@ impl<'s, 'f, 't, F: Files, T: Link> Session<'s, 'f, 't, F, T> {
         max: u32,
         word: &Text,
     ) -> Result<Stepped, StepError>
-        ensures does { DoesShowing (command.ProgressStart min max word.now) (⟦<Session<'s, 'f, 't, F, T> as Heeds>⟧.sight self.old) (⟦<Session<'s, 'f, 't, F, T> as Heeds>⟧.sight self.new) result }
-        ensures held { ⟦<Session<'s, 'f, 't, F, T> as Heeds>⟧.held self.new ≡ ⟦<Session<'s, 'f, 't, F, T> as Heeds>⟧.held self.old }
+        ensures does { DoesShowing (command.ProgressStart min max word.now) (⟦<Session<'s, 'f, 't, F, T> as LineMachine>⟧.state self.old) (⟦<Session<'s, 'f, 't, F, T> as LineMachine>⟧.state self.new) result }
+        ensures borrows { ⟦<Session<'s, 'f, 't, F, T> as LineMachine>⟧.borrows self.new ≡ ⟦<Session<'s, 'f, 't, F, T> as LineMachine>⟧.borrows self.old }
     {
         let Some(name) = named(self.alloc, word)? else {
             return lifted(missing(self.alloc, word.bytes()));
@@ -47,8 +47,8 @@ impl<'s, 'f, 't, F: Files, T: Link> Session<'s, 'f, 't, F, T> {
     }
 
     pub(crate) fn progress_set(&mut self, number: u32) -> Result<Stepped, StepError>
-        ensures does { DoesShowing (command.ProgressSet number) (⟦<Session<'s, 'f, 't, F, T> as Heeds>⟧.sight self.old) (⟦<Session<'s, 'f, 't, F, T> as Heeds>⟧.sight self.new) result }
-        ensures held { ⟦<Session<'s, 'f, 't, F, T> as Heeds>⟧.held self.new ≡ ⟦<Session<'s, 'f, 't, F, T> as Heeds>⟧.held self.old }
+        ensures does { DoesShowing (command.ProgressSet number) (⟦<Session<'s, 'f, 't, F, T> as LineMachine>⟧.state self.old) (⟦<Session<'s, 'f, 't, F, T> as LineMachine>⟧.state self.new) result }
+        ensures borrows { ⟦<Session<'s, 'f, 't, F, T> as LineMachine>⟧.borrows self.new ≡ ⟦<Session<'s, 'f, 't, F, T> as LineMachine>⟧.borrows self.old }
     {
         match self.asking.bar {
             None => lifted(says(self.alloc, 10, NO_BAR)),
@@ -61,8 +61,8 @@ impl<'s, 'f, 't, F: Files, T: Link> Session<'s, 'f, 't, F, T> {
     }
 
     pub(crate) fn progress_step(&mut self, number: u32) -> Result<Stepped, StepError>
-        ensures does { DoesShowing (command.ProgressStep number) (⟦<Session<'s, 'f, 't, F, T> as Heeds>⟧.sight self.old) (⟦<Session<'s, 'f, 't, F, T> as Heeds>⟧.sight self.new) result }
-        ensures held { ⟦<Session<'s, 'f, 't, F, T> as Heeds>⟧.held self.new ≡ ⟦<Session<'s, 'f, 't, F, T> as Heeds>⟧.held self.old }
+        ensures does { DoesShowing (command.ProgressStep number) (⟦<Session<'s, 'f, 't, F, T> as LineMachine>⟧.state self.old) (⟦<Session<'s, 'f, 't, F, T> as LineMachine>⟧.state self.new) result }
+        ensures borrows { ⟦<Session<'s, 'f, 't, F, T> as LineMachine>⟧.borrows self.new ≡ ⟦<Session<'s, 'f, 't, F, T> as LineMachine>⟧.borrows self.old }
     {
         match self.asking.bar {
             None => lifted(says(self.alloc, 10, NO_BAR)),
@@ -75,8 +75,8 @@ impl<'s, 'f, 't, F: Files, T: Link> Session<'s, 'f, 't, F, T> {
     }
 
     pub(crate) fn progress_info(&mut self, word: &Text) -> Result<Stepped, StepError>
-        ensures does { DoesShowing (command.ProgressInfo word.now) (⟦<Session<'s, 'f, 't, F, T> as Heeds>⟧.sight self.old) (⟦<Session<'s, 'f, 't, F, T> as Heeds>⟧.sight self.new) result }
-        ensures held { ⟦<Session<'s, 'f, 't, F, T> as Heeds>⟧.held self.new ≡ ⟦<Session<'s, 'f, 't, F, T> as Heeds>⟧.held self.old }
+        ensures does { DoesShowing (command.ProgressInfo word.now) (⟦<Session<'s, 'f, 't, F, T> as LineMachine>⟧.state self.old) (⟦<Session<'s, 'f, 't, F, T> as LineMachine>⟧.state self.new) result }
+        ensures borrows { ⟦<Session<'s, 'f, 't, F, T> as LineMachine>⟧.borrows self.new ≡ ⟦<Session<'s, 'f, 't, F, T> as LineMachine>⟧.borrows self.old }
     {
         if self.asking.bar.is_none() {
             return lifted(says(self.alloc, 10, NO_BAR));
@@ -92,8 +92,8 @@ impl<'s, 'f, 't, F: Files, T: Link> Session<'s, 'f, 't, F, T> {
     }
 
     pub(crate) fn progress_stop(&mut self) -> Mem<Stepped>
-        ensures does { Does command.ProgressStop (⟦<Session<'s, 'f, 't, F, T> as Heeds>⟧.sight self.old) (⟦<Session<'s, 'f, 't, F, T> as Heeds>⟧.sight self.new) result }
-        ensures held { ⟦<Session<'s, 'f, 't, F, T> as Heeds>⟧.held self.new ≡ ⟦<Session<'s, 'f, 't, F, T> as Heeds>⟧.held self.old }
+        ensures does { Does command.ProgressStop (⟦<Session<'s, 'f, 't, F, T> as LineMachine>⟧.state self.old) (⟦<Session<'s, 'f, 't, F, T> as LineMachine>⟧.state self.new) result }
+        ensures borrows { ⟦<Session<'s, 'f, 't, F, T> as LineMachine>⟧.borrows self.new ≡ ⟦<Session<'s, 'f, 't, F, T> as LineMachine>⟧.borrows self.old }
     {
         match self.asking.bar {
             None => says(self.alloc, 10, NO_BAR),
@@ -103,10 +103,10 @@ impl<'s, 'f, 't, F: Files, T: Link> Session<'s, 'f, 't, F, T> {
 
     // Tells the user what the question is about, where one is asked.
     fn tell_description(&mut self, name: &Name) -> Result<(), StepError>
-        ensures tells { TellsUser (where_asked (⟦<Session<'s, 'f, 't, F, T> as Heeds>⟧.sight self.old).manner.frontend (line_read (description_of (⟦<Session<'s, 'f, 't, F, T> as Heeds>⟧.sight self.old).store.layers (⟦<Session<'s, 'f, 't, F, T> as Heeds>⟧.sight self.old).at name.now))) (⟦<Session<'s, 'f, 't, F, T> as Heeds>⟧.sight self.old) (⟦<Session<'s, 'f, 't, F, T> as Heeds>⟧.sight self.new) result }
-        ensures held { ⟦<Session<'s, 'f, 't, F, T> as Heeds>⟧.held self.new ≡ ⟦<Session<'s, 'f, 't, F, T> as Heeds>⟧.held self.old }
+        ensures tells { TellsUser (where_asked (⟦<Session<'s, 'f, 't, F, T> as LineMachine>⟧.state self.old).policy.frontend (line_read (description_of (⟦<Session<'s, 'f, 't, F, T> as LineMachine>⟧.state self.old).store.layers (⟦<Session<'s, 'f, 't, F, T> as LineMachine>⟧.state self.old).at name.now))) (⟦<Session<'s, 'f, 't, F, T> as LineMachine>⟧.state self.old) (⟦<Session<'s, 'f, 't, F, T> as LineMachine>⟧.state self.new) result }
+        ensures borrows { ⟦<Session<'s, 'f, 't, F, T> as LineMachine>⟧.borrows self.new ≡ ⟦<Session<'s, 'f, 't, F, T> as LineMachine>⟧.borrows self.old }
     {
-        match self.manner.frontend {
+        match self.policy.frontend {
             Frontend::Noninteractive => Ok(()),
             Frontend::Teletype => match self.description(name) {
                 Ok(text) => self.tell_line(&text),
@@ -118,10 +118,10 @@ impl<'s, 'f, 't, F: Files, T: Link> Session<'s, 'f, 't, F, T> {
 
     // Tells the user how far the bar is, where one is asked.
     fn tell_percent(&mut self, bar: Bar) -> Result<(), StepError>
-        ensures tells { TellsUser (where_asked (⟦<Session<'s, 'f, 't, F, T> as Heeds>⟧.sight self.old).manner.frontend (percent_line bar)) (⟦<Session<'s, 'f, 't, F, T> as Heeds>⟧.sight self.old) (⟦<Session<'s, 'f, 't, F, T> as Heeds>⟧.sight self.new) result }
-        ensures held { ⟦<Session<'s, 'f, 't, F, T> as Heeds>⟧.held self.new ≡ ⟦<Session<'s, 'f, 't, F, T> as Heeds>⟧.held self.old }
+        ensures tells { TellsUser (where_asked (⟦<Session<'s, 'f, 't, F, T> as LineMachine>⟧.state self.old).policy.frontend (percent_line bar)) (⟦<Session<'s, 'f, 't, F, T> as LineMachine>⟧.state self.old) (⟦<Session<'s, 'f, 't, F, T> as LineMachine>⟧.state self.new) result }
+        ensures borrows { ⟦<Session<'s, 'f, 't, F, T> as LineMachine>⟧.borrows self.new ≡ ⟦<Session<'s, 'f, 't, F, T> as LineMachine>⟧.borrows self.old }
     {
-        match self.manner.frontend {
+        match self.policy.frontend {
             Frontend::Noninteractive => Ok(()),
             Frontend::Teletype => {
                 let line = percent_text(self.alloc, bar)?;
@@ -132,8 +132,8 @@ impl<'s, 'f, 't, F: Files, T: Link> Session<'s, 'f, 't, F, T> {
 
     // Writes a line on the terminal.
     fn tell_line(&mut self, line: &Text) -> Result<(), StepError>
-        ensures tells { TellsUser (OneLine line.now) (⟦<Session<'s, 'f, 't, F, T> as Heeds>⟧.sight self.old) (⟦<Session<'s, 'f, 't, F, T> as Heeds>⟧.sight self.new) result }
-        ensures held { ⟦<Session<'s, 'f, 't, F, T> as Heeds>⟧.held self.new ≡ ⟦<Session<'s, 'f, 't, F, T> as Heeds>⟧.held self.old }
+        ensures tells { TellsUser (OneLine line.now) (⟦<Session<'s, 'f, 't, F, T> as LineMachine>⟧.state self.old) (⟦<Session<'s, 'f, 't, F, T> as LineMachine>⟧.state self.new) result }
+        ensures borrows { ⟦<Session<'s, 'f, 't, F, T> as LineMachine>⟧.borrows self.new ≡ ⟦<Session<'s, 'f, 't, F, T> as LineMachine>⟧.borrows self.old }
     {
         match tell_on(self.terminal, self.teletype, line) {
             Ok(()) => Ok(()),
@@ -144,8 +144,8 @@ impl<'s, 'f, 't, F: Files, T: Link> Session<'s, 'f, 't, F, T> {
     #[tactic(auto, using(dc_store::proofs::RowLemmas::same_all_refl))]
     // This is the bar.
     fn put_bar(&mut self, bar: Option<Bar>) -> Mem<Stepped>
-        ensures comes { Comes (asks (⟦<Session<'s, 'f, 't, F, T> as Heeds>⟧.sight self.old) (reply 0 (codes "OK")) (with_bar (⟦<Session<'s, 'f, 't, F, T> as Heeds>⟧.sight self.old).asking bar)) [] (⟦<Session<'s, 'f, 't, F, T> as Heeds>⟧.sight self.old) (⟦<Session<'s, 'f, 't, F, T> as Heeds>⟧.sight self.new) result }
-        ensures held { ⟦<Session<'s, 'f, 't, F, T> as Heeds>⟧.held self.new ≡ ⟦<Session<'s, 'f, 't, F, T> as Heeds>⟧.held self.old }
+        ensures comes { Comes (reply_asking (⟦<Session<'s, 'f, 't, F, T> as LineMachine>⟧.state self.old) (reply 0 (codes "OK")) (with_bar (⟦<Session<'s, 'f, 't, F, T> as LineMachine>⟧.state self.old).asking bar)) [] (⟦<Session<'s, 'f, 't, F, T> as LineMachine>⟧.state self.old) (⟦<Session<'s, 'f, 't, F, T> as LineMachine>⟧.state self.new) result }
+        ensures borrows { ⟦<Session<'s, 'f, 't, F, T> as LineMachine>⟧.borrows self.new ≡ ⟦<Session<'s, 'f, 't, F, T> as LineMachine>⟧.borrows self.old }
     {
         let told = says(self.alloc, 0, b"OK")?;
         self.asking.bar = bar;

@@ -11,18 +11,18 @@ ghost use Rattle.dc_session.specs.declared.stepped.Stepped.TheVariants.{Replied}
 use crate::stepped::Stepped;
 use dc_proto::{Reply, print_reply};
 use dc_question::QuestionError;
-use dc_serve::Heeded;
+use dc_serve::Response;
 use dc_text::{Mem, Name, NameRefused, OutOfMemory, Text};
 use std::alloc::Global;
 
 /// What a line comes to as it is sent: a reply as it is printed, in escape mode or in plain mode.
-pub fn sent_in(alloc: Global, stepped: Stepped, escape: bool) -> Mem<Heeded>
+pub fn sent_in(alloc: Global, stepped: Stepped, escape: bool) -> Mem<Response>
     ensures { IfOk result (λ did. did ≡ sent_as escape stepped) }
 {
     match stepped {
-        Stepped::Silent => Ok(Heeded::Silent),
-        Stepped::Stopped => Ok(Heeded::Stopped),
-        Stepped::Replied(reply) => Ok(Heeded::Replied {
+        Stepped::Silent => Ok(Response::Silent),
+        Stepped::Stopped => Ok(Response::Stopped),
+        Stepped::Replied(reply) => Ok(Response::Replied {
             code: reply.code,
             text: print_reply(alloc, &reply, escape)?,
         }),

@@ -5,7 +5,7 @@ ghost use Rattle.dc_conf.specs.Plans.{IsOver, are_disjoint};
 ghost use Rattle.dc_store.specs.Plans.{stored};
 ghost use Rattle.dc_question.specs.Questions.{IsSetOver, Answers};
 ghost use Rattle.dc_question.specs.declared.errors.QuestionError.{QuestionError as QuestionErrorOf};
-ghost use Rattle.dc_session.specs.Asking.{nothing_asked, threshold_by, frontend_by, manner_by};
+ghost use Rattle.dc_session.specs.Asking.{nothing_asked, threshold_by, frontend_by, policy_by};
 ghost use Rattle.dc_session.specs.SessionState.{nothing_typed};
 ghost use Rattle.dc_frontend.specs.Frontends.{frontend_of};
 ghost use Rattle.dc_frontend.specs.declared.frontend.Frontend.TheVariants.{Teletype as OfTeletype};
@@ -14,8 +14,8 @@ ghost use Rattle.dc_proto.specs.Priorities.{priority_of};
 ghost use Rattle.dc_proto.specs.declared.priority.Priority.TheVariants.{High};
 
 use crate::asking::Asking;
-use crate::manner::Manner;
-use crate::session::{Desk, Session};
+use crate::policy::AskPolicy;
+use crate::session::{Session, SessionQuestions};
 use crate::stepped::StepError;
 use dc_conf::Plan;
 use dc_frontend::Frontend;
@@ -23,7 +23,7 @@ use dc_layer::Layer;
 use dc_outside::{Files, Link};
 use dc_proto::Priority;
 use dc_question::{QuestionError, Questions};
-use dc_serve::{Conversation, Heeds, LinkEnd, serve_link};
+use dc_serve::{Conversation, LineMachine, LinkEnd, serve_link};
 use dc_store::Store;
 use dc_teletype::Teletype;
 use dc_text::{Mem, Name, OutOfMemory, Text};
@@ -66,7 +66,7 @@ pub fn serve_layers<L: Link, T: Link, F: Files>(
           terminal = record { link = record { talk = T.talk terminal.old; input = T.left terminal.old; counts = record { faults = T.faults terminal.old; refusals = T.refusals terminal.old } }; ahead = nothing_typed };
           at = record { config = config.now; templates = templates.now; lang = setup.now.lang.now };
           owner = setup.now.owner.now;
-          manner = manner_by setup.now.frontend setup.now.threshold setup.now.nonint_seen (each state layers.old.items) (record { config = config.now; templates = templates.now; lang = setup.now.lang.now });
+          policy = policy_by setup.now.frontend setup.now.threshold setup.now.nonint_seen (each state layers.old.items) (record { config = config.now; templates = templates.now; lang = setup.now.lang.now });
           asking = nothing_asked;
         })
         (each state layers.new.items) (record { told = F.told files.new; counts = F.counts files.new })
@@ -78,9 +78,9 @@ pub fn serve_layers<L: Link, T: Link, F: Files>(
 {
     let mut store = Store::new(alloc, std::mem::replace(layers, Vec::new(alloc)));
     let questions = Questions::new(alloc, &mut store, config, templates, setup.lang);
-    let desk = Desk::new(questions, setup.owner);
-    match manner(alloc, &desk.questions, setup) {
-        Ok(manner) => {
+    let desk = SessionQuestions::new(questions, setup.owner);
+    match policy(alloc, &desk.questions, setup) {
+        Ok(policy) => {
             let mut teletype = Teletype::new(alloc);
             let mut asking = Asking::nothing(alloc);
             serve_desk(
@@ -90,7 +90,7 @@ pub fn serve_layers<L: Link, T: Link, F: Files>(
                 files,
                 layers,
                 desk,
-                manner,
+                policy,
                 &mut teletype,
                 &mut asking,
             )
@@ -113,8 +113,8 @@ fn serve_desk<L: Link, T: Link, F: Files>(
     terminal: &mut T,
     files: &mut F,
     layers: &mut Vec<Box<dyn Layer>>,
-    desk: Desk<'_>,
-    manner: Manner,
+    desk: SessionQuestions<'_>,
+    policy: AskPolicy,
     teletype: &mut Teletype,
     asking: &mut Asking,
 ) -> Conversation<StepError>
@@ -123,9 +123,9 @@ fn serve_desk<L: Link, T: Link, F: Files>(
           store = stored (each state desk.entry.questions.store.now.layers.items) desk.entry.questions.store.now.told;
           files = record { told = F.told files.old; counts = F.counts files.old };
           terminal = record { link = record { talk = T.talk terminal.old; input = T.left terminal.old; counts = record { faults = T.faults terminal.old; refusals = T.refusals terminal.old } }; ahead = teletype.old.ahead };
-          at = desk.entry.questions.setting;
+          at = desk.entry.questions.context;
           owner = desk.entry.owner.now;
-          manner = manner;
+          policy = policy;
           asking = asking.old;
         })
         (each state layers.new.items) (record { told = F.told files.new; counts = F.counts files.new })
@@ -135,7 +135,7 @@ fn serve_desk<L: Link, T: Link, F: Files>(
         result.end result.last_code }
     ensures program { L.program io.new ≡ L.program io.old }
 {
-    let mut session = Session::new(alloc, desk, files, terminal, teletype, manner, asking);
+    let mut session = Session::new(alloc, desk, files, terminal, teletype, policy, asking);
     let ended = serve_session(alloc, io, &mut session);
     let (desk, kept, left) = session.into_parts();
     let_go(kept);
@@ -156,15 +156,15 @@ fn serve_session<'s, 'f, 't, L: Link, F: Files, T: Link>(
     session: &mut Session<'s, 'f, 't, F, T>,
 ) -> Conversation<StepError>
     ensures served { IsServed
-        (⟦<Session<'s, 'f, 't, F, T> as Heeds>⟧.sight session.old)
-        (⟦<Session<'s, 'f, 't, F, T> as Heeds>⟧.sight session.new).store.layers
-        (⟦<Session<'s, 'f, 't, F, T> as Heeds>⟧.sight session.new).files
-        (⟦<Session<'s, 'f, 't, F, T> as Heeds>⟧.sight session.new).terminal.link
+        (⟦<Session<'s, 'f, 't, F, T> as LineMachine>⟧.state session.old)
+        (⟦<Session<'s, 'f, 't, F, T> as LineMachine>⟧.state session.new).store.layers
+        (⟦<Session<'s, 'f, 't, F, T> as LineMachine>⟧.state session.new).files
+        (⟦<Session<'s, 'f, 't, F, T> as LineMachine>⟧.state session.new).terminal.link
         (record { talk = L.talk io.old; input = L.left io.old; counts = record { faults = L.faults io.old; refusals = L.refusals io.old } })
         (record { talk = L.talk io.new; input = L.left io.new; counts = record { faults = L.faults io.new; refusals = L.refusals io.new } })
         result.end result.last_code }
     ensures program { L.program io.new ≡ L.program io.old }
-    ensures held { session.new.desk.questions.store.ghost_name ≡ session.old.desk.questions.store.ghost_name }
+    ensures borrows { session.new.desk.questions.store.ghost_name ≡ session.old.desk.questions.store.ghost_name }
     ensures files_held { session.new.files.ghost_name ≡ session.old.files.ghost_name }
     ensures terminal_held { session.new.terminal.ghost_name ≡ session.old.terminal.ghost_name }
 {
@@ -173,13 +173,13 @@ fn serve_session<'s, 'f, 't, L: Link, F: Files, T: Link>(
 }
 
 // How questions are asked.
-fn manner(alloc: Global, questions: &Questions<'_>, setup: &SessionSetup<'_>) -> Mem<Manner>
-    requires { IsSetOver questions.now.setting (length questions.now.store.now.layers.items) }
-    ensures { IfOk result (λ manner. manner ≡ manner_by setup.now.frontend setup.now.threshold setup.now.nonint_seen (each (λ b. state (b.vtable, b.value)) questions.now.store.now.layers.items) questions.now.setting) }
+fn policy(alloc: Global, questions: &Questions<'_>, setup: &SessionSetup<'_>) -> Mem<AskPolicy>
+    requires { IsSetOver questions.now.context (length questions.now.store.now.layers.items) }
+    ensures { IfOk result (λ policy. policy ≡ policy_by setup.now.frontend setup.now.threshold setup.now.nonint_seen (each (λ b. state (b.vtable, b.value)) questions.now.store.now.layers.items) questions.now.context) }
 {
     let frontend = frontend(alloc, questions, setup.frontend)?;
     let threshold = threshold(alloc, questions, setup.threshold)?;
-    Ok(Manner {
+    Ok(AskPolicy {
         frontend,
         threshold,
         nonint_seen: setup.nonint_seen,
@@ -188,8 +188,8 @@ fn manner(alloc: Global, questions: &Questions<'_>, setup: &SessionSetup<'_>) ->
 
 // What asks the user: what was chosen, else what the value of `debconf/frontend` names, else the teletype.
 fn frontend(alloc: Global, questions: &Questions<'_>, chosen: Option<Frontend>) -> Mem<Frontend>
-    requires { IsSetOver questions.now.setting (length questions.now.store.now.layers.items) }
-    ensures { IfOk result (λ frontend. frontend ≡ frontend_by chosen (each (λ b. state (b.vtable, b.value)) questions.now.store.now.layers.items) questions.now.setting) }
+    requires { IsSetOver questions.now.context (length questions.now.store.now.layers.items) }
+    ensures { IfOk result (λ frontend. frontend ≡ frontend_by chosen (each (λ b. state (b.vtable, b.value)) questions.now.store.now.layers.items) questions.now.context) }
 {
     match chosen {
         Some(frontend) => Ok(frontend),
@@ -199,8 +199,8 @@ fn frontend(alloc: Global, questions: &Questions<'_>, chosen: Option<Frontend>) 
 
 // What the value of `debconf/frontend` names, else the teletype.
 fn said_frontend(alloc: Global, questions: &Questions<'_>) -> Mem<Frontend>
-    requires { IsSetOver questions.now.setting (length questions.now.store.now.layers.items) }
-    ensures { IfOk result (λ frontend. frontend ≡ frontend_by None (each (λ b. state (b.vtable, b.value)) questions.now.store.now.layers.items) questions.now.setting) }
+    requires { IsSetOver questions.now.context (length questions.now.store.now.layers.items) }
+    ensures { IfOk result (λ frontend. frontend ≡ frontend_by None (each (λ b. state (b.vtable, b.value)) questions.now.store.now.layers.items) questions.now.context) }
 {
     let Ok(name) = Name::read(alloc, b"debconf/frontend") else {
         return Err(OutOfMemory);
@@ -222,8 +222,8 @@ fn frontend_said(said: Result<Text, QuestionError>) -> Mem<Frontend>
 // The least priority of a question that is shown: the one that was chosen, else the one that the value of `debconf/priority` names,
 // else high.
 fn threshold(alloc: Global, questions: &Questions<'_>, chosen: Option<Priority>) -> Mem<Priority>
-    requires { IsSetOver questions.now.setting (length questions.now.store.now.layers.items) }
-    ensures { IfOk result (λ threshold. threshold ≡ threshold_by chosen (each (λ b. state (b.vtable, b.value)) questions.now.store.now.layers.items) questions.now.setting) }
+    requires { IsSetOver questions.now.context (length questions.now.store.now.layers.items) }
+    ensures { IfOk result (λ threshold. threshold ≡ threshold_by chosen (each (λ b. state (b.vtable, b.value)) questions.now.store.now.layers.items) questions.now.context) }
 {
     match chosen {
         Some(priority) => Ok(priority),
@@ -233,8 +233,8 @@ fn threshold(alloc: Global, questions: &Questions<'_>, chosen: Option<Priority>)
 
 // The priority that the value of `debconf/priority` names, else high.
 fn said_threshold(alloc: Global, questions: &Questions<'_>) -> Mem<Priority>
-    requires { IsSetOver questions.now.setting (length questions.now.store.now.layers.items) }
-    ensures { IfOk result (λ threshold. threshold ≡ threshold_by None (each (λ b. state (b.vtable, b.value)) questions.now.store.now.layers.items) questions.now.setting) }
+    requires { IsSetOver questions.now.context (length questions.now.store.now.layers.items) }
+    ensures { IfOk result (λ threshold. threshold ≡ threshold_by None (each (λ b. state (b.vtable, b.value)) questions.now.store.now.layers.items) questions.now.context) }
 {
     let Ok(name) = Name::read(alloc, b"debconf/priority") else {
         return Err(OutOfMemory);
@@ -258,11 +258,11 @@ fn finish_served<'s, 'f, 't, F: Files, T: Link>(
     session: &mut Session<'s, 'f, 't, F, T>,
     served: Conversation<StepError>,
 ) -> Conversation<StepError>
-    ensures finishes { Finishes served.end (⟦<Session<'s, 'f, 't, F, T> as Heeds>⟧.sight session.old) (⟦<Session<'s, 'f, 't, F, T> as Heeds>⟧.sight session.new).store.layers result.end }
-    ensures files { (⟦<Session<'s, 'f, 't, F, T> as Heeds>⟧.sight session.new).files ≡ (⟦<Session<'s, 'f, 't, F, T> as Heeds>⟧.sight session.old).files }
-    ensures terminal { (⟦<Session<'s, 'f, 't, F, T> as Heeds>⟧.sight session.new).terminal ≡ (⟦<Session<'s, 'f, 't, F, T> as Heeds>⟧.sight session.old).terminal }
+    ensures finishes { Finishes served.end (⟦<Session<'s, 'f, 't, F, T> as LineMachine>⟧.state session.old) (⟦<Session<'s, 'f, 't, F, T> as LineMachine>⟧.state session.new).store.layers result.end }
+    ensures files { (⟦<Session<'s, 'f, 't, F, T> as LineMachine>⟧.state session.new).files ≡ (⟦<Session<'s, 'f, 't, F, T> as LineMachine>⟧.state session.old).files }
+    ensures terminal { (⟦<Session<'s, 'f, 't, F, T> as LineMachine>⟧.state session.new).terminal ≡ (⟦<Session<'s, 'f, 't, F, T> as LineMachine>⟧.state session.old).terminal }
     ensures code { result.last_code ≡ served.last_code }
-    ensures held { ⟦<Session<'s, 'f, 't, F, T> as Heeds>⟧.held session.new ≡ ⟦<Session<'s, 'f, 't, F, T> as Heeds>⟧.held session.old }
+    ensures borrows { ⟦<Session<'s, 'f, 't, F, T> as LineMachine>⟧.borrows session.new ≡ ⟦<Session<'s, 'f, 't, F, T> as LineMachine>⟧.borrows session.old }
 {
     let Conversation { end, last_code } = served;
     let end = match end {

@@ -7,17 +7,17 @@ ghost use Rattle.dc_store.specs.Plans.{stored};
 ghost use Rattle.dc_question.specs.Questions.{IsSetOver};
 ghost use Rattle.dc_session.specs.SessionState.{SessionState, nothing_typed};
 ghost use Rattle.dc_session.specs.Inside.{DoesHeard};
-ghost use Rattle.dc_session.specs.Machine.{Heeds as HeedsLine, Breaks as BreaksAt, Steps, DoesShowing};
+ghost use Rattle.dc_session.specs.Machine.{Handles as HandlesLine, Aborts as AbortsAt, Steps, DoesShowing};
 
 use crate::asking::Asking;
-use crate::manner::Manner;
+use crate::policy::AskPolicy;
 use crate::replies::{says, sent_in};
 use crate::stepped::{StepError, Stepped, lifted};
 use dc_layer::Layer;
 use dc_outside::{Files, Link};
 use dc_proto::{Command, Heard, read_command};
 use dc_question::Questions;
-use dc_serve::{Heeded, Heeds};
+use dc_serve::{LineMachine, Response};
 use dc_teletype::Teletype;
 use dc_text::Name;
 use dc_words::Line;
@@ -27,12 +27,12 @@ use std::marker::PhantomData;
 /// Questions as a session works on them: by plans that speak of the layers of their store and share none, and for an owner, for whom
 /// questions are registered.
 #[derive(Drop)]
-pub struct Desk<'s> {
+pub struct SessionQuestions<'s> {
     pub questions: Questions<'s>,
     pub owner: &'s Name,
     of: PhantomData<Box<dyn Layer>>,
-    ghost over: { IsSetOver questions.setting (length questions.store.now.layers.items) } by { Prim.hlevel props },
-    ghost apart: { are_disjoint questions.setting.config questions.setting.templates ≡ true } by { Prim.hlevel props },
+    ghost over: { IsSetOver questions.context (length questions.store.now.layers.items) } by { Prim.hlevel props },
+    ghost apart: { are_disjoint questions.context.config questions.context.templates ≡ true } by { Prim.hlevel props },
 }
 
 /// A session (debconf-devel(7)): the questions that its commands read and change, the files in which it looks for templates, the terminal
@@ -40,25 +40,25 @@ pub struct Desk<'s> {
 #[derive(Drop)]
 pub struct Session<'s, 'f, 't, F: Files, T: Link> {
     pub(crate) alloc: Global,
-    pub(crate) desk: Desk<'s>,
+    pub(crate) desk: SessionQuestions<'s>,
     pub(crate) files: &'f mut F,
     pub(crate) terminal: &'t mut T,
     pub(crate) teletype: &'s mut Teletype,
-    pub(crate) manner: Manner,
+    pub(crate) policy: AskPolicy,
     pub(crate) asking: &'s mut Asking,
 }
 
-impl<'s> Desk<'s> {
+impl<'s> SessionQuestions<'s> {
     /// These questions, for this owner.
-    pub fn new(questions: Questions<'s>, owner: &'s Name) -> Desk<'s>
-        requires over { IsSetOver questions.setting (length questions.store.now.layers.items) }
-        requires apart { are_disjoint questions.setting.config questions.setting.templates ≡ true }
+    pub fn new(questions: Questions<'s>, owner: &'s Name) -> SessionQuestions<'s>
+        requires over { IsSetOver questions.context (length questions.store.now.layers.items) }
+        requires apart { are_disjoint questions.context.config questions.context.templates ≡ true }
         ensures store { result.questions.store.now ≡ questions.entry.store.now }
-        ensures held { result.questions.store.ghost_name ≡ questions.entry.store.ghost_name }
-        ensures setting { result.questions.setting ≡ questions.entry.setting }
+        ensures borrows { result.questions.store.ghost_name ≡ questions.entry.store.ghost_name }
+        ensures context { result.questions.context ≡ questions.entry.context }
         ensures owner { result.owner.now ≡ owner.now }
     {
-        Desk {
+        SessionQuestions {
             questions,
             owner,
             of: PhantomData,
@@ -69,7 +69,7 @@ impl<'s> Desk<'s> {
     pub fn into_layers(self, alloc: Global) -> Vec<Box<dyn Layer>>
         ensures { result.items ≡ self.entry.questions.store.now.layers.items }
     {
-        let Desk {
+        let SessionQuestions {
             questions,
             owner: _,
             of: _,
@@ -77,7 +77,7 @@ impl<'s> Desk<'s> {
         let Questions {
             alloc: _,
             store,
-            setting: _,
+            context: _,
         } = questions;
         std::mem::replace(&mut store.layers, Vec::new(alloc))
     }
@@ -88,23 +88,23 @@ impl<'s, 'f, 't, F: Files, T: Link> Session<'s, 'f, 't, F, T> {
     /// for so far is kept where the caller keeps it.
     pub fn new(
         alloc: Global,
-        desk: Desk<'s>,
+        desk: SessionQuestions<'s>,
         files: &'f mut F,
         terminal: &'t mut T,
         teletype: &'s mut Teletype,
-        manner: Manner,
+        policy: AskPolicy,
         asking: &'s mut Asking,
     ) -> Session<'s, 'f, 't, F, T>
-        ensures sight { ⟦<Session<'s, 'f, 't, F, T> as Heeds>⟧.sight result ≡ record {
+        ensures state { ⟦<Session<'s, 'f, 't, F, T> as LineMachine>⟧.state result ≡ record {
           store = stored (each (λ b. (Layer-box b).state b.value) desk.entry.questions.store.now.layers.items) desk.entry.questions.store.now.told;
           files = record { told = F.told files.old; counts = F.counts files.old };
           terminal = record { link = record { talk = T.talk terminal.old; input = T.left terminal.old; counts = record { faults = T.faults terminal.old; refusals = T.refusals terminal.old } }; ahead = teletype.old.ahead };
-          at = desk.entry.questions.setting;
+          at = desk.entry.questions.context;
           owner = desk.entry.owner.now;
-          manner = manner;
+          policy = policy;
           asking = asking.old;
         } }
-        ensures held { result.desk.questions.store.ghost_name ≡ desk.entry.questions.store.ghost_name }
+        ensures borrows { result.desk.questions.store.ghost_name ≡ desk.entry.questions.store.ghost_name }
         ensures files_held { result.files.ghost_name ≡ files.entry.ghost_name }
         ensures terminal_held { result.terminal.ghost_name ≡ terminal.entry.ghost_name }
     {
@@ -114,13 +114,13 @@ impl<'s, 'f, 't, F: Files, T: Link> Session<'s, 'f, 't, F, T> {
             files,
             terminal,
             teletype,
-            manner,
+            policy,
             asking,
         }
     }
 
     /// The desk of the session, its files and its terminal, as it left them.
-    pub(crate) fn into_parts(self) -> (Desk<'s>, &'f mut F, &'t mut T)
+    pub(crate) fn into_parts(self) -> (SessionQuestions<'s>, &'f mut F, &'t mut T)
         ensures desk { result.0 ≡ self.entry.desk }
         ensures files { result.1 ≡ self.entry.files }
         ensures terminal { result.2 ≡ self.entry.terminal }
@@ -131,7 +131,7 @@ impl<'s, 'f, 't, F: Files, T: Link> Session<'s, 'f, 't, F, T> {
             files,
             terminal,
             teletype: _,
-            manner: _,
+            policy: _,
             asking: _,
         } = self;
         (desk, files, terminal)
@@ -139,7 +139,7 @@ impl<'s, 'f, 't, F: Files, T: Link> Session<'s, 'f, 't, F, T> {
 
     /// Whether lines are read and replies are sent escaped now.
     pub fn escape(&self) -> bool
-        ensures { result ≡ (⟦<Session<'s, 'f, 't, F, T> as Heeds>⟧.sight self.now).asking.escape }
+        ensures { result ≡ (⟦<Session<'s, 'f, 't, F, T> as LineMachine>⟧.state self.now).asking.escape }
     {
         self.asking.escape
     }
@@ -148,9 +148,9 @@ impl<'s, 'f, 't, F: Files, T: Link> Session<'s, 'f, 't, F, T> {
     /// What a line comes to, and what it leaves. A line is read in the mode that stands before it. After a refusal, of code 10, 20 or
     /// 100, nothing has changed.
     pub fn step(&mut self, line: &Line) -> Result<Stepped, StepError>
-        ensures ok { IfOk result (λ stepped. Steps (⟦<Session<'s, 'f, 't, F, T> as Heeds>⟧.sight self.old) line.now stepped (⟦<Session<'s, 'f, 't, F, T> as Heeds>⟧.sight self.new)) }
-        ensures err { IfErr result (λ error. BreaksAt (⟦<Session<'s, 'f, 't, F, T> as Heeds>⟧.sight self.old) line.now error (⟦<Session<'s, 'f, 't, F, T> as Heeds>⟧.sight self.new)) }
-        ensures held { ⟦<Session<'s, 'f, 't, F, T> as Heeds>⟧.held self.new ≡ ⟦<Session<'s, 'f, 't, F, T> as Heeds>⟧.held self.old }
+        ensures ok { IfOk result (λ stepped. Steps (⟦<Session<'s, 'f, 't, F, T> as LineMachine>⟧.state self.old) line.now stepped (⟦<Session<'s, 'f, 't, F, T> as LineMachine>⟧.state self.new)) }
+        ensures err { IfErr result (λ error. AbortsAt (⟦<Session<'s, 'f, 't, F, T> as LineMachine>⟧.state self.old) line.now error (⟦<Session<'s, 'f, 't, F, T> as LineMachine>⟧.state self.new)) }
+        ensures borrows { ⟦<Session<'s, 'f, 't, F, T> as LineMachine>⟧.borrows self.new ≡ ⟦<Session<'s, 'f, 't, F, T> as LineMachine>⟧.borrows self.old }
     {
         match line {
             Line::TooLong => lifted(says(self.alloc, 20, b"line too long")),
@@ -163,8 +163,8 @@ impl<'s, 'f, 't, F: Files, T: Link> Session<'s, 'f, 't, F, T> {
 
     // What a line that was read does.
     fn serve(&mut self, heard: Heard) -> Result<Stepped, StepError>
-        ensures does { DoesHeard heard (⟦<Session<'s, 'f, 't, F, T> as Heeds>⟧.sight self.old) (⟦<Session<'s, 'f, 't, F, T> as Heeds>⟧.sight self.new) result }
-        ensures held { ⟦<Session<'s, 'f, 't, F, T> as Heeds>⟧.held self.new ≡ ⟦<Session<'s, 'f, 't, F, T> as Heeds>⟧.held self.old }
+        ensures does { DoesHeard heard (⟦<Session<'s, 'f, 't, F, T> as LineMachine>⟧.state self.old) (⟦<Session<'s, 'f, 't, F, T> as LineMachine>⟧.state self.new) result }
+        ensures borrows { ⟦<Session<'s, 'f, 't, F, T> as LineMachine>⟧.borrows self.new ≡ ⟦<Session<'s, 'f, 't, F, T> as LineMachine>⟧.borrows self.old }
     {
         match heard {
             Heard::Nothing => Ok(Stepped::Silent),
@@ -175,8 +175,8 @@ impl<'s, 'f, 't, F: Files, T: Link> Session<'s, 'f, 't, F, T> {
 
     // What a command is answered, what it shows, and what it does.
     fn run(&mut self, command: &Command) -> Result<Stepped, StepError>
-        ensures does { DoesShowing command.now (⟦<Session<'s, 'f, 't, F, T> as Heeds>⟧.sight self.old) (⟦<Session<'s, 'f, 't, F, T> as Heeds>⟧.sight self.new) result }
-        ensures held { ⟦<Session<'s, 'f, 't, F, T> as Heeds>⟧.held self.new ≡ ⟦<Session<'s, 'f, 't, F, T> as Heeds>⟧.held self.old }
+        ensures does { DoesShowing command.now (⟦<Session<'s, 'f, 't, F, T> as LineMachine>⟧.state self.old) (⟦<Session<'s, 'f, 't, F, T> as LineMachine>⟧.state self.new) result }
+        ensures borrows { ⟦<Session<'s, 'f, 't, F, T> as LineMachine>⟧.borrows self.new ≡ ⟦<Session<'s, 'f, 't, F, T> as LineMachine>⟧.borrows self.old }
     {
         match command {
             Command::Version(version) => lifted(self.version(version)),
@@ -219,30 +219,30 @@ impl<'s, 'f, 't, F: Files, T: Link> Session<'s, 'f, 't, F, T> {
     }
 }
 
-impl<'s, 'f, 't, F: Files, T: Link> Heeds for Session<'s, 'f, 't, F, T> {
+impl<'s, 'f, 't, F: Files, T: Link> LineMachine for Session<'s, 'f, 't, F, T> {
     type Break = StepError;
 
-    ghost Sight = { SessionState };
+    ghost State = { SessionState };
 
-    ghost sight = { λ s. record {
+    ghost state = { λ s. record {
       store = stored (each (λ b. (Layer-box b).state b.value) s.desk.questions.store.now.layers.items) s.desk.questions.store.now.told;
       files = record { told = F.told s.files.now; counts = F.counts s.files.now };
       terminal = record { link = record { talk = T.talk s.terminal.now; input = T.left s.terminal.now; counts = record { faults = T.faults s.terminal.now; refusals = T.refusals s.terminal.now } }; ahead = s.teletype.now.ahead };
-      at = s.desk.questions.setting;
+      at = s.desk.questions.context;
       owner = s.desk.owner.now;
-      manner = s.manner;
+      policy = s.policy;
       asking = s.asking.now;
     } };
 
-    ghost heeds = { HeedsLine };
+    ghost steps = { HandlesLine };
 
-    ghost breaks = { BreaksAt };
+    ghost aborts = { AbortsAt };
 
-    ghost Held = { GName × GName × GName };
+    ghost Borrows = { GName × GName × GName };
 
-    ghost held = { λ s. (s.desk.questions.store.ghost_name, s.files.ghost_name, s.terminal.ghost_name) };
+    ghost borrows = { λ s. (s.desk.questions.store.ghost_name, s.files.ghost_name, s.terminal.ghost_name) };
 
-    fn heed(&mut self, line: &Line) -> Result<Heeded, StepError> {
+    fn handle(&mut self, line: &Line) -> Result<Response, StepError> {
         let escape = self.escape();
         let stepped = self.step(line)?;
         match sent_in(self.alloc, stepped, escape) {

@@ -6,9 +6,9 @@ ghost use Rattle.dc_session.specs.FileLoading.{Takes};
 ghost use Rattle.dc_session.specs.Inside.{HasDistinctNames};
 ghost use Rattle.dc_session.specs.SessionState.{FilesState, TerminalState};
 ghost use Rattle.dc_session.specs.declared.asking.Asking.{Asking};
-ghost use Rattle.dc_session.specs.declared.manner.Manner.{Manner};
+ghost use Rattle.dc_session.specs.declared.policy.AskPolicy.{AskPolicy};
 
-use crate::session::Desk;
+use crate::session::SessionQuestions;
 use crate::template_files::Found;
 use dc_layer::Layer;
 use dc_question::QuestionError;
@@ -30,15 +30,15 @@ pub enum FileEnd {
     Refused(QuestionError),
 }
 
-impl<'s> Desk<'s> {
+impl<'s> SessionQuestions<'s> {
     /// Loads the templates that were found, for the desk's owner (debconf-loadtemplate(1)): all of them, or none.
     pub fn take_templates(&mut self, found: &Found) -> Mem<FileEnd>
         requires distinct { HasDistinctNames found.now }
-        ensures takes { (files : FilesState) (terminal : TerminalState) (manner : Manner) (asking : Asking) → Takes found.now
-            (record { store = stored (each state self.old.questions.store.now.layers.items) self.old.questions.store.now.told; files = files; terminal = terminal; at = self.old.questions.setting; owner = self.old.owner.now; manner = manner; asking = asking })
-            (record { store = stored (each state self.new.questions.store.now.layers.items) self.new.questions.store.now.told; files = files; terminal = terminal; at = self.new.questions.setting; owner = self.new.owner.now; manner = manner; asking = asking }) result }
+        ensures takes { (files : FilesState) (terminal : TerminalState) (policy : AskPolicy) (asking : Asking) → Takes found.now
+            (record { store = stored (each state self.old.questions.store.now.layers.items) self.old.questions.store.now.told; files = files; terminal = terminal; at = self.old.questions.context; owner = self.old.owner.now; policy = policy; asking = asking })
+            (record { store = stored (each state self.new.questions.store.now.layers.items) self.new.questions.store.now.told; files = files; terminal = terminal; at = self.new.questions.context; owner = self.new.owner.now; policy = policy; asking = asking }) result }
         ensures owner { self.new.owner.now ≡ self.old.owner.now }
-        ensures held { self.new.questions.store.ghost_name ≡ self.old.questions.store.ghost_name }
+        ensures borrows { self.new.questions.store.ghost_name ≡ self.old.questions.store.ghost_name }
     {
         match found {
             Found::Unreadable => Ok(FileEnd::Unreadable),
@@ -57,7 +57,7 @@ impl<'s> Desk<'s> {
 
     /// The layers of a desk at which the work is over, as it left them. Their store keeps none.
     pub fn layers_left(self, alloc: Global) -> Vec<Box<dyn Layer>>
-        requires { IsSetOver self.questions.setting (length self.questions.store.now.layers.items) }
+        requires { IsSetOver self.questions.context (length self.questions.store.now.layers.items) }
         ensures { result.items ≡ self.entry.questions.store.now.layers.items }
     {
         self.into_layers(alloc)

@@ -18,7 +18,7 @@ use Rattle.dc_store.specs.Holders.{look_of}
 use Rattle.dc_conf.specs.Plans.{places}
 use Rattle.dc_store.specs.Plans.{StoreState, stored, backup_op, tried, backed_up, told_line, write}
 use Rattle.dc_store.specs.StoreLaws.{IsSameBut, AreSameBut}
-use Rattle.dc_store.specs.Writes.{home, put_at, open_holder, by_case, write_of}
+use Rattle.dc_store.specs.Writes.{copy_target, put_at, writable_holder, by_case, write_of}
 
 -- names that differ don't tie
 apart : (q k : List ℕ) → (q ≡ k → ⊥) → eq_by_cmp text_cmp q k ≡ false
@@ -90,7 +90,7 @@ written_same n ls None (Some p) (Changed item) new h = along n ls (put_at ls p n
 written_same n ls (Some p) up (Changed item) new h = along n ls (put_at ls p n (Changed item)) new h (put_same n ls p (Changed item))
 
 pub write_keeps : (ls new : List LayerState) (ps n : List ℕ) (k : Option Kind) (op : Op) → write_of ls ps n k op ≡ Some new → AreSameBut n ls new
-write_keeps ls new ps n k op h = written_same n ls (open_holder ls ps n) (home ls ps n k) (after_at op (look_of ls ps n)) new h
+write_keeps ls new ps n k op h = written_same n ls (writable_holder ls ps n) (copy_target ls ps n k) (after_at op (look_of ls ps n)) new h
 
 or_same : (n : List ℕ) (ls : List LayerState) (o : Option (List LayerState)) → ((new : List LayerState) → o ≡ Some new → AreSameBut n ls new) → AreSameBut n ls (unwrap_or o ls)
 or_same n ls None h = same_layers n ls

@@ -10,50 +10,50 @@ use Rattle.dc_item.specs.declared.op.Op.TheVariants.{Put}
 use Rattle.dc_template.specs.declared.kinds.Kind.{Kind}
 use Rattle.dc_layer.specs.State.{LayerState, with_made, made_at, refusal}
 use Rattle.dc_store.specs.Holders.{holder_of}
-use Rattle.dc_store.specs.Landings.{LandsAt, IsLanding, AreLandings}
+use Rattle.dc_store.specs.Targets.{LandsAt, IsTarget, AreTargets}
 use Rattle.dc_store.specs.Plans.{StoreState, stored, backed_up, told_line, write, would_take}
-use Rattle.dc_store.specs.Rows.{Write, AreDistinct, AllDistinct, is_refused}
-use Rattle.dc_store.specs.declared.row.Landing.{Landing}
-use Rattle.dc_store.specs.declared.row.Landing.TheVariants.{Nowhere, Anywhere, At}
-use Rattle.dc_store.specs.Writes.{is_writable_at, open_holder, home, landing, change_at, write_of}
+use Rattle.dc_store.specs.Batches.{Write, AreDistinct, AllDistinct, is_refused}
+use Rattle.dc_store.specs.declared.batch.Target.{Target}
+use Rattle.dc_store.specs.declared.batch.Target.TheVariants.{Nowhere, Anywhere, At}
+use Rattle.dc_store.specs.Writes.{is_writable_at, writable_holder, copy_target, put_target, change_at, write_of}
 use Rattle.dc_store.proofs.Searches.{open_holder_within, open_holder_taken, write_held, write_new, home_within, home_taken, put_up_done, put_is}
 use Rattle.dc_store.proofs.TestLemmas.{all_alike, landing_alike, tests_apart}
 
 module _ (ls : List LayerState) (ps n : List ℕ) (k : Option Kind) (p : ℕ) where
   -- home, where there is no holder, or to the holder
-  cases : landing ls ps n k ≡ Some p → ((None ≡ holder_of ls ps n) × (Some p ≡ home ls ps n k)) ⊎ (Some p ≡ open_holder ls ps n)
+  cases : put_target ls ps n k ≡ Some p → ((None ≡ holder_of ls ps n) × (Some p ≡ copy_target ls ps n k)) ⊎ (Some p ≡ writable_holder ls ps n)
   cases h = by_holder (holder_of ls ps n) refl h where
-    by_holder : (o : Option ℕ) → o ≡ holder_of ls ps n → (if is_some o then open_holder ls ps n else home ls ps n k) ≡ Some p
-        → ((None ≡ holder_of ls ps n) × (Some p ≡ home ls ps n k)) ⊎ (Some p ≡ open_holder ls ps n)
+    by_holder : (o : Option ℕ) → o ≡ holder_of ls ps n → (if is_some o then writable_holder ls ps n else copy_target ls ps n k) ≡ Some p
+        → ((None ≡ holder_of ls ps n) × (Some p ≡ copy_target ls ps n k)) ⊎ (Some p ≡ writable_holder ls ps n)
     by_holder None e h = inl (e, sym h)
     by_holder (Some q) e h = inr (sym h)
 
-  pub landed_within : (P : ℕ → Type 0) → All P ps → landing ls ps n k ≡ Some p → P p
+  pub landed_within : (P : ℕ → Type 0) → All P ps → put_target ls ps n k ≡ Some p → P p
   landed_within P all h = ⊎_elim (λ up. home_within P ls ps n k p all (sym up.1)) (λ held. open_holder_within P ls ps n p all held) (cases h)
 
-  pub landed_taken : (item : ItemParts) → landing ls ps n k ≡ Some p → (layer : LayerState) → slice_get ls p ≡ Some layer → refusal layer n (Put item) ≡ None
+  pub landed_taken : (item : ItemParts) → put_target ls ps n k ≡ Some p → (layer : LayerState) → slice_get ls p ≡ Some layer → refusal layer n (Put item) ≡ None
   landed_taken item h = ⊎_elim (λ up. home_taken ls ps n k p item up.1) (λ held. open_holder_taken ls ps n p (Put item) held) (cases h)
 
   -- the layer there gets the item by its own change
-  pub landed : (new : List LayerState) (item : ItemParts) → landing ls ps n k ≡ Some p → new ≡ change_at ls p (λ layer. with_made layer n (made_at layer n (Put item)))
+  pub landed : (new : List LayerState) (item : ItemParts) → put_target ls ps n k ≡ Some p → new ≡ change_at ls p (λ layer. with_made layer n (made_at layer n (Put item)))
       → write_of ls ps n k (Put item) ≡ Some new
   landed new item h is =
       ⊎_elim (λ up. sym (write_new ls ps n k (Put item) up.0) ∙ put_up_done ls new ps n k p item up.1 is) (λ held. write_held ls new ps n k p (Put item) held is) (cases h)
 
 -- without a holder
-pub landing_home : (ls : List LayerState) (ps n : List ℕ) (k : Option Kind) → None ≡ holder_of ls ps n → home ls ps n k ≡ landing ls ps n k
-landing_home ls ps n k h = ap (λ o. if is_some o then open_holder ls ps n else home ls ps n k) h
+pub landing_home : (ls : List LayerState) (ps n : List ℕ) (k : Option Kind) → None ≡ holder_of ls ps n → copy_target ls ps n k ≡ put_target ls ps n k
+landing_home ls ps n k h = ap (λ o. if is_some o then writable_holder ls ps n else copy_target ls ps n k) h
 
 -- with one
-pub landing_held : (ls : List LayerState) (ps n : List ℕ) (k : Option Kind) (p : ℕ) → Some p ≡ holder_of ls ps n → (if is_writable_at ls p then Some p else None) ≡ landing ls ps n k
+pub landing_held : (ls : List LayerState) (ps n : List ℕ) (k : Option Kind) (p : ℕ) → Some p ≡ holder_of ls ps n → (if is_writable_at ls p then Some p else None) ≡ put_target ls ps n k
 landing_held ls ps n k p h =
-    ap (option_and_then (λ q. if is_writable_at ls q then Some q else None)) h ∙ ap (λ o. if is_some o then open_holder ls ps n else home ls ps n k) h
+    ap (option_and_then (λ q. if is_writable_at ls q then Some q else None)) h ∙ ap (λ o. if is_some o then writable_holder ls ps n else copy_target ls ps n k) h
 
 -- ---- the writes of a row
 
-no_landings : (ls : List LayerState) (row : List Write) → AreLandings ls row []
+no_landings : (ls : List LayerState) (batch : List Write) → AreTargets ls batch []
 no_landings ls [] = tt
-no_landings ls (w ∷ row) = tt
+no_landings ls (w ∷ batch) = tt
 
 pub lands_as : (ls : List LayerState) (w : Write) (p : ℕ) → LandsAt ls w p → (item : ItemParts) → w.op ≡ Put item → (new : List LayerState)
     → new ≡ change_at ls p (λ layer. with_made layer w.name (made_at layer w.name (Put item))) → write_of ls (places w.plan.base) w.name w.kind w.op ≡ Some new
@@ -81,7 +81,7 @@ lands_written ls new told w p item at is made =
     ∙ ap (λ t. Some (stored new t)) (append-nil told)
 
 -- once another write is done, it lands there still
-is_still : (store new : StoreState) (v w : Write) (l : Landing) → AreDistinct v w → write store v.plan v.name v.kind v.op ≡ Some new → IsLanding store.layers w l → IsLanding new.layers w l
+is_still : (store new : StoreState) (v w : Write) (l : Target) → AreDistinct v w → write store v.plan v.name v.kind v.op ≡ Some new → IsTarget store.layers w l → IsTarget new.layers w l
 is_still store new v w Nowhere distinct did h = tests_apart store new v w distinct did ∙ h
 is_still store new v w Anywhere distinct did h = tests_apart store new v w distinct did ∙ h
 is_still store new v w (At p) distinct did h = record {
@@ -91,23 +91,23 @@ is_still store new v w (At p) distinct did h = record {
   stands = landing_alike store.layers new.layers w.name w.kind (places w.plan.base) (all_alike store new v w distinct did) ∙ h.stands;
 }
 
-are_still : (store new : StoreState) (v : Write) (row : List Write) (landings : List Landing) → All (AreDistinct v) row → write store v.plan v.name v.kind v.op ≡ Some new
-    → AreLandings store.layers row landings → AreLandings new.layers row landings
-are_still store new v [] landings all did h = tt
-are_still store new v (w ∷ row) [] all did h = tt
-are_still store new v (w ∷ row) (l ∷ landings) all did h = (
-  is_still store new v w l (All-head (AreDistinct v) w row all) did h.0,
-  are_still store new v row landings (All-tail (AreDistinct v) w row all) did h.1,
+are_still : (store new : StoreState) (v : Write) (batch : List Write) (targets : List Target) → All (AreDistinct v) batch → write store v.plan v.name v.kind v.op ≡ Some new
+    → AreTargets store.layers batch targets → AreTargets new.layers batch targets
+are_still store new v [] targets all did h = tt
+are_still store new v (w ∷ batch) [] all did h = tt
+are_still store new v (w ∷ batch) (l ∷ targets) all did h = (
+  is_still store new v w l (All-head (AreDistinct v) w batch all) did h.0,
+  are_still store new v batch targets (All-tail (AreDistinct v) w batch all) did h.1,
 )
 
 -- once the first is done, the rest land where they did
-pub rest_landings : (w : Write) (row : List Write) (landings : List Landing) (store new : StoreState) → AllDistinct (w ∷ row) → write store w.plan w.name w.kind w.op ≡ Some new
-    → AreLandings store.layers row landings → AreLandings new.layers row landings
-rest_landings w row landings store new distinct did h =
-    are_still store new w row landings (All-from_get_or (AreDistinct w) row w (λ k within. distinct 0 (suc k) w (omega arith) (omega arith))) did h
+pub rest_landings : (w : Write) (batch : List Write) (targets : List Target) (store new : StoreState) → AllDistinct (w ∷ batch) → write store w.plan w.name w.kind w.op ≡ Some new
+    → AreTargets store.layers batch targets → AreTargets new.layers batch targets
+rest_landings w batch targets store new distinct did h =
+    are_still store new w batch targets (All-from_get_or (AreDistinct w) batch w (λ k within. distinct 0 (suc k) w (omega arith) (omega arith))) did h
 
 -- the landing of the first, if it is told, and those of the rest
-pub first_landing : (ls : List LayerState) (w : Write) (row : List Write) (landings rest : List Landing) (l : Option Landing) → MatchOption l ((landings ≡ []) × (rest ≡ [])) (λ first. landings ≡ first ∷ rest)
-    → AreLandings ls (w ∷ row) landings → IfSome l (IsLanding ls w) × AreLandings ls row rest
-first_landing ls w row landings rest None is h = (tt, subst (AreLandings ls row) (sym is.1) (no_landings ls row))
-first_landing ls w row landings rest (Some l) is h = subst (AreLandings ls (w ∷ row)) is h
+pub first_landing : (ls : List LayerState) (w : Write) (batch : List Write) (targets rest : List Target) (l : Option Target) → MatchOption l ((targets ≡ []) × (rest ≡ [])) (λ first. targets ≡ first ∷ rest)
+    → AreTargets ls (w ∷ batch) targets → IfSome l (IsTarget ls w) × AreTargets ls batch rest
+first_landing ls w batch targets rest None is h = (tt, subst (AreTargets ls batch) (sym is.1) (no_landings ls batch))
+first_landing ls w batch targets rest (Some l) is h = subst (AreTargets ls (w ∷ batch)) is h

@@ -13,7 +13,7 @@ use Rattle.dc_template.specs.declared.kinds.Kind.{Kind}
 use Rattle.dc_layer.specs.State.{LayerState, is_writable, admits}
 use Rattle.dc_store.specs.Holders.{item_at, has_at, holder_of, look_of}
 use Rattle.dc_store.specs.StoreLaws.{IsTopmost, ChangesOne, IsRefusal}
-use Rattle.dc_store.specs.Writes.{takes_at, open_holder, home, put_at, by_case, write_of, can_change_of}
+use Rattle.dc_store.specs.Writes.{takes_at, writable_holder, copy_target, put_at, by_case, write_of, can_change_of}
 use Rattle.dc_store.proofs.Searches.{find_within, find_passes, above_within, open_is_holder, holder_look}
 
 -- ---- the topmost
@@ -77,7 +77,7 @@ and_both : (a b : Bool) → (a && b) ≡ true → (a ≡ true) × (b ≡ true)
 and_both true b h = (refl, h)
 and_both false b h = cc
 
-held_changes : (ls new : List LayerState) (ps n : List ℕ) (k : Option Kind) (p : ℕ) (made : After) → open_holder ls ps n ≡ Some p → Some (put_at ls p n made) ≡ Some new → ChangesOne ls ps n k new
+held_changes : (ls new : List LayerState) (ps n : List ℕ) (k : Option Kind) (p : ℕ) (made : After) → writable_holder ls ps n ≡ Some p → Some (put_at ls p n made) ≡ Some new → ChangesOne ls ps n k new
 held_changes ls new ps n k p made e h =
     let found = open_is_holder ls (holder_of ls ps n) p e in
     let l = stands_by is_writable ls p (slice_get ls p) refl found.1 in
@@ -93,7 +93,7 @@ held_changes ls new ps n k p made e h =
       leaves = sym same;
     }
 
-home_changes : (ls new : List LayerState) (ps n : List ℕ) (k : Option Kind) (p : ℕ) (made : After) → home ls ps n k ≡ Some p → Some (put_at ls p n made) ≡ Some new → ChangesOne ls ps n k new
+home_changes : (ls new : List LayerState) (ps n : List ℕ) (k : Option Kind) (p : ℕ) (made : After) → copy_target ls ps n k ≡ Some p → Some (put_at ls p n made) ≡ Some new → ChangesOne ls ps n k new
 home_changes ls new ps n k p made e h =
     let l = stands_by (λ layer. is_writable layer && admits layer n k) ls p (slice_get ls p) refl (find_passes (takes_at ls n k) (before_first (has_at ls n) ps) p e) in
     let both = and_both (is_writable l.0.layer) (admits l.0.layer n k) l.1 in
@@ -112,7 +112,7 @@ home_changes ls new ps n k p made e h =
 none_is : {P : Type 0} (bs : List LayerState) → None ≡ Some bs → P
 none_is bs e = cc
 
-one_by : (ls new : List LayerState) (ps n : List ℕ) (k : Option Kind) (held up : Option ℕ) (made : After) → open_holder ls ps n ≡ held → home ls ps n k ≡ up → by_case ls held up n made ≡ Some new
+one_by : (ls new : List LayerState) (ps n : List ℕ) (k : Option Kind) (held up : Option ℕ) (made : After) → writable_holder ls ps n ≡ held → copy_target ls ps n k ≡ up → by_case ls held up n made ≡ Some new
     → (new ≡ ls) ⊎ ChangesOne ls ps n k new
 one_by ls new ps n k held up Same e f h = let same : new ≡ ls = cc in inl same
 one_by ls new ps n k None up Gone e f h = none_is new h
@@ -122,7 +122,7 @@ one_by ls new ps n k None (Some p) (Changed item) e f h = inr (home_changes ls n
 one_by ls new ps n k (Some p) up (Changed item) e f h = inr (held_changes ls new ps n k p (Changed item) e h)
 
 pub changes_one : (ls new : List LayerState) (ps n : List ℕ) (k : Option Kind) (op : Op) → write_of ls ps n k op ≡ Some new → (new ≡ ls) ⊎ ChangesOne ls ps n k new
-changes_one ls new ps n k op h = one_by ls new ps n k (open_holder ls ps n) (home ls ps n k) (after_at op (look_of ls ps n)) refl refl h
+changes_one ls new ps n k op h = one_by ls new ps n k (writable_holder ls ps n) (copy_target ls ps n k) (after_at op (look_of ls ps n)) refl refl h
 
 -- ---- why one is refused
 
@@ -137,7 +137,7 @@ refused_by ls n (Some p) up (Changed item) h = cc
 
 pub refusal_cause : (ls : List LayerState) (ps n : List ℕ) (k : Option Kind) (op : Op) → write_of ls ps n k op ≡ None → IsRefusal ls ps n k op
 refusal_cause ls ps n k op h =
-    let r = refused_by ls n (open_holder ls ps n) (home ls ps n k) (after_at op (look_of ls ps n)) h in
+    let r = refused_by ls n (writable_holder ls ps n) (copy_target ls ps n k) (after_at op (look_of ls ps n)) h in
     record { changes = r.0; held = r.1; homeless = r.2 }
 
 -- ---- what can be changed
@@ -167,17 +167,17 @@ some_of f (Some p) h = refl
 
 module _ (ls : List LayerState) (ps n : List ℕ) (k : Option Kind) where
   pub changeable_there : can_change_of ls ps n k ≡ true → is_some (look_of ls ps n) ≡ true
-  changeable_there h = by_holder (holder_of ls ps n) refl (and_both (is_some (holder_of ls ps n)) (is_some (open_holder ls ps n) || is_some (home ls ps n k)) h).0 where
+  changeable_there h = by_holder (holder_of ls ps n) refl (and_both (is_some (holder_of ls ps n)) (is_some (writable_holder ls ps n) || is_some (copy_target ls ps n k)) h).0 where
     by_holder : (o : Option ℕ) → holder_of ls ps n ≡ o → is_some o ≡ true → is_some (look_of ls ps n) ≡ true
     by_holder None e some = cc
     by_holder (Some p) e some = ap is_some (sym (holder_look ls ps n p e)) ∙ find_passes (has_at ls n) ps p e
 
   pub changeable_taken : (op : Op) → can_change_of ls ps n k ≡ true → (after_at op (look_of ls ps n) ≡ Gone → ⊥) → is_some (write_of ls ps n k op) ≡ true
   changeable_taken op h stays =
-      taken_by ls n (open_holder ls ps n) (home ls ps n k) (after_at op (look_of ls ps n))
-      (and_both (is_some (holder_of ls ps n)) (is_some (open_holder ls ps n) || is_some (home ls ps n k)) h).1 stays
+      taken_by ls n (writable_holder ls ps n) (copy_target ls ps n k) (after_at op (look_of ls ps n))
+      (and_both (is_some (holder_of ls ps n)) (is_some (writable_holder ls ps n) || is_some (copy_target ls ps n k)) h).1 stays
 
   pub unchangeable_refused : (op : Op) → is_some (look_of ls ps n) ≡ true → can_change_of ls ps n k ≡ false → (after_at op (look_of ls ps n) ≡ Same → ⊥) → is_some (write_of ls ps n k op) ≡ false
   unchangeable_refused op there h changes =
-      left_by ls n (open_holder ls ps n) (home ls ps n k) (after_at op (look_of ls ps n))
-      (and_second (is_some (holder_of ls ps n)) (is_some (open_holder ls ps n) || is_some (home ls ps n k)) (some_of (λ p. item_at ls p n) (holder_of ls ps n) there) h) changes
+      left_by ls n (writable_holder ls ps n) (copy_target ls ps n k) (after_at op (look_of ls ps n))
+      (and_second (is_some (holder_of ls ps n)) (is_some (writable_holder ls ps n) || is_some (copy_target ls ps n k)) (some_of (λ p. item_at ls p n) (holder_of ls ps n) there) h) changes

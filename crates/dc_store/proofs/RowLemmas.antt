@@ -7,13 +7,13 @@ use Rattle.std.proofs.lemmas.List.Elements.{All-head, All-tail, All-from_get_or}
 use Rattle.dc_layer.specs.State.{LayerState}
 use Rattle.dc_conf.specs.Plans.{places}
 use Rattle.dc_store.specs.Plans.{StoreState, stored, backed_up, told_line, write}
-use Rattle.dc_store.specs.Rows.{Write, AllDistinct, names_of, is_refused, all_done, row_done}
+use Rattle.dc_store.specs.Batches.{Write, AllDistinct, names_of, is_refused, all_done, commit}
 use Rattle.dc_store.specs.StoreLaws.{AreSameBut, AreSameButAll}
 use Rattle.dc_store.specs.Writes.{write_of}
 use Rattle.dc_store.proofs.TestLemmas.{tests_apart}
 
 -- a row of one write is that write
-pub row_of_one : (store : StoreState) (w : Write) → row_done store (w ∷ []) ≡ write store w.plan w.name w.kind w.op
+pub row_of_one : (store : StoreState) (w : Write) → commit store (w ∷ []) ≡ write store w.plan w.name w.kind w.op
 row_of_one store w = taken (write_of store.layers (places w.plan.base) w.name w.kind w.op) where
   left : List LayerState → StoreState
   left layers = stored (backed_up layers w.plan.base w.plan.backup w.name w.kind) (store.told ++ told_line w.plan.debug w.op w.name)
@@ -34,24 +34,24 @@ or_false true b e = cc
 or_false false b e = (refl, e)
 
 -- the first isn't refused
-pub first_taken : (ls : List LayerState) (w : Write) (row : List Write) → list_any (is_refused ls) (w ∷ row) ≡ false → is_refused ls w ≡ false
-first_taken ls w row free = (or_false (is_refused ls w) (list_any (is_refused ls) row) free).0
+pub first_taken : (ls : List LayerState) (w : Write) (batch : List Write) → list_any (is_refused ls) (w ∷ batch) ≡ false → is_refused ls w ≡ false
+first_taken ls w batch free = (or_false (is_refused ls w) (list_any (is_refused ls) batch) free).0
 
 -- once it is done, none of the rest is refused
-pub rest_taken : (w : Write) (row : List Write) (store new : StoreState) → AllDistinct (w ∷ row) → write store w.plan w.name w.kind w.op ≡ Some new
-    → list_any (is_refused store.layers) (w ∷ row) ≡ false → list_any (is_refused new.layers) row ≡ false
-rest_taken w row store new distinct did free =
-    any_same (is_refused new.layers) (is_refused store.layers) row
-    (All-from_get_or (λ x. is_refused new.layers x ≡ is_refused store.layers x) row w
-    (λ k within. tests_apart store new w (get_or row k w) (distinct 0 (suc k) w (omega arith) (omega arith)) did))
-    ∙ (or_false (is_refused store.layers w) (list_any (is_refused store.layers) row) free).1
+pub rest_taken : (w : Write) (batch : List Write) (store new : StoreState) → AllDistinct (w ∷ batch) → write store w.plan w.name w.kind w.op ≡ Some new
+    → list_any (is_refused store.layers) (w ∷ batch) ≡ false → list_any (is_refused new.layers) batch ≡ false
+rest_taken w batch store new distinct did free =
+    any_same (is_refused new.layers) (is_refused store.layers) batch
+    (All-from_get_or (λ x. is_refused new.layers x ≡ is_refused store.layers x) batch w
+    (λ k within. tests_apart store new w (get_or batch k w) (distinct 0 (suc k) w (omega arith) (omega arith)) did))
+    ∙ (or_false (is_refused store.layers w) (list_any (is_refused store.layers) batch) free).1
 
 -- and the rest leave what all were to leave
-pub rest_left : (w : Write) (row : List Write) (store new final : StoreState) → write store w.plan w.name w.kind w.op ≡ Some new → all_done store (w ∷ row) ≡ final → all_done new row ≡ final
-rest_left w row store new final did left = sym (ap (λ o. all_done (unwrap_or o store) row) did) ∙ left
+pub rest_left : (w : Write) (batch : List Write) (store new final : StoreState) → write store w.plan w.name w.kind w.op ≡ Some new → all_done store (w ∷ batch) ≡ final → all_done new batch ≡ final
+rest_left w batch store new final did left = sym (ap (λ o. all_done (unwrap_or o store) batch) did) ∙ left
 
-pub rest_distinct : (w : Write) (row : List Write) → AllDistinct (w ∷ row) → AllDistinct row
-rest_distinct w row distinct i j default apart within = distinct (suc i) (suc j) default (omega arith) (omega arith)
+pub rest_distinct : (w : Write) (batch : List Write) → AllDistinct (w ∷ batch) → AllDistinct batch
+rest_distinct w batch distinct i j default apart within = distinct (suc i) (suc j) default (omega arith) (omega arith)
 
 -- ---- the other names
 
@@ -93,8 +93,8 @@ same_all_then ns (x ∷ xs) (y ∷ ys) (z ∷ zs) p q = (
 
 -- ---- what a row names
 
-pub first_name : (w : Write) (row : List Write) → Contains (names_of (w ∷ row)) w.name
-first_name w row = (0, omega arith, refl)
+pub first_name : (w : Write) (batch : List Write) → Contains (names_of (w ∷ batch)) w.name
+first_name w batch = (0, omega arith, refl)
 
-pub other_name : (w : Write) (row : List Write) (name : List ℕ) → Contains (names_of row) name → Contains (names_of (w ∷ row)) name
-other_name w row name in' = (suc in'.0, omega (arith, in'.1), in'.2)
+pub other_name : (w : Write) (batch : List Write) (name : List ℕ) → Contains (names_of batch) name → Contains (names_of (w ∷ batch)) name
+other_name w batch name in' = (suc in'.0, omega (arith, in'.1), in'.2)

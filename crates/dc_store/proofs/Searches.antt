@@ -19,7 +19,7 @@ use Rattle.dc_template.specs.declared.kinds.Kind.{Kind}
 use Rattle.dc_layer.specs.State.{LayerState, is_writable, admits, with_made, made_at, refusal, is_put}
 use Rattle.dc_layer.specs.declared.layer.LayerError.TheVariants.{ReadOnly, NotHere}
 use Rattle.dc_store.specs.Holders.{item_at, has_at, holder_of, look_of, has_below_of}
-use Rattle.dc_store.specs.Writes.{is_writable_at, takes_at, open_holder, home, change_at, put_at, put_up, by_case, write_of}
+use Rattle.dc_store.specs.Writes.{is_writable_at, takes_at, writable_holder, copy_target, change_at, put_at, put_up, by_case, write_of}
 
 -- ---- the first of a list
 
@@ -85,7 +85,7 @@ look_step ls q ps n =
     ] refl
 
 pub home_step : (ls : List LayerState) (q : ℕ) (ps n : List ℕ) (k : Option Kind)
-    → home ls (q ∷ ps) n k ≡ cond (has_at ls n q) None (cond (takes_at ls n k q) (Some q) (home ls ps n k))
+    → copy_target ls (q ∷ ps) n k ≡ cond (has_at ls n q) None (cond (takes_at ls n k q) (Some q) (copy_target ls ps n k))
 home_step ls q ps n k = find_above (takes_at ls n k) (has_at ls n) q ps
 
 pub below_step : (ls : List LayerState) (q : ℕ) (ps n : List ℕ)
@@ -99,24 +99,24 @@ any_find p (x ∷ xs) = elim (p x) as (λ b. is_some (cond b (Some x) (find p xs
 
 -- the same at a place of the list
 pub home_found : (ls : List LayerState) (ps n : List ℕ) (k : Option Kind) (i : ℕ) → i < length ps → has_at ls n (get_or ps i 0) ≡ false → takes_at ls n k (get_or ps i 0) ≡ true
-    → home ls (drop i ps) n k ≡ Some (get_or ps i 0)
+    → copy_target ls (drop i ps) n k ≡ Some (get_or ps i 0)
 home_found ls ps n k i h has takes =
-    ap (λ qs. home ls qs n k) (drop-cons ps i 0 h) ∙ home_step ls (get_or ps i 0) (drop (suc i) ps) n k
-    ∙ ap (λ b. cond b None (cond (takes_at ls n k (get_or ps i 0)) (Some (get_or ps i 0)) (home ls (drop (suc i) ps) n k))) has
-    ∙ ap (λ b. cond b (Some (get_or ps i 0)) (home ls (drop (suc i) ps) n k)) takes
+    ap (λ qs. copy_target ls qs n k) (drop-cons ps i 0 h) ∙ home_step ls (get_or ps i 0) (drop (suc i) ps) n k
+    ∙ ap (λ b. cond b None (cond (takes_at ls n k (get_or ps i 0)) (Some (get_or ps i 0)) (copy_target ls (drop (suc i) ps) n k))) has
+    ∙ ap (λ b. cond b (Some (get_or ps i 0)) (copy_target ls (drop (suc i) ps) n k)) takes
 
 pub home_past : (ls : List LayerState) (ps n : List ℕ) (k : Option Kind) (i : ℕ) → i < length ps → has_at ls n (get_or ps i 0) ≡ false → takes_at ls n k (get_or ps i 0) ≡ false
-    → home ls (drop i ps) n k ≡ home ls (drop (i + 1) ps) n k
+    → copy_target ls (drop i ps) n k ≡ copy_target ls (drop (i + 1) ps) n k
 home_past ls ps n k i h has takes =
-    ap (λ qs. home ls qs n k) (drop-cons ps i 0 h) ∙ home_step ls (get_or ps i 0) (drop (suc i) ps) n k
-    ∙ ap (λ b. cond b None (cond (takes_at ls n k (get_or ps i 0)) (Some (get_or ps i 0)) (home ls (drop (suc i) ps) n k))) has
-    ∙ ap (λ b. cond b (Some (get_or ps i 0)) (home ls (drop (suc i) ps) n k)) takes
-    ∙ ap (λ j. home ls (drop j ps) n k) (sym (add-one i))
+    ap (λ qs. copy_target ls qs n k) (drop-cons ps i 0 h) ∙ home_step ls (get_or ps i 0) (drop (suc i) ps) n k
+    ∙ ap (λ b. cond b None (cond (takes_at ls n k (get_or ps i 0)) (Some (get_or ps i 0)) (copy_target ls (drop (suc i) ps) n k))) has
+    ∙ ap (λ b. cond b (Some (get_or ps i 0)) (copy_target ls (drop (suc i) ps) n k)) takes
+    ∙ ap (λ j. copy_target ls (drop j ps) n k) (sym (add-one i))
 
-pub home_none : (ls : List LayerState) (ps n : List ℕ) (k : Option Kind) (i : ℕ) → i < length ps → has_at ls n (get_or ps i 0) ≡ true → home ls (drop i ps) n k ≡ None
+pub home_none : (ls : List LayerState) (ps n : List ℕ) (k : Option Kind) (i : ℕ) → i < length ps → has_at ls n (get_or ps i 0) ≡ true → copy_target ls (drop i ps) n k ≡ None
 home_none ls ps n k i h has =
-    ap (λ qs. home ls qs n k) (drop-cons ps i 0 h) ∙ home_step ls (get_or ps i 0) (drop (suc i) ps) n k
-    ∙ ap (λ b. cond b None (cond (takes_at ls n k (get_or ps i 0)) (Some (get_or ps i 0)) (home ls (drop (suc i) ps) n k))) has
+    ap (λ qs. copy_target ls qs n k) (drop-cons ps i 0 h) ∙ home_step ls (get_or ps i 0) (drop (suc i) ps) n k
+    ∙ ap (λ b. cond b None (cond (takes_at ls n k (get_or ps i 0)) (Some (get_or ps i 0)) (copy_target ls (drop (suc i) ps) n k))) has
 
 pub below_found : (ls : List LayerState) (ps n : List ℕ) (i : ℕ) → i < length ps → has_at ls n (get_or ps i 0) ≡ true
     → has_below_of ls (drop i ps) n ≡ list_any (has_at ls n) (drop (i + 1) ps)
@@ -151,13 +151,13 @@ holder_behind ls ps n i o h is at =
 
 -- ---- what the holder tells
 
-pub held_open : (ls : List LayerState) (ps n : List ℕ) (p : ℕ) → Some p ≡ holder_of ls ps n → is_writable_at ls p ≡ true → Some p ≡ open_holder ls ps n
+pub held_open : (ls : List LayerState) (ps n : List ℕ) (p : ℕ) → Some p ≡ holder_of ls ps n → is_writable_at ls p ≡ true → Some p ≡ writable_holder ls ps n
 held_open ls ps n p h w = sym (ap (option_and_then (λ q. if is_writable_at ls q then Some q else None)) (sym h) ∙ ap (λ b. if b then Some p else None) w)
 
-pub held_closed : (ls : List LayerState) (ps n : List ℕ) (p : ℕ) → Some p ≡ holder_of ls ps n → is_writable_at ls p ≡ false → None ≡ open_holder ls ps n
+pub held_closed : (ls : List LayerState) (ps n : List ℕ) (p : ℕ) → Some p ≡ holder_of ls ps n → is_writable_at ls p ≡ false → None ≡ writable_holder ls ps n
 held_closed ls ps n p h w = sym (ap (option_and_then (λ q. if is_writable_at ls q then Some q else None)) (sym h) ∙ ap (λ b. if b then Some p else None) w)
 
-pub none_open : (ls : List LayerState) (ps n : List ℕ) → None ≡ holder_of ls ps n → None ≡ open_holder ls ps n
+pub none_open : (ls : List LayerState) (ps n : List ℕ) → None ≡ holder_of ls ps n → None ≡ writable_holder ls ps n
 none_open ls ps n h = ap (option_and_then (λ q. if is_writable_at ls q then Some q else None)) h
 
 pub none_seen : (ls : List LayerState) (ps n : List ℕ) → None ≡ holder_of ls ps n → None ≡ look_of ls ps n
@@ -217,10 +217,10 @@ home_made ls p n item is = held_made ls p n (Put item) None (none_from _ is)
 
 -- ---- a write by the holder
 
-pub open_holder_within : (P : ℕ → Type 0) (ls : List LayerState) (ps n : List ℕ) (p : ℕ) → All P ps → Some p ≡ open_holder ls ps n → P p
+pub open_holder_within : (P : ℕ → Type 0) (ls : List LayerState) (ps n : List ℕ) (p : ℕ) → All P ps → Some p ≡ writable_holder ls ps n → P p
 open_holder_within P ls ps n p all h = find_within (has_at ls n) P ps p all (open_is_holder ls (holder_of ls ps n) p (sym h)).0
 
-pub open_holder_taken : (ls : List LayerState) (ps n : List ℕ) (p : ℕ) (op : Op) → Some p ≡ open_holder ls ps n → (layer : LayerState) → slice_get ls p ≡ Some layer → refusal layer n op ≡ None
+pub open_holder_taken : (ls : List LayerState) (ps n : List ℕ) (p : ℕ) (op : Op) → Some p ≡ writable_holder ls ps n → (layer : LayerState) → slice_get ls p ≡ Some layer → refusal layer n op ≡ None
 open_holder_taken ls ps n p op h =
     let is = open_is_holder ls (holder_of ls ps n) p (sym h) in
     held_taken ls p n op is.1 (find_passes (has_at ls n) ps p is.0)
@@ -230,36 +230,36 @@ put_none [] p n = refl
 put_none (l ∷ ls) zero n = refl
 put_none (l ∷ ls) (suc p) n = ap (λ xs. l ∷ xs) (put_none ls p n)
 
-written_held : (ls : List LayerState) (p : ℕ) (home : Option ℕ) (n : List ℕ) (made : After) → by_case ls (Some p) home n made ≡ Some (put_at ls p n made)
+written_held : (ls : List LayerState) (p : ℕ) (copy_target : Option ℕ) (n : List ℕ) (made : After) → by_case ls (Some p) copy_target n made ≡ Some (put_at ls p n made)
 written_held ls p h n Same = ap Some (sym (put_none ls p n))
 written_held ls p h n (Changed item) = refl
 written_held ls p h n Gone = refl
 
-pub write_held : (ls new : List LayerState) (ps n : List ℕ) (k : Option Kind) (p : ℕ) (op : Op) → Some p ≡ open_holder ls ps n → new ≡ change_at ls p (λ layer. with_made layer n (made_at layer n op)) → write_of ls ps n k op ≡ Some new
+pub write_held : (ls new : List LayerState) (ps n : List ℕ) (k : Option Kind) (p : ℕ) (op : Op) → Some p ≡ writable_holder ls ps n → new ≡ change_at ls p (λ layer. with_made layer n (made_at layer n op)) → write_of ls ps n k op ≡ Some new
 write_held ls new ps n k p op h is =
     let found = open_is_holder ls (holder_of ls ps n) p (sym h) in
-    ap (λ o. by_case ls o (home ls ps n k) n (after_at op (look_of ls ps n))) (sym h)
-    ∙ written_held ls p (home ls ps n k) n (after_at op (look_of ls ps n))
+    ap (λ o. by_case ls o (copy_target ls ps n k) n (after_at op (look_of ls ps n))) (sym h)
+    ∙ written_held ls p (copy_target ls ps n k) n (after_at op (look_of ls ps n))
     ∙ ap Some (sym (held_made ls p n op (look_of ls ps n) (holder_look ls ps n p found.0)) ∙ sym is)
 
 -- ---- a write that no holder takes
 
-pub write_above : (ls : List LayerState) (ps n : List ℕ) (k : Option Kind) (op : Op) (o : Option ItemParts) → None ≡ open_holder ls ps n → o ≡ look_of ls ps n
-    → by_case ls None (home ls ps n k) n (after_at op o) ≡ write_of ls ps n k op
-write_above ls ps n k op o h is = λ i. by_case ls (h i) (home ls ps n k) n (after_at op (is i))
+pub write_above : (ls : List LayerState) (ps n : List ℕ) (k : Option Kind) (op : Op) (o : Option ItemParts) → None ≡ writable_holder ls ps n → o ≡ look_of ls ps n
+    → by_case ls None (copy_target ls ps n k) n (after_at op o) ≡ write_of ls ps n k op
+write_above ls ps n k op o h is = λ i. by_case ls (h i) (copy_target ls ps n k) n (after_at op (is i))
 
-pub write_new : (ls : List LayerState) (ps n : List ℕ) (k : Option Kind) (op : Op) → None ≡ holder_of ls ps n → by_case ls None (home ls ps n k) n (after_none op) ≡ write_of ls ps n k op
+pub write_new : (ls : List LayerState) (ps n : List ℕ) (k : Option Kind) (op : Op) → None ≡ holder_of ls ps n → by_case ls None (copy_target ls ps n k) n (after_none op) ≡ write_of ls ps n k op
 write_new ls ps n k op h = write_above ls ps n k op None (none_open ls ps n h) (none_seen ls ps n h)
 
 -- ---- an item put up
 
-pub home_within : (P : ℕ → Type 0) (ls : List LayerState) (ps n : List ℕ) (k : Option Kind) (p : ℕ) → All P ps → home ls ps n k ≡ Some p → P p
+pub home_within : (P : ℕ → Type 0) (ls : List LayerState) (ps n : List ℕ) (k : Option Kind) (p : ℕ) → All P ps → copy_target ls ps n k ≡ Some p → P p
 home_within P ls ps n k p all h = find_within (takes_at ls n k) P (before_first (has_at ls n) ps) p (above_within P (has_at ls n) ps all) h
 
-pub home_taken : (ls : List LayerState) (ps n : List ℕ) (k : Option Kind) (p : ℕ) (item : ItemParts) → Some p ≡ home ls ps n k → (layer : LayerState) → slice_get ls p ≡ Some layer → refusal layer n (Put item) ≡ None
+pub home_taken : (ls : List LayerState) (ps n : List ℕ) (k : Option Kind) (p : ℕ) (item : ItemParts) → Some p ≡ copy_target ls ps n k → (layer : LayerState) → slice_get ls p ≡ Some layer → refusal layer n (Put item) ≡ None
 home_taken ls ps n k p item h = put_taken ls p n k item (find_passes (takes_at ls n k) (before_first (has_at ls n) ps) p (sym h))
 
-pub put_up_done : (ls new : List LayerState) (ps n : List ℕ) (k : Option Kind) (p : ℕ) (item : ItemParts) → Some p ≡ home ls ps n k → new ≡ change_at ls p (λ layer. with_made layer n (made_at layer n (Put item))) → put_up ls (home ls ps n k) n item ≡ Some new
+pub put_up_done : (ls new : List LayerState) (ps n : List ℕ) (k : Option Kind) (p : ℕ) (item : ItemParts) → Some p ≡ copy_target ls ps n k → new ≡ change_at ls p (λ layer. with_made layer n (made_at layer n (Put item))) → put_up ls (copy_target ls ps n k) n item ≡ Some new
 put_up_done ls new ps n k p item h is =
     ap (λ o. put_up ls o n item) (sym h) ∙ ap Some (sym (home_made ls p n item (above_fails (takes_at ls n k) (has_at ls n) ps p (sym h))) ∙ sym is)
 
@@ -283,18 +283,18 @@ makes_none (SetVar key value) is = refl
 makes_none (AddOwner owner) is = refl
 makes_none (DropOwners owners) is = refl
 
-pub made_taken : (ls : List LayerState) (ps n : List ℕ) (k : Option Kind) (p : ℕ) (op : Op) → is_put op ≡ true → Some p ≡ home ls ps n k → (layer : LayerState) → slice_get ls p ≡ Some layer → refusal layer n op ≡ None
+pub made_taken : (ls : List LayerState) (ps n : List ℕ) (k : Option Kind) (p : ℕ) (op : Op) → is_put op ≡ true → Some p ≡ copy_target ls ps n k → (layer : LayerState) → slice_get ls p ≡ Some layer → refusal layer n op ≡ None
 made_taken ls ps n k p op is h =
     let put = put_is op is in subst (λ o. (layer : LayerState) → slice_get ls p ≡ Some layer → refusal layer n o ≡ None) (sym put.1) (home_taken ls ps n k p put.0 h)
 
-pub made_done : (ls new : List LayerState) (ps n : List ℕ) (k : Option Kind) (p : ℕ) (op : Op) → is_put op ≡ true → Some p ≡ home ls ps n k → new ≡ change_at ls p (λ layer. with_made layer n (made_at layer n op))
-    → by_case ls None (home ls ps n k) n (after_none op) ≡ Some new
+pub made_done : (ls new : List LayerState) (ps n : List ℕ) (k : Option Kind) (p : ℕ) (op : Op) → is_put op ≡ true → Some p ≡ copy_target ls ps n k → new ≡ change_at ls p (λ layer. with_made layer n (made_at layer n op))
+    → by_case ls None (copy_target ls ps n k) n (after_none op) ≡ Some new
 made_done ls new ps n k p op is h made =
     let put = put_is op is in
-    ap (λ o. by_case ls None (home ls ps n k) n (after_none o)) put.1
+    ap (λ o. by_case ls None (copy_target ls ps n k) n (after_none o)) put.1
     ∙ put_up_done ls new ps n k p put.0 h (made ∙ ap (λ o. change_at ls p (λ layer. with_made layer n (made_at layer n o))) put.1)
 
-pub made_refused : (ls : List LayerState) (ps n : List ℕ) (k : Option Kind) (op : Op) → is_put op ≡ true → None ≡ home ls ps n k → by_case ls None (home ls ps n k) n (after_none op) ≡ None
+pub made_refused : (ls : List LayerState) (ps n : List ℕ) (k : Option Kind) (op : Op) → is_put op ≡ true → None ≡ copy_target ls ps n k → by_case ls None (copy_target ls ps n k) n (after_none op) ≡ None
 made_refused ls ps n k op is h = let put = put_is op is in λ i. by_case ls None (sym h i) n (after_none (put.1 i))
 
 -- ---- a write to the topmost place

@@ -14,7 +14,7 @@ use Rattle.dc_item.specs.declared.op.After.TheVariants.{Changed}
 use Rattle.dc_template.specs.declared.kinds.Kind.{Kind}
 use Rattle.dc_layer.specs.State.{LayerState, is_writable, with_made}
 use Rattle.dc_store.specs.Holders.{item_at, has_at, holder_of, look_of, above}
-use Rattle.dc_store.specs.Writes.{is_writable_at, takes_at, open_holder, home, change_at, put_at, by_case, write_of}
+use Rattle.dc_store.specs.Writes.{is_writable_at, takes_at, writable_holder, copy_target, change_at, put_at, by_case, write_of}
 use Rattle.dc_store.proofs.LawLemmas.{PartsAt, first_parts, stands_at, StandsAt}
 use Rattle.dc_store.proofs.Searches.{find_within, find_passes, find_above, above_fails, open_is_holder, look_step}
 
@@ -91,10 +91,10 @@ home_parts t h [] x e = cc
 home_parts t h (y ∷ xs) x e = home_parts_step t h y x xs (find t (before_first h xs)) (λ e. home_parts t h xs x e) (sym (find_above t h y xs) ∙ e)
 
 -- a layer stands at the place of a home, and at that of a holder that is writable
-home_stands : (ls : List LayerState) (ps n : List ℕ) (k : Option Kind) (p : ℕ) → home ls ps n k ≡ Some p → StandsAt ls p
+home_stands : (ls : List LayerState) (ps n : List ℕ) (k : Option Kind) (p : ℕ) → copy_target ls ps n k ≡ Some p → StandsAt ls p
 home_stands ls ps n k p e = stands_at _ ls p (find_passes (takes_at ls n k) (before_first (has_at ls n) ps) p e)
 
-seen_by : (ls new : List LayerState) (ps n : List ℕ) (k : Option Kind) (held up : Option ℕ) (item : ItemParts) → open_holder ls ps n ≡ held → home ls ps n k ≡ up
+seen_by : (ls new : List LayerState) (ps n : List ℕ) (k : Option Kind) (held up : Option ℕ) (item : ItemParts) → writable_holder ls ps n ≡ held → copy_target ls ps n k ≡ up
     → by_case ls held up n (Changed item) ≡ Some new → look_of new ps n ≡ Some item
 seen_by ls new ps n k None None item e f h = cc
 seen_by ls new ps n k (Some p) up item e f h =
@@ -110,11 +110,11 @@ seen_by ls new ps n k None (Some p) item e f h =
 pub seen : (ls new : List LayerState) (ps n : List ℕ) (k : Option Kind) (op : Op) (item : ItemParts) → write_of ls ps n k op ≡ Some new
     → after_at op (look_of ls ps n) ≡ Changed item → look_of new ps n ≡ Some item
 seen ls new ps n k op item h m =
-    seen_by ls new ps n k (open_holder ls ps n) (home ls ps n k) item refl refl (ap (λ x. by_case ls (open_holder ls ps n) (home ls ps n k) n x) (sym m) ∙ h)
+    seen_by ls new ps n k (writable_holder ls ps n) (copy_target ls ps n k) item refl refl (ap (λ x. by_case ls (writable_holder ls ps n) (copy_target ls ps n k) n x) (sym m) ∙ h)
 
 -- ---- a copy
 
-copied_by : (ls new : List LayerState) (ps n : List ℕ) (k : Option Kind) (up : Option ℕ) (item : ItemParts) (holder : ℕ) → home ls ps n k ≡ up → has_at ls n holder ≡ true
+copied_by : (ls new : List LayerState) (ps n : List ℕ) (k : Option Kind) (up : Option ℕ) (item : ItemParts) (holder : ℕ) → copy_target ls ps n k ≡ up → has_at ls n holder ≡ true
     → by_case ls None up n (Changed item) ≡ Some new → (place : ℕ) × Contains (above ls ps n) place × (item_at new place n ≡ Some item) × (item_at new holder n ≡ item_at ls holder n)
 copied_by ls new ps n k None item holder f has h = cc
 copied_by ls new ps n k (Some p) item holder f has h =
@@ -133,6 +133,6 @@ pub copied : (ls new : List LayerState) (ps n : List ℕ) (k : Option Kind) (op 
     → after_at op (look_of ls ps n) ≡ Changed item → holder_of ls ps n ≡ Some holder → is_writable_at ls holder ≡ false
     → (place : ℕ) × Contains (above ls ps n) place × (item_at new place n ≡ Some item) × (item_at new holder n ≡ item_at ls holder n)
 copied ls new ps n k op item holder h m held closed =
-    let none : open_holder ls ps n ≡ None = ap (option_and_then (λ q. if is_writable_at ls q then Some q else None)) held ∙ ap (λ b. if b then Some holder else None) closed in
-    copied_by ls new ps n k (home ls ps n k) item holder refl (find_passes (has_at ls n) ps holder held)
-    (ap (λ o. by_case ls o (home ls ps n k) n (Changed item)) (sym none) ∙ ap (λ x. by_case ls (open_holder ls ps n) (home ls ps n k) n x) (sym m) ∙ h)
+    let none : writable_holder ls ps n ≡ None = ap (option_and_then (λ q. if is_writable_at ls q then Some q else None)) held ∙ ap (λ b. if b then Some holder else None) closed in
+    copied_by ls new ps n k (copy_target ls ps n k) item holder refl (find_passes (has_at ls n) ps holder held)
+    (ap (λ o. by_case ls o (copy_target ls ps n k) n (Changed item)) (sym none) ∙ ap (λ x. by_case ls (writable_holder ls ps n) (copy_target ls ps n k) n x) (sym m) ∙ h)

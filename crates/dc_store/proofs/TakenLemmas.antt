@@ -18,8 +18,8 @@ use Rattle.dc_template.specs.declared.kinds.Kind.{Kind}
 use Rattle.dc_layer.specs.State.{LayerState, with_made}
 use Rattle.dc_store.specs.Holders.{item_at, has_at, holder_of, look_of, look_below_of}
 use Rattle.dc_store.specs.Plans.{StoreState, stored, look, look_below, look_after, seen_after, backed_up, told_line, write}
-use Rattle.dc_store.specs.Rows.{Write, AreDistinct, is_refused, all_done}
-use Rattle.dc_store.specs.Writes.{open_holder, home, put_at, by_case, write_of}
+use Rattle.dc_store.specs.Batches.{Write, AreDistinct, is_refused, all_done}
+use Rattle.dc_store.specs.Writes.{writable_holder, copy_target, put_at, by_case, write_of}
 use Rattle.dc_store.proofs.SeenLemmas.{seen}
 use Rattle.dc_store.proofs.Searches.{look_step, after_first_step, holder_look, open_is_holder, find_passes}
 use Rattle.dc_store.proofs.TestLemmas.{look_alike, below_alike, all_alike, tests_apart}
@@ -97,7 +97,7 @@ there ls p n None e h = cc
 there ls p n (Some item) e h = (item, e)
 
 module _ (ls new : List LayerState) (ps n : List ℕ) (k : Option Kind) where
-  gone_seen : (held up : Option ℕ) → open_holder ls ps n ≡ held → by_case ls held up n Gone ≡ Some new → (look_of new ps n ≡ look_below_of ls ps n) ⊎ (look_below_of ls ps n ≡ look_of ls ps n)
+  gone_seen : (held up : Option ℕ) → writable_holder ls ps n ≡ held → by_case ls held up n Gone ≡ Some new → (look_of new ps n ≡ look_below_of ls ps n) ⊎ (look_below_of ls ps n ≡ look_of ls ps n)
   gone_seen None up e h = cc
   gone_seen (Some p) up e h =
       let held = (open_is_holder ls (holder_of ls ps n) p e).0 in
@@ -109,13 +109,13 @@ module _ (ls new : List LayerState) (ps n : List ℕ) (k : Option Kind) where
   -- what the operation left is seen, or it took away an item that was below itself too
   taken_by : (op : Op) (made : After) → after_at op (look_of ls ps n) ≡ made → write_of ls ps n k op ≡ Some new
       → (look_of new ps n ≡ seen_after (look_of ls ps n) (look_below_of ls ps n) made) ⊎ ((made ≡ Gone) × (look_below_of ls ps n ≡ look_of ls ps n))
-  taken_by op Same is h = inl (ap (λ ms. look_of ms ps n) (same (ap (by_case ls (open_holder ls ps n) (home ls ps n k) n) (sym is) ∙ h))) where
+  taken_by op Same is h = inl (ap (λ ms. look_of ms ps n) (same (ap (by_case ls (writable_holder ls ps n) (copy_target ls ps n k) n) (sym is) ∙ h))) where
     same : Some ls ≡ Some new → new ≡ ls
     same e = cc
   taken_by op (Changed item) is h = inl (seen ls new ps n k op item h is)
   taken_by op Gone is h =
       ⊎_elim (λ below. inl below) (λ itself. inr (refl, itself))
-      (gone_seen (open_holder ls ps n) (home ls ps n k) refl (ap (by_case ls (open_holder ls ps n) (home ls ps n k) n) (sym is) ∙ h))
+      (gone_seen (writable_holder ls ps n) (copy_target ls ps n k) refl (ap (by_case ls (writable_holder ls ps n) (copy_target ls ps n k) n) (sym is) ∙ h))
 
 -- on a plan without a backup
 pub taken_seen : (store new : StoreState) (plan : Plan) (n : List ℕ) (k : Option Kind) (op : Op) → plan.backup ≡ None → write store plan n k op ≡ Some new
@@ -155,11 +155,11 @@ stays : (store : StoreState) (v w : Write) → AreDistinct v w → StaysFor stor
 stays store v w distinct = stays_by store v w distinct (write store v.plan v.name v.kind v.op) refl
 
 -- a row of writes on other items leaves what is seen
-pub row_stays : (store : StoreState) (row : List Write) (w : Write) → All (λ v. AreDistinct v w) row → look (all_done store row).layers w.plan w.name ≡ look store.layers w.plan w.name
+pub row_stays : (store : StoreState) (batch : List Write) (w : Write) → All (λ v. AreDistinct v w) batch → look (all_done store batch).layers w.plan w.name ≡ look store.layers w.plan w.name
 row_stays store [] w all = refl
-row_stays store (v ∷ row) w all =
-    row_stays (unwrap_or (write store v.plan v.name v.kind v.op) store) row w (All-tail (λ v. AreDistinct v w) v row all)
-    ∙ (stays store v w (All-head (λ v. AreDistinct v w) v row all)).seen
+row_stays store (v ∷ batch) w all =
+    row_stays (unwrap_or (write store v.plan v.name v.kind v.op) store) batch w (All-tail (λ v. AreDistinct v w) v batch all)
+    ∙ (stays store v w (All-head (λ v. AreDistinct v w) v batch all)).seen
 
 taken_there : (store : StoreState) (w : Write) → w.plan.backup ≡ None → is_refused store.layers w ≡ false → IsLeftBy store (unwrap_or (write store w.plan w.name w.kind w.op) store) w
 taken_there store w alone taken = by_layers (write_of store.layers (places w.plan.base) w.name w.kind w.op) refl taken where

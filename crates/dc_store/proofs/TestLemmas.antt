@@ -18,9 +18,9 @@ use Rattle.dc_layer.specs.State.{LayerState, is_writable, admits, with_made}
 use Rattle.dc_store.specs.Holders.{item_at, has_at, holder_of, look_of, look_below_of}
 use Rattle.dc_conf.specs.Plans.{places}
 use Rattle.dc_store.specs.Plans.{StoreState, stored, backup_op, tried, backed_up, told_line, write}
-use Rattle.dc_store.specs.Rows.{Write, AreApart, AreDistinct, all_places, is_refused}
+use Rattle.dc_store.specs.Batches.{Write, AreApart, AreDistinct, all_places, is_refused}
 use Rattle.dc_store.specs.StoreLaws.{IsSameBut, AreSameBut, ChangesOne}
-use Rattle.dc_store.specs.Writes.{is_writable_at, takes_at, open_holder, home, landing, by_case, write_of}
+use Rattle.dc_store.specs.Writes.{is_writable_at, takes_at, writable_holder, copy_target, put_target, by_case, write_of}
 use Rattle.dc_store.proofs.Frames.{plan_keeps}
 use Rattle.dc_store.proofs.LawLemmas.{changes_one}
 use Rattle.dc_store.proofs.SeenLemmas.{change_apart}
@@ -56,22 +56,22 @@ module _ (ls ms : List LayerState) (n : List ℕ) (k : Option Kind) where
       ])
       ∙ sym (ap (λ qs. look_of ls qs n) (after_first_step (has_at ls n) p ps))
 
-  home_alike : (ps : List ℕ) → All (IsAlike ls ms n k) ps → home ms ps n k ≡ home ls ps n k
+  home_alike : (ps : List ℕ) → All (IsAlike ls ms n k) ps → copy_target ms ps n k ≡ copy_target ls ps n k
   home_alike [] all = refl
   home_alike (p ∷ ps) all =
       home_step ms p ps n k
-      ∙ ap (λ o. cond (is_some o) None (cond (takes_at ms n k p) (Some p) (home ms ps n k))) (All-head (IsAlike ls ms n k) p ps all).item
-      ∙ ap (λ b. cond (has_at ls n p) None (cond b (Some p) (home ms ps n k))) (All-head (IsAlike ls ms n k) p ps all).takes
+      ∙ ap (λ o. cond (is_some o) None (cond (takes_at ms n k p) (Some p) (copy_target ms ps n k))) (All-head (IsAlike ls ms n k) p ps all).item
+      ∙ ap (λ b. cond (has_at ls n p) None (cond b (Some p) (copy_target ms ps n k))) (All-head (IsAlike ls ms n k) p ps all).takes
       ∙ ap (λ o. cond (has_at ls n p) None (cond (takes_at ls n k p) (Some p) o)) (home_alike ps (All-tail (IsAlike ls ms n k) p ps all))
       ∙ sym (home_step ls p ps n k)
 
-  open_alike : (ps : List ℕ) → All (IsAlike ls ms n k) ps → open_holder ms ps n ≡ open_holder ls ps n
+  open_alike : (ps : List ℕ) → All (IsAlike ls ms n k) ps → writable_holder ms ps n ≡ writable_holder ls ps n
   open_alike ps all = ap (option_and_then (λ q. if is_writable_at ms q then Some q else None)) (holder_alike ps all) ∙ by_holder (holder_of ls ps n) refl where
     by_holder : (o : Option ℕ) → holder_of ls ps n ≡ o → option_and_then (λ q. if is_writable_at ms q then Some q else None) o ≡ option_and_then (λ q. if is_writable_at ls q then Some q else None) o
     by_holder None e = refl
     by_holder (Some p) e = ap (λ b. if b then Some p else None) (find_within (has_at ls n) (IsAlike ls ms n k) ps p all e).writable
 
-  pub landing_alike : (ps : List ℕ) → All (IsAlike ls ms n k) ps → landing ms ps n k ≡ landing ls ps n k
+  pub landing_alike : (ps : List ℕ) → All (IsAlike ls ms n k) ps → put_target ms ps n k ≡ put_target ls ps n k
   landing_alike ps all = λ i. if is_some (holder_alike ps all i) then open_alike ps all i else home_alike ps all i
 
   taken_alike : (held up : Option ℕ) (made : After) → is_some (by_case ms held up n made) ≡ is_some (by_case ls held up n made)
@@ -84,10 +84,10 @@ module _ (ls ms : List LayerState) (n : List ℕ) (k : Option Kind) where
 
   pub write_alike : (ps : List ℕ) (op : Op) → All (IsAlike ls ms n k) ps → is_some (write_of ms ps n k op) ≡ is_some (write_of ls ps n k op)
   write_alike ps op all =
-      ap (λ o. is_some (by_case ms o (home ms ps n k) n (after_at op (look_of ms ps n)))) (open_alike ps all)
-      ∙ ap (λ o. is_some (by_case ms (open_holder ls ps n) o n (after_at op (look_of ms ps n)))) (home_alike ps all)
-      ∙ ap (λ o. is_some (by_case ms (open_holder ls ps n) (home ls ps n k) n (after_at op o))) (look_alike ps all)
-      ∙ taken_alike (open_holder ls ps n) (home ls ps n k) (after_at op (look_of ls ps n))
+      ap (λ o. is_some (by_case ms o (copy_target ms ps n k) n (after_at op (look_of ms ps n)))) (open_alike ps all)
+      ∙ ap (λ o. is_some (by_case ms (writable_holder ls ps n) o n (after_at op (look_of ms ps n)))) (home_alike ps all)
+      ∙ ap (λ o. is_some (by_case ms (writable_holder ls ps n) (copy_target ls ps n k) n (after_at op o))) (look_alike ps all)
+      ∙ taken_alike (writable_holder ls ps n) (copy_target ls ps n k) (after_at op (look_of ls ps n))
 
 -- ---- where the names differ
 

@@ -1,7 +1,7 @@
 pub mod Holders
-pub mod Landings
+pub mod Targets
 pub mod Listings
 pub mod Plans
-pub mod Rows
+pub mod Batches
 pub mod StoreLaws
 pub mod Writes

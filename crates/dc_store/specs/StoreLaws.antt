@@ -9,7 +9,7 @@ use Rattle.dc_item.specs.declared.op.After.TheVariants.{Same, Gone}
 use Rattle.dc_template.specs.declared.kinds.Kind.{Kind}
 use Rattle.dc_layer.specs.State.{LayerState, is_writable, admits, with_made}
 use Rattle.dc_store.specs.Holders.{has_at, look_of}
-use Rattle.dc_store.specs.Writes.{change_at, open_holder, home}
+use Rattle.dc_store.specs.Writes.{change_at, writable_holder, copy_target}
 
 -- two states of a layer differ in the item of one name, and in which names were touched, alone
 pub record IsSameBut (name : List ℕ) (old new : LayerState) : Type 0 where
@@ -64,5 +64,5 @@ pub record ChangesOne (layers : List LayerState) (places : List ℕ) (name : Lis
 -- The item would change, no writable layer holds it, and it would go or no layer takes it.
 pub record IsRefusal (layers : List LayerState) (places : List ℕ) (name : List ℕ) (kind : Option Kind) (op : Op) : Type 0 where
   pub changes : after_at op (look_of layers places name) ≡ Same → ⊥
-  pub held : open_holder layers places name ≡ None
-  pub homeless : (after_at op (look_of layers places name) ≡ Gone) ⊎ (home layers places name kind ≡ None)
+  pub held : writable_holder layers places name ≡ None
+  pub homeless : (after_at op (look_of layers places name) ≡ Gone) ⊎ (copy_target layers places name kind ≡ None)

@@ -19,19 +19,19 @@ abbrev pub takes_at : List LayerState → List ℕ → Option Kind → ℕ → B
 takes_at layers name kind place = option_map_or (λ layer. is_writable layer && admits layer name kind) (slice_get layers place) false
 
 -- the holder, where it is writable
-abbrev pub open_holder : List LayerState → List ℕ → List ℕ → Option ℕ
-open_holder layers places name =
+abbrev pub writable_holder : List LayerState → List ℕ → List ℕ → Option ℕ
+writable_holder layers places name =
     option_and_then (λ place. if is_writable_at layers place then Some place else None) (holder_of layers places name)
 
 -- Where a new item goes, and the copy of one whose holder isn't writable: to the topmost layer above the holder, or of all where
 -- there is none, that is writable and admits it.
-abbrev pub home : List LayerState → List ℕ → List ℕ → Option Kind → Option ℕ
-home layers places name kind = find (takes_at layers name kind) (above layers places name)
+abbrev pub copy_target : List LayerState → List ℕ → List ℕ → Option Kind → Option ℕ
+copy_target layers places name kind = find (takes_at layers name kind) (above layers places name)
 
 -- Where an item lands that is put and goes to a layer as it is: to the holder, if it is writable, and home where there is none. Where
 -- the holder isn't writable the item is compared with the holder's first.
-abbrev pub landing : List LayerState → List ℕ → List ℕ → Option Kind → Option ℕ
-landing layers places name kind = if is_some (holder_of layers places name) then open_holder layers places name else home layers places name kind
+abbrev pub put_target : List LayerState → List ℕ → List ℕ → Option Kind → Option ℕ
+put_target layers places name kind = if is_some (holder_of layers places name) then writable_holder layers places name else copy_target layers places name kind
 
 -- the layers with the one at a place changed
 abbrev pub change_at : List LayerState → ℕ → (LayerState → LayerState) → List LayerState
@@ -54,18 +54,18 @@ put_up layers place name item = option_map (λ p. put_at layers p name (Changed 
 --   The holder isn't writable, and the item would go: refused.
 --   The holder isn't writable, or there is none: the home gets the whole changed item, and without a home it is refused.
 abbrev pub by_case : List LayerState → Option ℕ → Option ℕ → List ℕ → After → Option (List LayerState)
-by_case layers held home name Same = Some layers
-by_case layers (Some holder) home name (Changed item) = Some (put_at layers holder name (Changed item))
-by_case layers (Some holder) home name Gone = Some (put_at layers holder name Gone)
-by_case layers None home name Gone = None
-by_case layers None home name (Changed item) = put_up layers home name item
+by_case layers held copy_target name Same = Some layers
+by_case layers (Some holder) copy_target name (Changed item) = Some (put_at layers holder name (Changed item))
+by_case layers (Some holder) copy_target name Gone = Some (put_at layers holder name Gone)
+by_case layers None copy_target name Gone = None
+by_case layers None copy_target name (Changed item) = put_up layers copy_target name item
 
 -- A write of an operation on the item of a name, of which the kind may be known.
 abbrev pub write_of : List LayerState → List ℕ → List ℕ → Option Kind → Op → Option (List LayerState)
 write_of layers places name kind op =
-    by_case layers (open_holder layers places name) (home layers places name kind) name (after_at op (look_of layers places name))
+    by_case layers (writable_holder layers places name) (copy_target layers places name kind) name (after_at op (look_of layers places name))
 
 -- there is a holder, and it is writable or a layer above it takes the item
 abbrev pub can_change_of : List LayerState → List ℕ → List ℕ → Option Kind → Bool
 can_change_of layers places name kind =
-    is_some (holder_of layers places name) && (is_some (open_holder layers places name) || is_some (home layers places name kind))
+    is_some (holder_of layers places name) && (is_some (writable_holder layers places name) || is_some (copy_target layers places name kind))

@@ -10,7 +10,7 @@ ghost use Rattle.dc_layer.specs.State.{LayerState};
 ghost use Rattle.dc_store.specs.Holders.{item_at, has_at, holder_of, look_of, above};
 ghost use Rattle.dc_store.specs.Plans.{StoreState, look, look_below, look_after, can_change, write, would_take};
 ghost use Rattle.dc_conf.specs.declared.plans.Plan.{Plan};
-ghost use Rattle.dc_store.specs.Rows.{Write, AreDistinct, is_refused};
+ghost use Rattle.dc_store.specs.Batches.{Write, AreDistinct, is_refused};
 ghost use Rattle.dc_store.specs.StoreLaws.{AreSameBut, IsTopmost, ChangesOne, IsRefusal};
 ghost use Rattle.dc_store.specs.Writes.{is_writable_at, write_of};
 

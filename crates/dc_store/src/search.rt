@@ -4,7 +4,7 @@ ghost use Rattle.std.specs.Option.{option_copied, option_map, option_map_or};
 ghost use Rattle.std.specs.List.{list_any};
 ghost use Rattle.dc_store.specs.Holders.{holder_of, look_of, look_below_of, has_below_of, has_at as has_of};
 ghost use Rattle.dc_conf.specs.Plans.{AreWithin};
-ghost use Rattle.dc_store.specs.Writes.{home};
+ghost use Rattle.dc_store.specs.Writes.{copy_target};
 
 use crate::boxes::{has_at, item_at, takes_at};
 use dc_item::Item;
@@ -95,7 +95,7 @@ fn has_any_in(layers: &[Box<dyn Layer>], places: &[usize], name: &Name) -> bool
 }
 
 /// The topmost place that takes a new item, above the one that has it. No layer is searched for the item, since its holder is known.
-pub fn home_in(
+pub fn copy_target_in(
     layers: &[Box<dyn Layer>],
     places: &[usize],
     name: &Name,
@@ -104,7 +104,7 @@ pub fn home_in(
 ) -> Mem<Option<usize>>
     requires within { AreWithin places.now (length layers.now) }
     requires holder { holder ≡ holder_of (each state layers.now) places.now name.now }
-    ensures { IfOk result (λ place. place ≡ home (each state layers.now) places.now name.now kind) }
+    ensures { IfOk result (λ place. place ≡ copy_target (each state layers.now) places.now name.now kind) }
 {
     for place in places {
         if is_at(holder, *place) {

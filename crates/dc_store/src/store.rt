@@ -8,12 +8,12 @@ ghost use Rattle.dc_store.specs.StoreLaws.{AreSameBut};
 ghost use Rattle.dc_store.specs.Writes.{write_of};
 ghost use Rattle.dc_template.specs.declared.kinds.Kind.{Kind as KindOf};
 
+use crate::acceptance::{can_change_in, would_take_in};
 use crate::backup::back_up_in;
 use crate::bases::places;
 use crate::listing::{names_in, owned_in, owned_names_in};
 use crate::search::{has_below_in, holder_in, look_below_in, look_in, seek_in};
 use crate::telling::tell;
-use crate::testing::{can_change_in, would_take_in};
 use crate::writing::{write_in, write_on_top};
 use dc_conf::plans::{Base, Plan};
 use dc_item::{Item, Op, in_order};

@@ -5,11 +5,11 @@ ghost use Rattle.dc_item.specs.After.{after_none};
 ghost use Rattle.dc_layer.specs.State.{is_put};
 ghost use Rattle.dc_store.specs.Holders.{holder_of, look_of};
 ghost use Rattle.dc_store.specs.StoreLaws.{AreSameBut};
-ghost use Rattle.dc_store.specs.Writes.{by_case, home, is_writable_at, landing, write_of};
+ghost use Rattle.dc_store.specs.Writes.{by_case, copy_target, is_writable_at, put_target, write_of};
 ghost use Rattle.dc_template.specs.declared.kinds.Kind.{Kind as KindOf};
 
 use crate::boxes::{change_in, is_open_at, try_change_in};
-use crate::search::{find_in, home_in};
+use crate::search::{copy_target_in, find_in};
 use crate::store::StoreError;
 use dc_item::{After, Op};
 use dc_layer::Layer;
@@ -28,11 +28,11 @@ fn put_up_in(
     requires within { AreWithin places.now (length layers.old) }
     requires holder { holder ≡ holder_of (each state layers.old) places.now name.now }
     requires put { is_put put.now ≡ true }
-    ensures ok { OnOk result (by_case (each state layers.old) None (home (each state layers.old) places.now name.now kind) name.now (after_none put.now) ≡ Some (each state layers.new)) }
-    ensures refused { result ≡ Err StoreError.Refused → by_case (each state layers.old) None (home (each state layers.old) places.now name.now kind) name.now (after_none put.now) ≡ None }
+    ensures ok { OnOk result (by_case (each state layers.old) None (copy_target (each state layers.old) places.now name.now kind) name.now (after_none put.now) ≡ Some (each state layers.new)) }
+    ensures refused { result ≡ Err StoreError.Refused → by_case (each state layers.old) None (copy_target (each state layers.old) places.now name.now kind) name.now (after_none put.now) ≡ None }
     ensures unchanged { OnErr result (each state layers.new ≡ each state layers.old) }
 {
-    match home_in(layers, places, name, kind, holder)? {
+    match copy_target_in(layers, places, name, kind, holder)? {
         Some(place) => {
             change_in(layers, place, name, put)?;
             Ok(())
@@ -51,8 +51,8 @@ fn write_new_in(
 ) -> Result<(), StoreError>
     requires within { AreWithin places.now (length layers.old) }
     requires none { None ≡ holder_of (each state layers.old) places.now name.now }
-    ensures ok { OnOk result (by_case (each state layers.old) None (home (each state layers.old) places.now name.now kind) name.now (after_none op.now) ≡ Some (each state layers.new)) }
-    ensures refused { result ≡ Err StoreError.Refused → by_case (each state layers.old) None (home (each state layers.old) places.now name.now kind) name.now (after_none op.now) ≡ None }
+    ensures ok { OnOk result (by_case (each state layers.old) None (copy_target (each state layers.old) places.now name.now kind) name.now (after_none op.now) ≡ Some (each state layers.new)) }
+    ensures refused { result ≡ Err StoreError.Refused → by_case (each state layers.old) None (copy_target (each state layers.old) places.now name.now kind) name.now (after_none op.now) ≡ None }
     ensures unchanged { OnErr result (each state layers.new ≡ each state layers.old) }
 {
     if !is_put_op(op) {
@@ -72,8 +72,8 @@ fn write_above_in(
 ) -> Result<(), StoreError>
     requires within { AreWithin places.now (length layers.old) }
     requires holder { Some holder ≡ holder_of (each state layers.old) places.now name.now }
-    ensures ok { OnOk result (by_case (each state layers.old) None (home (each state layers.old) places.now name.now kind) name.now made ≡ Some (each state layers.new)) }
-    ensures refused { result ≡ Err StoreError.Refused → by_case (each state layers.old) None (home (each state layers.old) places.now name.now kind) name.now made ≡ None }
+    ensures ok { OnOk result (by_case (each state layers.old) None (copy_target (each state layers.old) places.now name.now kind) name.now made ≡ Some (each state layers.new)) }
+    ensures refused { result ≡ Err StoreError.Refused → by_case (each state layers.old) None (copy_target (each state layers.old) places.now name.now kind) name.now made ≡ None }
     ensures unchanged { OnErr result (each state layers.new ≡ each state layers.old) }
 {
     match made {
@@ -178,10 +178,10 @@ pub fn landing_in(
     kind: Option<Kind>,
 ) -> Mem<Option<usize>>
     requires { AreWithin places.now (length layers.now) }
-    ensures { IfOk result (λ place. place ≡ landing (each state layers.now) places.now name.now kind) }
+    ensures { IfOk result (λ place. place ≡ put_target (each state layers.now) places.now name.now kind) }
 {
     match find_in(layers, places, name.bytes()) {
-        None => home_in(layers, places, name, kind, None),
+        None => copy_target_in(layers, places, name, kind, None),
         Some((place, _)) => Ok(open_place(layers, place)),
     }
 }

@@ -10,10 +10,10 @@ use Rattle.dc_teletype.specs.declared.teletype.Asked.TheVariants.{Answers, Back}
 use Rattle.dc_outside.specs.declared.link.Piece.{Piece}
 use Rattle.dc_teletype.specs.declared.terminal.TerminalLine.{TerminalLine}
 use Rattle.dc_teletype.specs.declared.terminal.TerminalLine.TheVariants.{Whole, Cut}
-use Rattle.dc_teletype.specs.TerminalLines.{Ahead}
+use Rattle.dc_teletype.specs.TerminalLines.{TypeAhead}
 use Rattle.dc_teletype.specs.declared.answering.Reading.{Reading}
 use Rattle.dc_teletype.specs.declared.answering.Reading.TheVariants as reading
-use Rattle.dc_teletype.specs.Dialogue.{Step, Stage, Waits, Over, Goes, IsHeld, turn, opening, puts, after_reading, reading_of, most_unusable}
+use Rattle.dc_teletype.specs.Dialogue.{Step, Stage, Waits, Over, Goes, IsDialogue, turn, opening, puts, after_reading, reading_of, most_unusable}
 use Rattle.dc_teletype.proofs.FirstLineLemmas.{same_some}
 
 module _ (backup : Bool) where
@@ -60,13 +60,13 @@ module _ (backup : Bool) where
         subst (λ (s : Step). AreAnswered s.stage) (same_some _ next is)
         (after_answered shown unusable others answers waits (reading_of shown backup came) (reading_can shown unusable others answers waits came))
 
-    goes_answered : (came : List (Option TerminalLine)) (start new : Step) (ahead last : Ahead) (pieces : List Piece) → Goes backup start ahead came pieces new last → AreAnswered start.stage → AreAnswered new.stage
+    goes_answered : (came : List (Option TerminalLine)) (start new : Step) (ahead last : TypeAhead) (pieces : List Piece) → Goes backup start ahead came pieces new last → AreAnswered start.stage → AreAnswered new.stage
     goes_answered [] start new ahead last pieces goes waits = subst (λ (s : Step). AreAnswered s.stage) (sym goes.1) waits
     goes_answered (came ∷ more) start new ahead last pieces (reads, later, between, next, pieces_are, here, turn_is, goes) waits =
         goes_answered more next new between last later goes (turn_answered start.stage came next turn_is waits)
 
-  pub all_answered : (title : List ℕ) (questions : List Shown) (old new : Ahead) (talk new_talk : Option (List Piece)) (input left : Option (List ℕ)) (answers : List Answer)
-      → IsHeld backup (opening title questions) old new talk new_talk input left (Ok (Answers answers)) → HaveAnswers backup questions answers
+  pub all_answered : (title : List ℕ) (questions : List Shown) (old new : TypeAhead) (talk new_talk : Option (List Piece)) (input left : Option (List ℕ)) (answers : List Answer)
+      → IsDialogue backup (opening title questions) old new talk new_talk input left (Ok (Answers answers)) → HaveAnswers backup questions answers
   all_answered title questions old new talk new_talk input left answers held =
       subst (AreAnswered questions) held.ends.0
       (goes_answered questions held.came (opening title questions) held.step old held.ahead held.gone held.goes (puts_answered questions _ [] questions [] refl (record {})))

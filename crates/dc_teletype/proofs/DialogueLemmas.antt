@@ -4,15 +4,15 @@ use Rattle.std.proofs.lemmas.List.{append-nil}
 use Rattle.dc_outside.specs.declared.link.Piece.{Piece}
 use Rattle.dc_outside.specs.declared.link.Piece.TheVariants.{Sent}
 use Rattle.dc_teletype.specs.Dialogue.{Step, Goes, turn}
-use Rattle.dc_teletype.specs.TerminalLines.{Ahead, Reads}
+use Rattle.dc_teletype.specs.TerminalLines.{TypeAhead, Reads}
 use Rattle.dc_teletype.specs.declared.terminal.TerminalLine.{TerminalLine}
 
 -- one stretch of a dialogue, and then another
-pub goes_then : (backup : Bool) (one two : Step) (three : Step) (a b d : Ahead) (came more : List (Option TerminalLine)) (p q : List Piece)
+pub goes_then : (backup : Bool) (one two : Step) (three : Step) (a b d : TypeAhead) (came more : List (Option TerminalLine)) (p q : List Piece)
     → Goes backup one a came p two b → Goes backup two b more q three d → Goes backup one a (came ++ more) (p ++ q) three d
 goes_then backup one two three a b d [] more p q first second =
     subst (λ (s : Step). Goes backup s a more (p ++ q) three d) first.1
-    (subst (λ (h : Ahead). Goes backup two h more (p ++ q) three d) first.2
+    (subst (λ (h : TypeAhead). Goes backup two h more (p ++ q) three d) first.2
     (subst (λ (l : List Piece). Goes backup two b more (l ++ q) three d) (sym first.0) second))
 goes_then backup one two three a b d (line ∷ came) more p q first second =
     let reads = first.0 in
@@ -30,7 +30,7 @@ goes_then backup one two three a b d (line ∷ came) more p q first second =
     )
 
 -- one turn
-pub goes_once : (backup : Bool) (step next : Step) (old new : Ahead) (came : Option TerminalLine) (reads : List Piece)
+pub goes_once : (backup : Bool) (step next : Step) (old new : TypeAhead) (came : Option TerminalLine) (reads : List Piece)
     → Reads old reads came new → turn backup step.stage came ≡ Some next → Goes backup step old (came ∷ []) (Sent step.said ∷ reads) next new
 goes_once backup step next old new came reads read taken =
     (reads, [], new, next, ap (λ (l : List Piece). Sent step.said ∷ l) (sym (append-nil reads)), read, taken, (refl, refl, refl))

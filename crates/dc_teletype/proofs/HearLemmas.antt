@@ -10,7 +10,7 @@ use Rattle.dc_outside.specs.declared.link.Piece.TheVariants.{Got, Sent, Cut as C
 use Rattle.dc_outside.specs.Talk.{then_pieces, AddsWrite}
 use Rattle.dc_teletype.specs.Dialogue.{Step, Stage, Waits, Goes, Stops, after_reading, reading_of}
 use Rattle.dc_teletype.specs.Prompts.{prompt}
-use Rattle.dc_teletype.specs.TerminalLines.{Ahead, Reads, ReadsUntil, with_bytes, HasRead}
+use Rattle.dc_teletype.specs.TerminalLines.{TypeAhead, Reads, ReadsUntil, with_bytes, HasRead}
 use Rattle.dc_teletype.specs.Inside.{HasReplied, HasHeard, answer_of, answered_or_back, is_answered}
 use Rattle.dc_teletype.specs.declared.answering.Reading.{Reading}
 use Rattle.dc_teletype.specs.declared.answering.Reading.TheVariants as reading
@@ -20,20 +20,20 @@ use Rattle.dc_teletype.proofs.DialogueLemmas.{goes_then, goes_once}
 use Rattle.dc_teletype.proofs.TalkLemmas.{Passes, passes_none, passes_then, passes_sent}
 
 -- how far a dialogue went from a step to a later one
-pub record Progress (backup : Bool) (start step : Step) (old now : Ahead) (talk new_talk : Option (List Piece)) (input left : Option (List ℕ)) : Type 0 where
+pub record Progress (backup : Bool) (start step : Step) (old now : TypeAhead) (talk new_talk : Option (List Piece)) (input left : Option (List ℕ)) : Type 0 where
   pub pieces : List Piece
   pub passes : Passes talk new_talk input left pieces
   pub came : List (Option TerminalLine)
   pub goes : Goes backup start old came pieces step now
 
-pub hear_start : (backup : Bool) (step : Step) (now : Ahead) (talk : Option (List Piece)) (input : Option (List ℕ)) → Progress backup step step now now talk talk input input
+pub hear_start : (backup : Bool) (step : Step) (now : TypeAhead) (talk : Option (List Piece)) (input : Option (List ℕ)) → Progress backup step step now now talk talk input input
 hear_start backup step now talk input = record { pieces = []; passes = passes_none talk input; came = []; goes = (refl, refl, refl) }
 
 -- What is said is sent, and a line is read: one turn.
-pub hear_turn : {backup : Bool} {start : Step} {said : List ℕ} {question : Shown} {unusable : ℕ} {others : List Shown} {answers : List Answer} {old now : Ahead} {talk before : Option (List Piece)} {input middle : Option (List ℕ)}
+pub hear_turn : {backup : Bool} {start : Step} {said : List ℕ} {question : Shown} {unusable : ℕ} {others : List Shown} {answers : List Answer} {old now : TypeAhead} {talk before : Option (List Piece)} {input middle : Option (List ℕ)}
     → Progress backup start (record { said = said; stage = Waits question unusable others answers }) old now talk before input middle
     → (sent : Option (List Piece)) (left : Option (List ℕ)) → sent ≡ then_pieces before (Sent said ∷ []) → left ≡ middle
-    → (new : Ahead) (new_talk : Option (List Piece)) (new_left : Option (List ℕ)) (reading : Reading) → HasReplied backup question now new sent new_talk left new_left (Ok reading)
+    → (new : TypeAhead) (new_talk : Option (List Piece)) (new_left : Option (List ℕ)) (reading : Reading) → HasReplied backup question now new sent new_talk left new_left (Ok reading)
     → Progress backup start (after_reading reading question unusable others answers) old new talk new_talk input new_left
 hear_turn {backup} {start} {said} {question} {unusable} {others} {answers} {old} {now} progress sent left told same new new_talk new_left reading reply =
     let came = reply.replies.0 in
@@ -70,7 +70,7 @@ below_by reading.Unusable lines on = leb-false 64 lines on
 
 -- ---- how hearing ends
 
-module _ {backup : Bool} {start step : Step} {old now : Ahead} {talk before : Option (List Piece)} {input middle : Option (List ℕ)} where
+module _ {backup : Bool} {start step : Step} {old now : TypeAhead} {talk before : Option (List Piece)} {input middle : Option (List ℕ)} where
   pub heard_answer : Progress backup start step old now talk before input middle → (answer : Option Answer) (others : List Shown) (answers : List Answer) → step ≡ answered_or_back answer others answers
       → HasHeard backup start old now talk before input middle (Ok answer) others answers
   heard_answer progress answer others answers is = record {
@@ -81,7 +81,7 @@ module _ {backup : Bool} {start step : Step} {old now : Ahead} {talk before : Op
   }
 
   -- how it stops behind the progress
-  pub heard_stop : Progress backup start step old now talk before input middle → (new : Ahead) (new_talk : Option (List Piece)) (left : Option (List ℕ)) (last : List Piece) → Passes before new_talk middle left last
+  pub heard_stop : Progress backup start step old now talk before input middle → (new : TypeAhead) (new_talk : Option (List Piece)) (left : Option (List ℕ)) (last : List Piece) → Passes before new_talk middle left last
       → (error : LinkError) → Stops error step now last → (result : Result (Option Answer) LinkError) → result ≡ Err error → (others : List Shown) (answers : List Answer)
       → HasHeard backup start old new talk new_talk input left result others answers
   heard_stop progress new new_talk left last passes error stops result is others answers =
@@ -93,20 +93,20 @@ module _ {backup : Bool} {start step : Step} {old now : Ahead} {talk before : Op
         hears = (progress.came, progress.pieces, last, step, now, refl, progress.goes, stops);
       })
 
-  pub heard_refused : Progress backup start step old now talk before input middle → (new : Ahead) (result : Result (Option Answer) LinkError) → result ≡ Err OutOfMemory → (others : List Shown) (answers : List Answer)
+  pub heard_refused : Progress backup start step old now talk before input middle → (new : TypeAhead) (result : Result (Option Answer) LinkError) → result ≡ Err OutOfMemory → (others : List Shown) (answers : List Answer)
       → HasHeard backup start old new talk before input middle result others answers
   heard_refused progress new result is others answers =
       heard_stop progress new before middle [] (passes_none before middle) OutOfMemory (inl refl) result is others answers
 
 pub unsaid_last : (said : List ℕ) (before sent : Option (List Piece)) (middle left : Option (List ℕ)) → left ≡ middle → (error : LinkError) → AddsWrite {T = Unit {0}} before sent (Err error) said
-    → (stage : Stage) (now : Ahead) → (last : List Piece) × Passes before sent middle left last × Stops error (record { said = said; stage = stage }) now last
+    → (stage : Stage) (now : TypeAhead) → (last : List Piece) × Passes before sent middle left last × Stops error (record { said = said; stage = stage }) now last
 unsaid_last said before sent middle left same Failed adds stage now =
     (CutPiece adds.0 ∷ [], record { told_is = adds.3; took = sym same ∙ prepend-nil left }, inl (record { front = adds.0; back = adds.1; said_is = adds.2; pieces_are = refl }))
 unsaid_last said before sent middle left same OutOfMemory adds stage now =
     ([], record { told_is = adds ∙ sym (then_pieces-nil before); took = sym same ∙ prepend-nil left }, inl refl)
 
 -- a front of what was to be said was written, or nothing
-pub heard_unsaid : {backup : Bool} {start : Step} {said : List ℕ} {stage : Stage} {old now : Ahead} {talk before : Option (List Piece)} {input middle : Option (List ℕ)}
+pub heard_unsaid : {backup : Bool} {start : Step} {said : List ℕ} {stage : Stage} {old now : TypeAhead} {talk before : Option (List Piece)} {input middle : Option (List ℕ)}
     → Progress backup start (record { said = said; stage = stage }) old now talk before input middle
     → (sent : Option (List Piece)) (left : Option (List ℕ)) → left ≡ middle → (error : LinkError) → AddsWrite {T = Unit {0}} before sent (Err error) said
     → (result : Result (Option Answer) LinkError) → result ≡ Err error → (others : List Shown) (answers : List Answer)
@@ -115,16 +115,16 @@ heard_unsaid {backup} {start} {said} {stage} {old} {now} {talk} {before} {input}
     let last = unsaid_last said before sent middle left same error adds stage now in
     heard_stop progress now sent left last.0 last.1 error last.2 result is others answers
 
-reading_stop : (error : LinkError) (said : List ℕ) (question : Shown) (unusable : ℕ) (others : List Shown) (answers : List Answer) (now : Ahead) (reads : List Piece) → ReadsUntil error now reads
+reading_stop : (error : LinkError) (said : List ℕ) (question : Shown) (unusable : ℕ) (others : List Shown) (answers : List Answer) (now : TypeAhead) (reads : List Piece) → ReadsUntil error now reads
     → Stops error (record { said = said; stage = Waits question unusable others answers }) now (Sent said ∷ reads)
 reading_stop Failed said question unusable others answers now reads until_then = inr (record { reads = reads; pieces_are = refl; waiting = record {}; until = until_then })
 reading_stop OutOfMemory said question unusable others answers now reads until_then = inr (record { reads = reads; pieces_are = refl; waiting = record {}; until = until_then })
 
 -- all was said, and no line came
-pub heard_nothing : {backup : Bool} {start : Step} {said : List ℕ} {question : Shown} {unusable : ℕ} {others : List Shown} {answers : List Answer} {old now : Ahead} {talk before : Option (List Piece)} {input middle : Option (List ℕ)}
+pub heard_nothing : {backup : Bool} {start : Step} {said : List ℕ} {question : Shown} {unusable : ℕ} {others : List Shown} {answers : List Answer} {old now : TypeAhead} {talk before : Option (List Piece)} {input middle : Option (List ℕ)}
     → Progress backup start (record { said = said; stage = Waits question unusable others answers }) old now talk before input middle
     → (sent : Option (List Piece)) (left : Option (List ℕ)) → sent ≡ then_pieces before (Sent said ∷ []) → left ≡ middle
-    → (new : Ahead) (new_talk : Option (List Piece)) (new_left : Option (List ℕ)) (error : LinkError) → HasReplied backup question now new sent new_talk left new_left (Err error)
+    → (new : TypeAhead) (new_talk : Option (List Piece)) (new_left : Option (List ℕ)) (error : LinkError) → HasReplied backup question now new sent new_talk left new_left (Err error)
     → (result : Result (Option Answer) LinkError) → result ≡ Err error
     → HasHeard backup start old new talk new_talk input new_left result others answers
 heard_nothing {backup} {start} {said} {question} {unusable} {others} {answers} {old} {now} progress sent left told same new new_talk new_left error reply result is =
@@ -132,21 +132,21 @@ heard_nothing {backup} {start} {said} {question} {unusable} {others} {answers} {
     (reading_stop error said question unusable others answers now reply.pieces reply.replies) result is others answers
 
 -- what was read can be what comes before memory runs out
-pub reads_until : (old : Ahead) (pieces : List Piece) (came : Option TerminalLine) (new : Ahead) → Reads old pieces came new → ReadsUntil OutOfMemory old pieces
+pub reads_until : (old : TypeAhead) (pieces : List Piece) (came : Option TerminalLine) (new : TypeAhead) → Reads old pieces came new → ReadsUntil OutOfMemory old pieces
 reads_until old [] came new r = record {}
 reads_until old (Got bytes ∷ pieces) came new r = (r.0, reads_until (with_bytes old bytes) pieces came new r.1)
 reads_until old (Sent bytes ∷ pieces) came new r = absurd r
 reads_until old (CutPiece bytes ∷ pieces) came new r = absurd r
 reads_until old (Lost ∷ pieces) came new r = absurd r
 
-pub reply_read : {shown : Shown} {backup : Bool} {old new : Ahead} {talk new_talk : Option (List Piece)} {input left : Option (List ℕ)} {came : Option TerminalLine}
+pub reply_read : {shown : Shown} {backup : Bool} {old new : TypeAhead} {talk new_talk : Option (List Piece)} {input left : Option (List ℕ)} {came : Option TerminalLine}
     → HasRead old new talk new_talk input left (Ok came) → (reading : Reading) → reading ≡ reading_of shown backup came → HasReplied backup shown old new talk new_talk input left (Ok reading)
 reply_read {shown} {backup} {old} {new} {talk} {new_talk} {input} {left} {came} read reading is = record { pieces = read.pieces; told_is = read.told_is; took = read.took; replies = (came, read.reads, is) }
 
-pub reply_stopped : {shown : Shown} {backup : Bool} {old new : Ahead} {talk new_talk : Option (List Piece)} {input left : Option (List ℕ)} {error : LinkError}
+pub reply_stopped : {shown : Shown} {backup : Bool} {old new : TypeAhead} {talk new_talk : Option (List Piece)} {input left : Option (List ℕ)} {error : LinkError}
     → HasRead old new talk new_talk input left (Err error) → (result : Result Reading LinkError) → result ≡ Err error → HasReplied backup shown old new talk new_talk input left result
 reply_stopped read result is = rw is (record { pieces = read.pieces; told_is = read.told_is; took = read.took; replies = read.reads })
 
-pub reply_refused : {shown : Shown} {backup : Bool} {old new : Ahead} {talk new_talk : Option (List Piece)} {input left : Option (List ℕ)} {came : Option TerminalLine}
+pub reply_refused : {shown : Shown} {backup : Bool} {old new : TypeAhead} {talk new_talk : Option (List Piece)} {input left : Option (List ℕ)} {came : Option TerminalLine}
     → HasRead old new talk new_talk input left (Ok came) → (result : Result Reading LinkError) → result ≡ Err OutOfMemory → HasReplied backup shown old new talk new_talk input left result
 reply_refused {shown} {backup} {old} {new} {talk} {new_talk} {input} {left} {came} read result is = rw is (record { pieces = read.pieces; told_is = read.told_is; took = read.took; replies = reads_until old read.pieces came new read.reads })

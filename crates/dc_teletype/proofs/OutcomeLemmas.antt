@@ -14,9 +14,9 @@ use Rattle.dc_teletype.specs.declared.terminal.TerminalLine.{TerminalLine}
 use Rattle.dc_teletype.specs.declared.terminal.TerminalLine.TheVariants.{Cut}
 use Rattle.dc_outside.proofs.Saying.{sent-append}
 use Rattle.dc_outside.specs.Talk.{sent, got}
-use Rattle.dc_teletype.specs.TerminalLines.{Ahead, Reads, longest, last_line, first_line}
+use Rattle.dc_teletype.specs.TerminalLines.{TypeAhead, Reads, longest, last_line, first_line}
 use Rattle.dc_teletype.specs.Dialogue.{Step, Stage, Waits, Over, Goes, turn}
-use Rattle.dc_teletype.specs.Typed.{ToldTerminal, Outcome, IsAsked, IsUsedUp, ComesTo, lines_behind, typed_lines, saying, dialogue, dialogue_from, typed}
+use Rattle.dc_teletype.specs.Typed.{ToldTerminal, DialogueOutcome, IsAsked, IsUsedUp, ComesTo, lines_behind, typed_lines, saying, dialogue, dialogue_from, typed}
 use Rattle.dc_teletype.proofs.FirstLineLemmas.{first_of_none, first_at_newline, first_at_limit, none_yet, same_some}
 use Rattle.dc_teletype.proofs.TypedLemmas.{Next, next_by, next_of, no_turn, used_first, came_next, used_there, input_is}
 
@@ -64,14 +64,14 @@ typed_next bytes = behind_next bytes [] refl (omega arith)
 -- ---- what is said
 
 -- nothing is said where a line is read
-reads_sent : (old new : Ahead) (pieces : List Piece) (came : Option TerminalLine) → Reads old pieces came new → sent pieces ≡ []
+reads_sent : (old new : TypeAhead) (pieces : List Piece) (came : Option TerminalLine) → Reads old pieces came new → sent pieces ≡ []
 reads_sent old new [] came reads = refl
 reads_sent old new (Got bytes ∷ pieces) came reads = reads_sent (record { held = old.held ++ bytes; has_ended = old.has_ended }) new pieces came reads.1
 reads_sent old new (Sent bytes ∷ pieces) came reads = absurd reads
 reads_sent old new (CutPiece bytes ∷ pieces) came reads = absurd reads
 reads_sent old new (Lost ∷ pieces) came reads = absurd reads
 
-saying_twice : (a b : List ℕ) (outcome : Outcome) → saying a (saying b outcome) ≡ saying (a ++ b) outcome
+saying_twice : (a b : List ℕ) (outcome : DialogueOutcome) → saying a (saying b outcome) ≡ saying (a ++ b) outcome
 saying_twice a b outcome = ap (λ (l : List ℕ). record outcome { said = l }) (sym (append_assoc a b outcome.said))
 
 turn_sent : (said : List ℕ) (reads later : List Piece) (pieces : List Piece) → sent reads ≡ [] → pieces ≡ Sent said ∷ (reads ++ later) → sent pieces ≡ said ++ sent later
@@ -99,7 +99,7 @@ module _ (backup : Bool) where
   none_typed bytes (Some first) none = absurd (cc)
 
   -- a course of turns is said before what the dialogue comes to then
-  goes_on : (came : List (Option TerminalLine)) (start new : Step) (ahead last : Ahead) (pieces : List Piece) (left : List ℕ) → IsUsedUp last left → Goes backup start ahead came pieces new last
+  goes_on : (came : List (Option TerminalLine)) (start new : Step) (ahead last : TypeAhead) (pieces : List Piece) (left : List ℕ) → IsUsedUp last left → Goes backup start ahead came pieces new last
       → dialogue backup start (typed_lines (ahead.held ++ (got pieces ++ left))) ≡ saying (sent pieces) (dialogue backup new (typed_lines (last.held ++ left)))
   goes_on [] start new ahead last pieces left used goes =
       rw (goes.0, goes.1, goes.2) refl
@@ -129,7 +129,7 @@ module _ (backup : Bool) (start : Step) (old new : ToldTerminal) (asked : Asked)
       ap (λ (l : List ℕ). dialogue backup start (typed_lines (old.ahead.held ++ l))) (input_is backup start old new asked done)
       ∙ goes_on backup done.held.came start done.held.step old.ahead done.held.ahead done.held.gone new.input (used_there backup start old new asked done) done.held.goes
       ∙ ap (saying (sent done.held.gone)) (over_by backup (typed_lines (done.held.ahead.held ++ new.input)) done.held.step.said done.held.step.stage asked done.held.ends.0)
-      ∙ ap (λ (a : Ahead). record { said = sent done.held.gone ++ done.held.step.said; asked = asked; unused = typed_lines (a.held ++ new.input) }) (sym done.held.ends.2)
+      ∙ ap (λ (a : TypeAhead). record { said = sent done.held.gone ++ done.held.step.said; asked = asked; unused = typed_lines (a.held ++ new.input) }) (sym done.held.ends.2)
 
   talk_is : sent new.talk ≡ sent old.talk ++ (sent done.held.gone ++ done.held.step.said)
   talk_is =
@@ -139,7 +139,7 @@ module _ (backup : Bool) (start : Step) (old new : ToldTerminal) (asked : Asked)
 
   pub comes_to : ComesTo (dialogue backup start (typed_lines (typed old))) old new asked
   comes_to = record {
-    said = talk_is ∙ ap (λ (o : Outcome). sent old.talk ++ o.said) (sym held_outcome);
-    asked_is = ap (λ (o : Outcome). o.asked) (sym held_outcome);
-    unused = ap (λ (o : Outcome). o.unused) (sym held_outcome);
+    said = talk_is ∙ ap (λ (o : DialogueOutcome). sent old.talk ++ o.said) (sym held_outcome);
+    asked_is = ap (λ (o : DialogueOutcome). o.asked) (sym held_outcome);
+    unused = ap (λ (o : DialogueOutcome). o.unused) (sym held_outcome);
   }

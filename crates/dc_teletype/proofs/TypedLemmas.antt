@@ -5,7 +5,7 @@ use Rattle.dc_outside.specs.declared.link.Piece.TheVariants.{Got, Sent, Cut as C
 use Rattle.dc_teletype.specs.declared.terminal.TerminalLine.{TerminalLine}
 use Rattle.dc_outside.specs.Talk.{got}
 use Rattle.dc_serve.proofs.Talks.{got-append}
-use Rattle.dc_teletype.specs.TerminalLines.{Ahead, Reads, IsFirst, IsLast, with_bytes, first_line, last_line}
+use Rattle.dc_teletype.specs.TerminalLines.{TypeAhead, Reads, IsFirst, IsLast, with_bytes, first_line, last_line}
 use Rattle.dc_teletype.specs.declared.teletype.Asked.{Asked}
 use Rattle.dc_teletype.specs.Dialogue.{Step, Stage, Over, Goes, turn}
 use Rattle.dc_teletype.specs.Typed.{ToldTerminal, IsAsked, IsUsedUp, typed}
@@ -27,19 +27,19 @@ abbrev pub next_of : List ℕ → Next
 next_of bytes = next_by bytes (first_line bytes)
 
 -- what reads bring is the next line of what is typed
-abbrev IsNext : Ahead → List Piece → List ℕ → Option TerminalLine → Ahead → Type 0
+abbrev IsNext : TypeAhead → List Piece → List ℕ → Option TerminalLine → TypeAhead → Type 0
 IsNext old pieces left came new = next_of (old.held ++ (got pieces ++ left)) ≡ record { came = came; rest = new.held ++ left }
 
-first_is_next : (old new : Ahead) (left : List ℕ) (came : Option TerminalLine) → IsFirst old came new → IsNext old [] left came new
+first_is_next : (old new : TypeAhead) (left : List ℕ) (came : Option TerminalLine) → IsFirst old came new → IsNext old [] left came new
 first_is_next old new left came first =
     ap (λ (f : Option (TerminalLine × List ℕ)). next_by (old.held ++ left) f) (first_more old.held left first.line new.held first.first) ∙ ap (λ (c : Option TerminalLine). record { came = c; rest = new.held ++ left }) (sym first.came_is)
 
-last_is_next : (old new : Ahead) (left : List ℕ) (came : Option TerminalLine) → IsUsedUp new left → IsLast old came new → IsNext old [] left came new
+last_is_next : (old new : TypeAhead) (left : List ℕ) (came : Option TerminalLine) → IsUsedUp new left → IsLast old came new → IsNext old [] left came new
 last_is_next old new left came used last =
     let none_left : left ≡ [] = used last.end_is in
     rw (none_left, append-nil old.held, last.none) (λ i. record { came = sym last.came_is i; rest = (sym last.held_is ∙ sym (append-nil new.held)) i })
 
-pub next_line : (old new : Ahead) (pieces : List Piece) (left : List ℕ) (came : Option TerminalLine) → IsUsedUp new left → Reads old pieces came new → IsNext old pieces left came new
+pub next_line : (old new : TypeAhead) (pieces : List Piece) (left : List ℕ) (came : Option TerminalLine) → IsUsedUp new left → Reads old pieces came new → IsNext old pieces left came new
 next_line old new [] left came used (inl first) = first_is_next old new left came first
 next_line old new [] left came used (inr last) = last_is_next old new left came used last
 next_line old new (Got bytes ∷ pieces) left came used reads =
@@ -51,7 +51,7 @@ next_line old new (CutPiece bytes ∷ pieces) left came used reads = absurd read
 next_line old new (Lost ∷ pieces) left came used reads = absurd reads
 
 -- the input had ended only where none of it was left
-pub used_before : (old new : Ahead) (pieces : List Piece) (left : List ℕ) (came : Option TerminalLine) → IsUsedUp new left → Reads old pieces came new → IsUsedUp old (got pieces ++ left)
+pub used_before : (old new : TypeAhead) (pieces : List Piece) (left : List ℕ) (came : Option TerminalLine) → IsUsedUp new left → Reads old pieces came new → IsUsedUp old (got pieces ++ left)
 used_before old new [] left came used (inl first) = λ ended. used (first.end_is ∙ ended)
 used_before old new [] left came used (inr last) = λ ended. used last.end_is
 used_before old new (Got bytes ∷ pieces) left came used reads = λ ended. absurd (let on = reads.0.on in cc)
@@ -69,15 +69,15 @@ turn_got said reads later left pieces is =
 -- ---- turns
 
 module _ (backup : Bool) where
-  pub used_first : (came : List (Option TerminalLine)) (old new : Step) (ahead last : Ahead) (pieces : List Piece) (left : List ℕ) → IsUsedUp last left → Goes backup old ahead came pieces new last → IsUsedUp ahead (got pieces ++ left)
+  pub used_first : (came : List (Option TerminalLine)) (old new : Step) (ahead last : TypeAhead) (pieces : List Piece) (left : List ℕ) → IsUsedUp last left → Goes backup old ahead came pieces new last → IsUsedUp ahead (got pieces ++ left)
   used_first [] old new ahead last pieces left used goes =
-      λ ended. ap (λ (l : List Piece). got l ++ left) goes.0 ∙ used (ap (λ (a : Ahead). a.has_ended) goes.2 ∙ ended)
+      λ ended. ap (λ (l : List Piece). got l ++ left) goes.0 ∙ used (ap (λ (a : TypeAhead). a.has_ended) goes.2 ∙ ended)
   used_first (came ∷ more) old new ahead last pieces left used (reads, later, between, next, pieces_are, here, turn_is, goes) =
       λ ended. turn_got old.said reads later left pieces pieces_are
       ∙ used_before ahead between reads (got later ++ left) came (used_first more next new between last later left used goes) here ended
 
   -- what comes next, and what is typed behind it
-  pub came_next : (came : Option TerminalLine) (said : List ℕ) (ahead between last : Ahead) (pieces reads later : List Piece) (left : List ℕ) → IsUsedUp between (got later ++ left) → pieces ≡ Sent said ∷ (reads ++ later) → Reads ahead reads came between
+  pub came_next : (came : Option TerminalLine) (said : List ℕ) (ahead between last : TypeAhead) (pieces reads later : List Piece) (left : List ℕ) → IsUsedUp between (got later ++ left) → pieces ≡ Sent said ∷ (reads ++ later) → Reads ahead reads came between
       → next_of (ahead.held ++ (got pieces ++ left)) ≡ record { came = came; rest = between.held ++ (got later ++ left) }
   came_next came said ahead between last pieces reads later left used pieces_are here =
       ap (λ (l : List ℕ). next_of (ahead.held ++ l)) (turn_got said reads later left pieces pieces_are) ∙ next_line ahead between reads (got later ++ left) came used here
@@ -86,13 +86,13 @@ module _ (backup : Bool) where
   no_turn came stage asked next over turn_is = let off = sym (ap (λ (s : Stage). turn backup s came) over) ∙ turn_is in cc
 
   -- two dialogues from one step, of which the same is typed, leave the same
-  pub same_rest : (came again : List (Option TerminalLine)) (start new other : Step) (ahead old last end : Ahead) (pieces others : List Piece) (left rest : List ℕ) (asked told : Asked)
+  pub same_rest : (came again : List (Option TerminalLine)) (start new other : Step) (ahead old last end : TypeAhead) (pieces others : List Piece) (left rest : List ℕ) (asked told : Asked)
       → IsUsedUp last left → IsUsedUp end rest → new.stage ≡ Over asked → other.stage ≡ Over told
       → Goes backup start ahead came pieces new last → Goes backup start old again others other end
       → ahead.held ++ (got pieces ++ left) ≡ old.held ++ (got others ++ rest) → last.held ++ left ≡ end.held ++ rest
   same_rest [] [] start new other ahead old last end pieces others left rest asked told used up over done goes went same =
-      ap (λ (a : Ahead). a.held ++ left) goes.2 ∙ sym (ap (λ (l : List Piece). ahead.held ++ (got l ++ left)) goes.0) ∙ same
-      ∙ ap (λ (l : List Piece). old.held ++ (got l ++ rest)) went.0 ∙ sym (ap (λ (a : Ahead). a.held ++ rest) went.2)
+      ap (λ (a : TypeAhead). a.held ++ left) goes.2 ∙ sym (ap (λ (l : List Piece). ahead.held ++ (got l ++ left)) goes.0) ∙ same
+      ∙ ap (λ (l : List Piece). old.held ++ (got l ++ rest)) went.0 ∙ sym (ap (λ (a : TypeAhead). a.held ++ rest) went.2)
   same_rest [] (line ∷ lines) start new other ahead old last end pieces others left rest asked told used up over done goes (reads, later, between, next, pieces_are, here, turn_is, went) same =
       absurd (no_turn line start.stage asked next (ap (λ (s : Step). s.stage) (sym goes.1) ∙ over) turn_is)
   same_rest (line ∷ lines) [] start new other ahead old last end pieces others left rest asked told used up over done (reads, later, between, next, pieces_are, here, turn_is, goes) went same =
@@ -126,13 +126,13 @@ module _ (backup : Bool) (start : Step) (old new : ToldTerminal) (asked : Asked)
     none_behind (byte ∷ front) none = absurd (cc)
 
   pub used_there : IsUsedUp done.held.ahead new.input
-  used_there ended = used_last (ap (λ (a : Ahead). a.has_ended) done.held.ends.2 ∙ ended)
+  used_there ended = used_last (ap (λ (a : TypeAhead). a.has_ended) done.held.ends.2 ∙ ended)
 
 pub one_rest : (backup : Bool) (start : Step) (old new other left : ToldTerminal) (asked again : Asked) → IsAsked backup start old new asked → IsAsked backup start other left again → typed old ≡ typed other → typed new ≡ typed left
 one_rest backup start old new other left asked again first second same =
     let one : typed old ≡ old.ahead.held ++ (got first.held.gone ++ new.input) = ap (λ (l : List ℕ). old.ahead.held ++ l) (input_is backup start old new asked first) in
     let two : typed other ≡ other.ahead.held ++ (got second.held.gone ++ left.input) = ap (λ (l : List ℕ). other.ahead.held ++ l) (input_is backup start other left again second) in
-    ap (λ (a : Ahead). a.held ++ new.input) first.held.ends.2
+    ap (λ (a : TypeAhead). a.held ++ new.input) first.held.ends.2
     ∙ same_rest backup first.held.came second.held.came start first.held.step second.held.step old.ahead other.ahead first.held.ahead second.held.ahead first.held.gone second.held.gone new.input left.input asked again
     (used_there backup start old new asked first) (used_there backup start other left again second) first.held.ends.0 second.held.ends.0 first.held.goes second.held.goes (sym one ∙ same ∙ two)
-    ∙ sym (ap (λ (a : Ahead). a.held ++ left.input) second.held.ends.2)
+    ∙ sym (ap (λ (a : TypeAhead). a.held ++ left.input) second.held.ends.2)

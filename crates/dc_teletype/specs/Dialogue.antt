@@ -10,7 +10,7 @@ use Rattle.dc_outside.specs.declared.link.Piece.TheVariants as piece
 use Rattle.dc_outside.specs.Talk.{then_pieces, got}
 use Rattle.dc_teletype.specs.Answers.{answer_to}
 use Rattle.dc_teletype.specs.Prompts.{heading, introduction, prompt}
-use Rattle.dc_teletype.specs.TerminalLines.{Ahead, Reads, ReadsUntil}
+use Rattle.dc_teletype.specs.TerminalLines.{TypeAhead, Reads, ReadsUntil}
 use Rattle.dc_teletype.specs.declared.answering.Reading.{Reading}
 use Rattle.dc_teletype.specs.declared.answering.Reading.TheVariants as reading
 use Rattle.dc_teletype.specs.declared.teletype.Answer.{Answer}
@@ -69,10 +69,10 @@ turn backup (Waits shown unusable others answers) came = Some (after_reading (re
 turn backup (Over asked) came = None
 
 -- From one step to a later one by these lines. In each turn what is to be said is sent, and then reads come until a line is there.
-abbrev pub Goes : Bool → Step → Ahead → List (Option TerminalLine) → List Piece → Step → Ahead → Type 0
+abbrev pub Goes : Bool → Step → TypeAhead → List (Option TerminalLine) → List Piece → Step → TypeAhead → Type 0
 Goes backup old ahead [] pieces new left = (pieces ≡ []) × (new ≡ old) × (left ≡ ahead)
 Goes backup old ahead (came ∷ more) pieces new left =
-    (reads : List Piece) × (later : List Piece) × (between : Ahead) × (next : Step)
+    (reads : List Piece) × (later : List Piece) × (between : TypeAhead) × (next : Step)
     × (pieces ≡ piece.Sent old.said ∷ (reads ++ later)) × Reads ahead reads came between × (turn backup old.stage came ≡ Some next)
     × Goes backup next between more later new left
 
@@ -82,7 +82,7 @@ IsWaiting (Waits shown unusable others answers) = ⊤
 IsWaiting (Over asked) = ⊥
 
 -- what was to be said was sent, and these reads came where a line was waited for
-pub record StopsReading (error : LinkError) (step : Step) (ahead : Ahead) (pieces : List Piece) : Type 0 where
+pub record StopsReading (error : LinkError) (step : Step) (ahead : TypeAhead) (pieces : List Piece) : Type 0 where
   pub reads : List Piece
   pub pieces_are : pieces ≡ piece.Sent step.said ∷ reads
   pub waiting : IsWaiting step.stage
@@ -96,23 +96,23 @@ pub record IsCutShort (step : Step) (pieces : List Piece) : Type 0 where
   pub pieces_are : pieces ≡ piece.Cut front ∷ []
 
 -- how a dialogue stops at a fault of the terminal, and for want of memory
-abbrev pub Stops : LinkError → Step → Ahead → List Piece → Type 0
+abbrev pub Stops : LinkError → Step → TypeAhead → List Piece → Type 0
 Stops Failed step ahead pieces = IsCutShort step pieces ⊎ StopsReading Failed step ahead pieces
 Stops OutOfMemory step ahead pieces = (pieces ≡ []) ⊎ StopsReading OutOfMemory step ahead pieces
 
 -- how it ends: all was said, or it stopped
-abbrev pub EndsBy : Result Asked LinkError → Step → Ahead → List Piece → Ahead → Type 0
+abbrev pub EndsBy : Result Asked LinkError → Step → TypeAhead → List Piece → TypeAhead → Type 0
 EndsBy (Ok asked) step ahead pieces new = (step.stage ≡ Over asked) × (pieces ≡ piece.Sent step.said ∷ []) × (new ≡ ahead)
 EndsBy (Err error) step ahead pieces new = Stops error step ahead pieces
 
 -- A dialogue was held from this step, with what was ahead on the terminal.
-pub record IsHeld (backup : Bool) (start : Step) (old new : Ahead) (talk new_talk : Option (List Piece)) (input left : Option (List ℕ)) (result : Result Asked LinkError) : Type 0 where
+pub record IsDialogue (backup : Bool) (start : Step) (old new : TypeAhead) (talk new_talk : Option (List Piece)) (input left : Option (List ℕ)) (result : Result Asked LinkError) : Type 0 where
   pub gone : List Piece
   pub last : List Piece
   pub told_is : new_talk ≡ then_pieces talk (gone ++ last)
   pub took : input ≡ prepend_known (got (gone ++ last)) left
   pub came : List (Option TerminalLine)
   pub step : Step
-  pub ahead : Ahead
+  pub ahead : TypeAhead
   pub goes : Goes backup start old came gone step ahead
   pub ends : EndsBy result step ahead last new

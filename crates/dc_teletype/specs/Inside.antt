@@ -10,7 +10,7 @@ use Rattle.dc_outside.specs.declared.link.Piece.TheVariants as piece
 use Rattle.dc_outside.specs.Talk.{then_pieces, got}
 use Rattle.dc_teletype.specs.Columns.{filled, paragraph}
 use Rattle.dc_teletype.specs.Dialogue.{Step, Over, Goes, Stops, answered, reading_of, most_unusable}
-use Rattle.dc_teletype.specs.TerminalLines.{Ahead, Reads, ReadsUntil, first_line, with_bytes}
+use Rattle.dc_teletype.specs.TerminalLines.{TypeAhead, Reads, ReadsUntil, first_line, with_bytes}
 use Rattle.dc_teletype.specs.declared.answering.Reading.{Reading}
 use Rattle.dc_teletype.specs.declared.answering.Reading.TheVariants as reading
 use Rattle.dc_teletype.specs.declared.teletype.Answer.{Answer}
@@ -29,7 +29,7 @@ Takes old None new = (first_line old ≡ None) × (new ≡ old)
 Takes old (Some line) new = first_line old ≡ Some (line, new)
 
 -- a read brought a piece, or the end of the input
-abbrev pub Brings : Ahead → List Piece → Ahead → Type 0
+abbrev pub Brings : TypeAhead → List Piece → TypeAhead → Type 0
 Brings old [] new = (new.held ≡ old.held) × (new.has_ended ≡ true)
 Brings old (piece.Got bytes ∷ []) new = (0 < length bytes) × (new ≡ with_bytes old bytes)
 Brings old pieces new = ⊥
@@ -40,12 +40,12 @@ IsPieceAtMost [] = ⊤
 IsPieceAtMost (piece.Got bytes ∷ []) = ⊤
 IsPieceAtMost pieces = ⊥
 
-abbrev pub BringsBy : Result (Unit {0}) LinkError → Ahead → List Piece → Ahead → Type 0
+abbrev pub BringsBy : Result (Unit {0}) LinkError → TypeAhead → List Piece → TypeAhead → Type 0
 BringsBy (Ok done) old pieces new = Brings old pieces new
 BringsBy (Err Failed) old pieces new = pieces ≡ piece.Lost ∷ []
 BringsBy (Err OutOfMemory) old pieces new = IsPieceAtMost pieces
 
-pub record HasBrought (old new : Ahead) (talk new_talk : Option (List Piece)) (input left : Option (List ℕ)) (result : Result (Unit {0}) LinkError) : Type 0 where
+pub record HasBrought (old new : TypeAhead) (talk new_talk : Option (List Piece)) (input left : Option (List ℕ)) (result : Result (Unit {0}) LinkError) : Type 0 where
   pub pieces : List Piece
   pub told_is : new_talk ≡ then_pieces talk pieces
   pub took : input ≡ prepend_known (got pieces) left
@@ -57,26 +57,26 @@ answered_or_back None others answers = record { said = newline ∷ []; stage = O
 answered_or_back (Some answer) others answers = answered answer others answers
 
 -- A question got its answer, and what was to be said is said up to the next step; or the terminal stopped.
-abbrev pub HearsBy : Bool → Step → Ahead → List Piece → Result (Option Answer) LinkError → List Shown → List Answer → Ahead → Type 0
+abbrev pub HearsBy : Bool → Step → TypeAhead → List Piece → Result (Option Answer) LinkError → List Shown → List Answer → TypeAhead → Type 0
 HearsBy backup start old pieces (Ok answer) others answers new =
     (came : List (Option TerminalLine)) × Goes backup start old came pieces (answered_or_back answer others answers) new
 HearsBy backup start old pieces (Err error) others answers new =
-    (came : List (Option TerminalLine)) × (gone : List Piece) × (last : List Piece) × (step : Step) × (ahead : Ahead)
+    (came : List (Option TerminalLine)) × (gone : List Piece) × (last : List Piece) × (step : Step) × (ahead : TypeAhead)
     × (pieces ≡ gone ++ last) × Goes backup start old came gone step ahead × Stops error step ahead last
 
-pub record HasHeard (backup : Bool) (start : Step) (old new : Ahead) (talk new_talk : Option (List Piece)) (input left : Option (List ℕ)) (result : Result (Option Answer) LinkError) (others : List Shown) (answers : List Answer) : Type 0 where
+pub record HasHeard (backup : Bool) (start : Step) (old new : TypeAhead) (talk new_talk : Option (List Piece)) (input left : Option (List ℕ)) (result : Result (Option Answer) LinkError) (others : List Shown) (answers : List Answer) : Type 0 where
   pub pieces : List Piece
   pub told_is : new_talk ≡ then_pieces talk pieces
   pub took : input ≡ prepend_known (got pieces) left
   pub hears : HearsBy backup start old pieces result others answers new
 
 -- a line was read so, or none came until the terminal stopped
-abbrev pub RepliesBy : Bool → Shown → Ahead → List Piece → Result Reading LinkError → Ahead → Type 0
+abbrev pub RepliesBy : Bool → Shown → TypeAhead → List Piece → Result Reading LinkError → TypeAhead → Type 0
 RepliesBy backup shown old pieces (Ok reading) new =
     (came : Option TerminalLine) × Reads old pieces came new × (reading ≡ reading_of shown backup came)
 RepliesBy backup shown old pieces (Err error) new = ReadsUntil error old pieces
 
-pub record HasReplied (backup : Bool) (shown : Shown) (old new : Ahead) (talk new_talk : Option (List Piece)) (input left : Option (List ℕ)) (result : Result Reading LinkError) : Type 0 where
+pub record HasReplied (backup : Bool) (shown : Shown) (old new : TypeAhead) (talk new_talk : Option (List Piece)) (input left : Option (List ℕ)) (result : Result Reading LinkError) : Type 0 where
   pub pieces : List Piece
   pub told_is : new_talk ≡ then_pieces talk pieces
   pub took : input ≡ prepend_known (got pieces) left

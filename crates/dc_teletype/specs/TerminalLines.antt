@@ -35,35 +35,35 @@ last_line [] = None
 last_line (byte ∷ bytes) = Some (Whole (byte ∷ bytes))
 
 -- bytes that came and weren't used, and whether the input has ended
-pub record Ahead : Type 0 where
+pub record TypeAhead : Type 0 where
   pub held : List ℕ
   pub has_ended : Bool
 
 -- no whole line came yet, and more may come
-pub record IsOpen (ahead : Ahead) : Type 0 where
+pub record IsOpen (ahead : TypeAhead) : Type 0 where
   pub none : first_line ahead.held ≡ None
   pub on : ahead.has_ended ≡ false
 
 -- the first line came
-pub record IsFirst (old : Ahead) (came : Option TerminalLine) (new : Ahead) : Type 0 where
+pub record IsFirst (old : TypeAhead) (came : Option TerminalLine) (new : TypeAhead) : Type 0 where
   pub line : TerminalLine
   pub came_is : came ≡ Some line
   pub first : first_line old.held ≡ Some (line, new.held)
   pub end_is : new.has_ended ≡ old.has_ended
 
 -- no line came, and the input has ended: the rest is the last line, where there is any
-pub record IsLast (old : Ahead) (came : Option TerminalLine) (new : Ahead) : Type 0 where
+pub record IsLast (old : TypeAhead) (came : Option TerminalLine) (new : TypeAhead) : Type 0 where
   pub none : first_line old.held ≡ None
   pub came_is : came ≡ last_line old.held
   pub held_is : new.held ≡ []
   pub end_is : new.has_ended ≡ true
 
 -- with these bytes too
-abbrev pub with_bytes : Ahead → List ℕ → Ahead
+abbrev pub with_bytes : TypeAhead → List ℕ → TypeAhead
 with_bytes ahead bytes = record { held = ahead.held ++ bytes; has_ended = ahead.has_ended }
 
 -- These reads came until a line was there, or the input ended. While a line was there, none came.
-abbrev pub Reads : Ahead → List Piece → Option TerminalLine → Ahead → Type 0
+abbrev pub Reads : TypeAhead → List Piece → Option TerminalLine → TypeAhead → Type 0
 Reads old [] came new = IsFirst old came new ⊎ IsLast old came new
 Reads old (piece.Got bytes ∷ pieces) came new = IsOpen old × Reads (with_bytes old bytes) pieces came new
 Reads old (piece.Sent bytes ∷ pieces) came new = ⊥
@@ -71,14 +71,14 @@ Reads old (piece.Cut bytes ∷ pieces) came new = ⊥
 Reads old (piece.Lost ∷ pieces) came new = ⊥
 
 -- These reads came until one failed, or memory ran out.
-abbrev pub ReadsUntil : LinkError → Ahead → List Piece → Type 0
+abbrev pub ReadsUntil : LinkError → TypeAhead → List Piece → Type 0
 ReadsUntil OutOfMemory old [] = ⊤
 ReadsUntil Failed old [] = ⊥
 ReadsUntil error old (piece.Got bytes ∷ pieces) = IsOpen old × ReadsUntil error (with_bytes old bytes) pieces
 ReadsUntil Failed old (piece.Lost ∷ []) = IsOpen old
 ReadsUntil error old pieces = ⊥
 
-abbrev pub ReadsBy : Result (Option TerminalLine) LinkError → Ahead → List Piece → Ahead → Type 0
+abbrev pub ReadsBy : Result (Option TerminalLine) LinkError → TypeAhead → List Piece → TypeAhead → Type 0
 ReadsBy (Ok came) old pieces new = Reads old pieces came new
 ReadsBy (Err error) old pieces new = ReadsUntil error old pieces
 
@@ -89,12 +89,12 @@ RefusalsBy (Err Failed) before now = now ≡ before
 RefusalsBy (Err OutOfMemory) before now = Rose before now ⊎ (now ≡ before)
 
 -- the next line was read
-pub record HasRead (old new : Ahead) (talk new_talk : Option (List Piece)) (input left : Option (List ℕ)) (result : Result (Option TerminalLine) LinkError) : Type 0 where
+pub record HasRead (old new : TypeAhead) (talk new_talk : Option (List Piece)) (input left : Option (List ℕ)) (result : Result (Option TerminalLine) LinkError) : Type 0 where
   pub pieces : List Piece
   pub told_is : new_talk ≡ then_pieces talk pieces
   pub took : input ≡ prepend_known (got pieces) left
   pub reads : ReadsBy result old pieces new
 
 -- the input has ended only where it had, or none of it is left
-abbrev pub EndsWell : Ahead → Ahead → Option (List ℕ) → Type 0
+abbrev pub EndsWell : TypeAhead → TypeAhead → Option (List ℕ) → Type 0
 EndsWell old new left = new.has_ended ≡ true → (old.has_ended ≡ true) ⊎ IsAtEnd left

@@ -10,8 +10,8 @@ use Rattle.dc_teletype.specs.declared.terminal.TerminalLine.{TerminalLine}
 use Rattle.dc_teletype.specs.declared.terminal.TerminalLine.TheVariants.{Whole, Cut}
 use Rattle.dc_outside.specs.declared.link.Piece.{Piece}
 use Rattle.dc_outside.specs.Talk.{sent}
-use Rattle.dc_teletype.specs.TerminalLines.{Ahead, EndsWell, longest, last_line}
-use Rattle.dc_teletype.specs.Dialogue.{Step, Stage, Waits, Over, IsHeld, after_reading, reading_of, answered}
+use Rattle.dc_teletype.specs.TerminalLines.{TypeAhead, EndsWell, longest, last_line}
+use Rattle.dc_teletype.specs.Dialogue.{Step, Stage, Waits, Over, IsDialogue, after_reading, reading_of, answered}
 
 -- ---- lines
 
@@ -31,22 +31,22 @@ typed_lines bytes = lines_behind [] bytes
 -- ---- the dialogue
 
 -- what a dialogue comes to: all that is said, how it ends, and the lines that aren't used
-pub record Outcome : Type 0 where
+pub record DialogueOutcome : Type 0 where
   pub said : List ℕ
   pub asked : Asked
   pub unused : List TerminalLine
 
 -- this is said first
-abbrev pub saying : List ℕ → Outcome → Outcome
+abbrev pub saying : List ℕ → DialogueOutcome → DialogueOutcome
 saying said outcome = record outcome { said = said ++ outcome.said }
 
 -- The input has ended: the question that waits keeps its value, and so do those behind it.
-abbrev pub all_kept : List ℕ → List Shown → List Answer → Outcome
+abbrev pub all_kept : List ℕ → List Shown → List Answer → DialogueOutcome
 all_kept said [] answers = record { said = said ++ newline ∷ []; asked = Answers (answers ++ Keep ∷ []); unused = [] }
 all_kept said (shown ∷ others) answers = saying said (all_kept (answered Keep (shown ∷ others) answers).said others (answers ++ Keep ∷ []))
 
 -- what it comes to by these lines, where this is to be said; a line is used where one is waited for
-abbrev pub dialogue_from : Bool → List TerminalLine → List ℕ → Stage → Outcome
+abbrev pub dialogue_from : Bool → List TerminalLine → List ℕ → Stage → DialogueOutcome
 dialogue_from backup [] said (Over asked) = record { said = said; asked = asked; unused = [] }
 dialogue_from backup [] said (Waits shown unusable others answers) = all_kept said others answers
 dialogue_from backup (line ∷ lines) said (Over asked) = record { said = said; asked = asked; unused = line ∷ lines }
@@ -55,14 +55,14 @@ dialogue_from backup (line ∷ lines) said (Waits shown unusable others answers)
     saying said (dialogue_from backup lines next.said next.stage)
 
 -- What a dialogue comes to from a step, by the lines that are typed.
-abbrev pub dialogue : Bool → Step → List TerminalLine → Outcome
+abbrev pub dialogue : Bool → Step → List TerminalLine → DialogueOutcome
 dialogue backup step lines = dialogue_from backup lines step.said step.stage
 
 -- ---- terminals
 
 -- a terminal of which all is told: what came and wasn't used, the talk, and the input that is left
 pub record ToldTerminal : Type 0 where
-  pub ahead : Ahead
+  pub ahead : TypeAhead
   pub talk : List Piece
   pub input : List ℕ
 
@@ -71,17 +71,17 @@ abbrev pub typed : ToldTerminal → List ℕ
 typed terminal = terminal.ahead.held ++ terminal.input
 
 -- its input has ended only where none of it is left
-abbrev pub IsUsedUp : Ahead → List ℕ → Type 0
+abbrev pub IsUsedUp : TypeAhead → List ℕ → Type 0
 IsUsedUp ahead input = ahead.has_ended ≡ true → input ≡ []
 
 -- a dialogue was held there, and ended so
 pub record IsAsked (backup : Bool) (start : Step) (old new : ToldTerminal) (asked : Asked) : Type 0 where
-  pub held : IsHeld backup start old.ahead new.ahead (Some old.talk) (Some new.talk) (Some old.input) (Some new.input) (Ok asked)
+  pub held : IsDialogue backup start old.ahead new.ahead (Some old.talk) (Some new.talk) (Some old.input) (Some new.input) (Ok asked)
   pub ends : EndsWell old.ahead new.ahead (Some new.input)
   pub used_up : IsUsedUp old.ahead old.input
 
 -- all that was said there, how the dialogue ended, and the lines that are left are these
-pub record ComesTo (outcome : Outcome) (old new : ToldTerminal) (asked : Asked) : Type 0 where
+pub record ComesTo (outcome : DialogueOutcome) (old new : ToldTerminal) (asked : Asked) : Type 0 where
   pub said : sent new.talk ≡ sent old.talk ++ outcome.said
   pub asked_is : asked ≡ outcome.asked
   pub unused : typed_lines (typed new) ≡ outcome.unused

@@ -6,8 +6,8 @@ ghost use Rattle.dc_teletype.specs.declared.teletype.Answer.{Answer};
 ghost use Rattle.dc_teletype.specs.declared.teletype.Asked.{Asked};
 ghost use Rattle.dc_teletype.specs.declared.teletype.Asked.TheVariants.{Answers};
 ghost use Rattle.dc_teletype.specs.Answered.{HaveAnswers};
-ghost use Rattle.dc_teletype.specs.Dialogue.{Step, IsHeld, opening};
-ghost use Rattle.dc_teletype.specs.TerminalLines.{Ahead};
+ghost use Rattle.dc_teletype.specs.Dialogue.{Step, IsDialogue, opening};
+ghost use Rattle.dc_teletype.specs.TerminalLines.{TypeAhead};
 ghost use Rattle.dc_teletype.specs.Typed.{ToldTerminal, IsAsked, ComesTo, IsUsedUp, dialogue, typed, typed_lines};
 
 /// What is typed determines a dialogue that comes to its end, in whatever pieces the bytes come: all that is said, the answers, and what is
@@ -21,5 +21,5 @@ pub fn typed_lines_determine_the_dialogue()
 /// A dialogue that the user doesn't leave by going back gives each question its answer, in order: it keeps its value, or has one that a
 /// line says.
 pub fn each_question_has_its_answer()
-    ensures { (backup : Bool) (title : List ℕ) (questions : List Shown) (old new : Ahead) (talk new_talk : Option (List Piece)) (input left : Option (List ℕ)) (answers : List Answer) → IsHeld backup (opening title questions) old new talk new_talk input left (Ok (Answers answers)) → HaveAnswers backup questions answers }
+    ensures { (backup : Bool) (title : List ℕ) (questions : List Shown) (old new : TypeAhead) (talk new_talk : Option (List Piece)) (input left : Option (List ℕ)) (answers : List Answer) → IsDialogue backup (opening title questions) old new talk new_talk input left (Ok (Answers answers)) → HaveAnswers backup questions answers }
 {}

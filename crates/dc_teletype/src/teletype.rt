@@ -4,7 +4,7 @@ ghost use Rattle.dc_outside.specs.Counts.{CountsFaults};
 ghost use Rattle.dc_outside.specs.Talk.{AddsWrite};
 ghost use Rattle.dc_text.specs.Ascii.{newline};
 ghost use Rattle.dc_frontend.specs.declared.shown.Shown.{Shown as ShownOf};
-ghost use Rattle.dc_teletype.specs.Dialogue.{opening, Waits, IsHeld};
+ghost use Rattle.dc_teletype.specs.Dialogue.{opening, Waits, IsDialogue};
 ghost use Rattle.dc_teletype.specs.Prompts.{introduction as introduction_of, prompt as prompt_of};
 ghost use Rattle.dc_teletype.specs.TerminalLines.{RefusalsBy, EndsWell};
 ghost use Rattle.dc_teletype.specs.Inside.{HasHeard, HasReplied, answer_of as answer_of_reading, is_answered as is_answered_by};
@@ -66,7 +66,7 @@ impl Teletype {
         backup: bool,
         title: &Text,
     ) -> Result<Asked, LinkError>
-        ensures held { IsHeld backup (opening title.now shown.now) self.old.ahead self.new.ahead (L.talk link.old) (L.talk link.new) (L.left link.old) (L.left link.new) result }
+        ensures held { IsDialogue backup (opening title.now shown.now) self.old.ahead self.new.ahead (L.talk link.old) (L.talk link.new) (L.left link.old) (L.left link.new) result }
         ensures end { EndsWell self.old.ahead self.new.ahead (L.left link.new) }
         ensures faults { CountsFaults (L.faults link.old) (L.faults link.new) result }
         ensures refusals { RefusalsBy result (L.refusals link.old) (L.refusals link.new) }

@@ -36,9 +36,9 @@ pub struct TerminalLines {
 }
 
 impl Model for TerminalLines {
-    ghost use Rattle.dc_teletype.specs.TerminalLines.{Ahead};
+    ghost use Rattle.dc_teletype.specs.TerminalLines.{TypeAhead};
 
-    ghost Value = { Ahead };
+    ghost Value = { TypeAhead };
 
     ghost view = { λ s. record { held = s.held; has_ended = s.has_ended } };
 }

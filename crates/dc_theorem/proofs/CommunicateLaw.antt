@@ -1,10 +1,10 @@
 -- What comes in determines a run of `communicate`.
 use Rattle.std.proofs.Common.{◌≡◌, ℕ, List, Option, Some, refl, ap, sym, subst, ◌∙◌, arith}
 use Rattle.std.specs.Prelude.{◌≤◌}
-use Rattle.dc_serve.specs.Run.{HasRun}
+use Rattle.dc_serve.specs.LinkRun.{IsLinkRun}
 use Rattle.dc_serve.specs.declared.outcome.LinkEnd.TheVariants as link
 use Rattle.dc_session.specs.Asking.{finished}
-use Rattle.dc_session.specs.Machine.{Heeds, Breaks}
+use Rattle.dc_session.specs.Machine.{Handles, Aborts}
 use Rattle.dc_session.specs.SessionState.{FilesState, LinkState, SessionState}
 use Rattle.dc_run.specs.Ends.{status_of}
 use Rattle.dc_run.specs.OneRound.{HasUsed}
@@ -12,8 +12,8 @@ use Rattle.dc_run.specs.Starting.{begun}
 use Rattle.dc_run.specs.World.{World}
 use Rattle.dc_run.specs.declared.outcome.Outcome.{Outcome}
 use Rattle.dc_run.specs.declared.settings.Settings.{Settings}
-use Rattle.dc_usage.specs.Tools.{Names}
-use Rattle.dc_usage.specs.declared.tool.Tool.TheVariants.{Communicate}
+use Rattle.dc_cli.specs.Tools.{Names}
+use Rattle.dc_cli.specs.declared.tool.Tool.TheVariants.{Communicate}
 use Rattle.dc_theorem.specs.Runs.{IsClean, CommunicateAlike}
 use Rattle.dc_theorem.proofs.EndLemmas.{was_used, unwaited, WasServed, was_served}
 use Rattle.dc_outside.specs.Disk.{Disk}
@@ -33,8 +33,8 @@ module _ (words : List (List ℕ)) (owner : List ℕ) (settings : Settings) (dis
   served : WasServed start has.layers has.files has.uses.0.terminal old.links.io has.links.io has.answer.last_code
   served = was_served start has.layers has.files has.uses.0.terminal old.links.io has.links.io has.uses.0.ended has.answer.last_code (sym has.uses.0.ended_is ∙ tool_done words (Communicate owner) settings disk calls old new outcome clean has) has.uses.0.served
 
-  ran : HasRun Heeds Breaks old.links.io.talk has.links.io.talk (Some input) has.links.io.input start link.Done served.state has.answer.last_code
-  ran = subst (λ (k : Option (List ℕ)). HasRun Heeds Breaks old.links.io.talk has.links.io.talk k has.links.io.input start link.Done served.state has.answer.last_code) input_is served.ran
+  ran : IsLinkRun Handles Aborts old.links.io.talk has.links.io.talk (Some input) has.links.io.input start link.Done served.state has.answer.last_code
+  ran = subst (λ (k : Option (List ℕ)). IsLinkRun Handles Aborts old.links.io.talk has.links.io.talk k has.links.io.input start link.Done served.state has.answer.last_code) input_is served.ran
 
   high : served.state.files.counts.faults ≤ old.stock.files.counts.faults
   high = subst (λ (f : FilesState). f.counts.faults ≤ old.stock.files.counts.faults) served.files_are (left_sound words (Communicate owner) settings disk calls old new outcome clean has)
@@ -75,8 +75,8 @@ module _ (words : List (List ℕ)) (owner : List ℕ) (settings : Settings) (dis
       (ran words owner settings disk calls other last again input other_clean other_has other_input_is) in
       let begin : with_counts counts other_begins ≡ begins
       = λ i. begun (Communicate owner) (record { files = record { told = sym starts.told i; counts = counts }; used = sym starts.used i }) (sym starts.roots_are i) settings one.links.io in
-      let other_ran : HasRun Heeds Breaks other.links.io.talk other_has.links.io.talk (Some input) other_has.links.io.input begins link.Done (with_counts counts second.state) other_has.answer.last_code
-      = subst (λ (s : SessionState). HasRun Heeds Breaks other.links.io.talk other_has.links.io.talk (Some input) other_has.links.io.input s link.Done (with_counts counts second.state) other_has.answer.last_code) begin recounted in
+      let other_ran : IsLinkRun Handles Aborts other.links.io.talk other_has.links.io.talk (Some input) other_has.links.io.input begins link.Done (with_counts counts second.state) other_has.answer.last_code
+      = subst (λ (s : SessionState). IsLinkRun Handles Aborts other.links.io.talk other_has.links.io.talk (Some input) other_has.links.io.input s link.Done (with_counts counts second.state) other_has.answer.last_code) begin recounted in
       let disk_told = starts_told words (Communicate owner) settings disk calls one new outcome clean has in
       let same = run_same one.stock.files.counts.faults clean.none_failed.room disk disk_told.0 input one.links.io.talk has.links.io.talk other.links.io.talk other_has.links.io.talk has.links.io.input other_has.links.io.input
       begins first.state (with_counts counts second.state) has.answer.last_code other_has.answer.last_code disk_told.1 refl (starts_low words (Communicate owner) settings disk calls one new outcome clean has)

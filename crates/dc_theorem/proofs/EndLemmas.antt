@@ -9,11 +9,11 @@ use Rattle.dc_layer.specs.declared.pattern.PatternError.TheVariants as pattern
 use Rattle.dc_save.specs.Saving.{after_images}
 use Rattle.dc_save.specs.declared.loading.LoadError.{LoadError}
 use Rattle.dc_save.specs.declared.loading.LoadError.TheVariants as load
-use Rattle.dc_serve.specs.Run.{HasRun}
+use Rattle.dc_serve.specs.LinkRun.{IsLinkRun}
 use Rattle.dc_serve.specs.declared.outcome.LinkEnd.{LinkEnd}
 use Rattle.dc_serve.specs.declared.outcome.LinkEnd.TheVariants as link
 use Rattle.dc_session.specs.Asking.{finished}
-use Rattle.dc_session.specs.Machine.{Heeds, Breaks}
+use Rattle.dc_session.specs.Machine.{Handles, Aborts}
 use Rattle.dc_session.specs.Serving.{IsFinished, Finishes as FinishesSession, IsServed, end_broken}
 use Rattle.dc_session.specs.SessionState.{FilesState, LinkState, SessionState}
 use Rattle.dc_session.specs.declared.stepped.StepError.{StepError}
@@ -36,9 +36,9 @@ use Rattle.dc_outside.specs.Disk.{Disk}
 use Rattle.dc_outside.specs.declared.files.FilesCall.{FilesCall}
 use Rattle.dc_outside.specs.declared.link.LinkError.{LinkError}
 use Rattle.dc_outside.specs.declared.link.LinkError.TheVariants.{Failed, OutOfMemory}
-use Rattle.dc_usage.specs.Tools.{Names}
-use Rattle.dc_usage.specs.declared.tool.Tool.{Tool}
-use Rattle.dc_usage.proofs.AnswerLemmas.{one_tool}
+use Rattle.dc_cli.specs.Tools.{Names}
+use Rattle.dc_cli.specs.declared.tool.Tool.{Tool}
+use Rattle.dc_cli.proofs.AnswerLemmas.{one_tool}
 use Rattle.dc_theorem.specs.Runs.{IsClean}
 
 -- ---- an end before the tool is another
@@ -173,7 +173,7 @@ finished_so state layers (link.Broken error) ended done finishes = absurd (broke
 -- it was served to its end, and finished
 pub record WasServed (start : SessionState) (layers : List LayerState) (files : FilesState) (terminal old new : LinkState) (code : ℕ) : Type 0 where
   pub state : SessionState
-  pub ran : HasRun Heeds Breaks old.talk new.talk old.input new.input start link.Done state code
+  pub ran : IsLinkRun Handles Aborts old.talk new.talk old.input new.input start link.Done state code
   pub files_are : files ≡ state.files
   pub terminal_is : terminal ≡ state.terminal.link
   pub layers_are : layers ≡ (finished state).layers
@@ -183,7 +183,7 @@ was_served start layers files terminal old new ended code done is =
     let so = finished_so is.state layers is.served ended (link_done ended done) is.finishes in
     record {
       state = is.state;
-      ran = subst (λ (e : LinkEnd StepError). HasRun Heeds Breaks old.talk new.talk old.input new.input start e is.state code) so.0 is.ran;
+      ran = subst (λ (e : LinkEnd StepError). IsLinkRun Handles Aborts old.talk new.talk old.input new.input start e is.state code) so.0 is.ran;
       files_are = is.files_are;
       terminal_is = is.terminal_is;
       layers_are = so.1;

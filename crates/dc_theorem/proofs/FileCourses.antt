@@ -25,14 +25,14 @@ found_so path old new Missing readable finds = read_so path old new None finds
 found_so path old new (Faulty line) readable finds = read_so path old new (Some finds.0) finds.2
 found_so path old new (Templates templates) readable finds = read_so path old new (Some finds.0) finds.1
 
-turn_files : (start : SessionState) (turn : FileTurn) → IsFileTurn start turn → turn.new.files ≡ files_read turn.path start.files
-turn_files start turn is = found_so turn.path start.files turn.new.files turn.found is.readable is.finds
+turn_files : (start : SessionState) (transition : FileTurn) → IsFileTurn start transition → transition.new.files ≡ files_read transition.path start.files
+turn_files start transition is = found_so transition.path start.files transition.new.files transition.found is.readable is.finds
 
-pub loads_later : (start : SessionState) (turns : List FileTurn) → IsFileCourse start turns → start.files.counts.faults ≤ (state_after start turns).files.counts.faults
+pub loads_later : (start : SessionState) (transitions : List FileTurn) → IsFileCourse start transitions → start.files.counts.faults ≤ (state_after start transitions).files.counts.faults
 loads_later start [] course = still start.files.counts start.files.counts refl
-loads_later start (turn ∷ turns) course =
-    let here : start.files.counts.faults ≤ turn.new.files.counts.faults = still start.files.counts turn.new.files.counts (ap (λ (f : FilesState). f.counts) (turn_files start turn course.0)) in
-    let rest : turn.new.files.counts.faults ≤ (state_after turn.new turns).files.counts.faults = loads_later turn.new turns course.1 in
+loads_later start (transition ∷ transitions) course =
+    let here : start.files.counts.faults ≤ transition.new.files.counts.faults = still start.files.counts transition.new.files.counts (ap (λ (f : FilesState). f.counts) (turn_files start transition course.0)) in
+    let rest : transition.new.files.counts.faults ≤ (state_after transition.new transitions).files.counts.faults = loads_later transition.new transitions course.1 in
     omega arith
 
 module _ (disk : Disk) where
@@ -52,8 +52,8 @@ module _ (disk : Disk) where
 
   pub one_course : (start : SessionState) (a b : List FileTurn) → IsTold disk start.files.told → IsFileCourse start a → IsFileCourse start b → paths_of a ≡ paths_of b → a ≡ b
   one_course start [] [] told first second paths = refl
-  one_course start [] (turn ∷ b) told first second paths = absurd (cc)
-  one_course start (turn ∷ a) [] told first second paths = absurd (cc)
+  one_course start [] (transition ∷ b) told first second paths = absurd (cc)
+  one_course start (transition ∷ a) [] told first second paths = absurd (cc)
   one_course start (one ∷ a) (two ∷ b) told first second paths =
       let path : one.path ≡ two.path = cc in
       let later : paths_of a ≡ paths_of b = cc in
@@ -66,10 +66,10 @@ module _ (disk : Disk) where
 
 module _ (counts : Counts) where
   abbrev file_with : FileTurn → FileTurn
-  file_with turn = record { path = turn.path; found = turn.found; new = with_counts counts turn.new }
+  file_with transition = record { path = transition.path; found = transition.found; new = with_counts counts transition.new }
 
   abbrev pub files_with_counts : List FileTurn → List FileTurn
-  files_with_counts turns = each file_with turns
+  files_with_counts transitions = each file_with transitions
 
   found_with : (path : List ℕ) (old new : FilesState) (found : Found) → found ≢ Unreadable → Finds path old found new → Finds path (files_with counts old) found (files_with counts new)
   found_with path old new Unreadable readable finds = absurd (readable refl)
@@ -77,24 +77,24 @@ module _ (counts : Counts) where
   found_with path old new (Faulty line) readable finds = (finds.0, finds.1, read_with counts path old new (Some finds.0) finds.2, finds.3)
   found_with path old new (Templates templates) readable finds = (finds.0, read_with counts path old new (Some finds.0) finds.1, finds.2)
 
-  turn_with : (start : SessionState) (turn : FileTurn) → IsFileTurn start turn → IsFileTurn (with_counts counts start) (file_with turn)
-  turn_with start turn is = record {
-    finds = found_with turn.path start.files turn.new.files turn.found is.readable is.finds;
+  turn_with : (start : SessionState) (transition : FileTurn) → IsFileTurn start transition → IsFileTurn (with_counts counts start) (file_with transition)
+  turn_with start transition is = record {
+    finds = found_with transition.path start.files transition.new.files transition.found is.readable is.finds;
     readable = is.readable;
-    new_is = ap (with_counts counts) is.new_is ∙ (λ i. record start { store = (sym (loading_same start (files_with counts start.files) start.owner turn.found) i).store; files = files_with counts turn.new.files });
+    new_is = ap (with_counts counts) is.new_is ∙ (λ i. record start { store = (sym (loading_same start (files_with counts start.files) start.owner transition.found) i).store; files = files_with counts transition.new.files });
   }
 
-  pub course_with : (start : SessionState) (turns : List FileTurn) → IsFileCourse start turns → IsFileCourse (with_counts counts start) (files_with_counts turns)
+  pub course_with : (start : SessionState) (transitions : List FileTurn) → IsFileCourse start transitions → IsFileCourse (with_counts counts start) (files_with_counts transitions)
   course_with start [] course = tt
-  course_with start (turn ∷ turns) course = (turn_with start turn course.0, course_with turn.new turns course.1)
+  course_with start (transition ∷ transitions) course = (turn_with start transition course.0, course_with transition.new transitions course.1)
 
-  pub paths_with : (turns : List FileTurn) → paths_of (files_with_counts turns) ≡ paths_of turns
+  pub paths_with : (transitions : List FileTurn) → paths_of (files_with_counts transitions) ≡ paths_of transitions
   paths_with [] = refl
-  paths_with (turn ∷ turns) = ap (λ (ps : List (List ℕ)). turn.path ∷ ps) (paths_with turns)
+  paths_with (transition ∷ transitions) = ap (λ (ps : List (List ℕ)). transition.path ∷ ps) (paths_with transitions)
 
-  pub state_with : (start : SessionState) (turns : List FileTurn) → state_after (with_counts counts start) (files_with_counts turns) ≡ with_counts counts (state_after start turns)
+  pub state_with : (start : SessionState) (transitions : List FileTurn) → state_after (with_counts counts start) (files_with_counts transitions) ≡ with_counts counts (state_after start transitions)
   state_with start [] = refl
-  state_with start (turn ∷ turns) = state_with turn.new turns
+  state_with start (transition ∷ transitions) = state_with transition.new transitions
 
   refusal_with : (state : SessionState) (path : List ℕ) (found : Found) → refusal_of (with_counts counts state) path found ≡ refusal_of state path found
   refusal_with state path Unreadable = refl
@@ -102,14 +102,14 @@ module _ (counts : Counts) where
   refusal_with state path (Faulty line) = refl
   refusal_with state path (Templates templates) = refl
 
-  pub told_with : (start : SessionState) (turns : List FileTurn) → lines_of (with_counts counts start) (files_with_counts turns) ≡ lines_of start turns
+  pub told_with : (start : SessionState) (transitions : List FileTurn) → lines_of (with_counts counts start) (files_with_counts transitions) ≡ lines_of start transitions
   told_with start [] = refl
-  told_with start (turn ∷ turns) =
-      λ i. option_map_or (λ text. text ++ newline ∷ []) (refusal_with start turn.path turn.found i) [] ++ told_with turn.new turns i
+  told_with start (transition ∷ transitions) =
+      λ i. option_map_or (λ text. text ++ newline ∷ []) (refusal_with start transition.path transition.found i) [] ++ told_with transition.new transitions i
 
-  refuses_with : (start : SessionState) (turns : List FileTurn) → refuses (with_counts counts start) (files_with_counts turns) ≡ refuses start turns
+  refuses_with : (start : SessionState) (transitions : List FileTurn) → refuses (with_counts counts start) (files_with_counts transitions) ≡ refuses start transitions
   refuses_with start [] = refl
-  refuses_with start (turn ∷ turns) = λ i. is_some (refusal_with start turn.path turn.found i) || refuses_with turn.new turns i
+  refuses_with start (transition ∷ transitions) = λ i. is_some (refusal_with start transition.path transition.found i) || refuses_with transition.new transitions i
 
-  pub status_with : (start : SessionState) (turns : List FileTurn) → load_status (with_counts counts start) (files_with_counts turns) ≡ load_status start turns
-  status_with start turns = λ i. if refuses_with start turns i then 1 else 0
+  pub status_with : (start : SessionState) (transitions : List FileTurn) → load_status (with_counts counts start) (files_with_counts transitions) ≡ load_status start transitions
+  status_with start transitions = λ i. if refuses_with start transitions i then 1 else 0

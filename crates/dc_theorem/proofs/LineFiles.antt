@@ -8,8 +8,8 @@ use Rattle.dc_words.specs.declared.stream.Line.TheVariants.{Whole, TooLong}
 use Rattle.dc_proto.specs.Commands.{heard}
 use Rattle.dc_proto.specs.declared.command.Heard.{Heard}
 use Rattle.dc_proto.specs.declared.command.Heard.TheVariants.{Nothing, Known, Refused}
-use Rattle.dc_serve.specs.Course.{Turn, state_after, IsCourse}
-use Rattle.dc_session.specs.Machine.{Heeds, Steps, StepsHeard, Looks, file_of}
+use Rattle.dc_serve.specs.Execution.{Transition, state_after, IsExecution}
+use Rattle.dc_session.specs.Machine.{Handles, Steps, StepsHeard, Looks, file_of}
 use Rattle.dc_session.specs.SessionState.{FilesState, SessionState}
 use Rattle.dc_session.specs.TemplateFiles.{Finds, HasRead}
 use Rattle.dc_session.specs.declared.stepped.Stepped.{Stepped}
@@ -89,9 +89,9 @@ module _ (old new : SessionState) (did : Stepped) where
 
 -- ---- lines
 
-pub course_later : (start : SessionState) (turns : List (Turn SessionState)) → IsCourse Heeds start turns → start.files.counts.faults ≤ (state_after start turns).files.counts.faults
+pub course_later : (start : SessionState) (transitions : List (Transition SessionState)) → IsExecution Handles start transitions → start.files.counts.faults ≤ (state_after start transitions).files.counts.faults
 course_later start [] course = still start.files.counts start.files.counts refl
-course_later start (turn ∷ turns) course =
-    let here : start.files.counts.faults ≤ turn.new.files.counts.faults = steps_later start turn.new course.0.stepped turn.line course.0.steps in
-    let rest : turn.new.files.counts.faults ≤ (state_after turn.new turns).files.counts.faults = course_later turn.new turns course.2 in
+course_later start (transition ∷ transitions) course =
+    let here : start.files.counts.faults ≤ transition.new.files.counts.faults = steps_later start transition.new course.0.stepped transition.line course.0.steps in
+    let rest : transition.new.files.counts.faults ≤ (state_after transition.new transitions).files.counts.faults = course_later transition.new transitions course.2 in
     omega arith

@@ -11,8 +11,8 @@ use Rattle.dc_run.specs.declared.outcome.Outcome.{Outcome}
 use Rattle.dc_run.specs.declared.outcome.ToolEnd.{ToolEnd}
 use Rattle.dc_run.specs.declared.outcome.ToolEnd.TheVariants as tool
 use Rattle.dc_run.specs.declared.settings.Settings.{Settings}
-use Rattle.dc_usage.specs.Tools.{Names}
-use Rattle.dc_usage.specs.declared.tool.Tool.TheVariants.{LoadTemplate}
+use Rattle.dc_cli.specs.Tools.{Names}
+use Rattle.dc_cli.specs.declared.tool.Tool.TheVariants.{LoadTemplate}
 use Rattle.dc_theorem.specs.Runs.{IsClean, LoadAlike}
 use Rattle.dc_theorem.proofs.EndLemmas.{was_used, unwaited}
 use Rattle.dc_outside.specs.Disk.{Disk}
@@ -24,17 +24,17 @@ use Rattle.dc_theorem.proofs.UsedLemmas.{tool_done, left_sound, starts_told, sam
 
 -- all files were loaded
 record LoadsEach (start : SessionState) (paths : List (List ℕ)) (said : List ℕ) (status : ℕ) (new : SessionState) : Type 0 where
-  turns : List FileTurn
-  paths_are : paths ≡ paths_of turns
-  course : IsFileCourse start turns
-  new_is : new ≡ state_after start turns
-  said_is : said ≡ lines_of start turns
-  status_is : status ≡ load_status start turns
+  transitions : List FileTurn
+  paths_are : paths ≡ paths_of transitions
+  course : IsFileCourse start transitions
+  new_is : new ≡ state_after start transitions
+  said_is : said ≡ lines_of start transitions
+  status_is : status ≡ load_status start transitions
 
 loads_each : (start : SessionState) (paths : List (List ℕ)) (said : List ℕ) (status : ℕ) (new : SessionState) → HasLoadedFiles start paths tool.Done said status new → LoadsEach start paths said status new
 loads_each start paths said status new loaded = record {
-  turns = loaded.turns;
-  paths_are = loaded.paths_are ∙ ap (λ (ps : List (List ℕ)). paths_of loaded.turns ++ ps) loaded.ends.0 ∙ append-nil (paths_of loaded.turns);
+  transitions = loaded.transitions;
+  paths_are = loaded.paths_are ∙ ap (λ (ps : List (List ℕ)). paths_of loaded.transitions ++ ps) loaded.ends.0 ∙ append-nil (paths_of loaded.transitions);
   course = loaded.course;
   new_is = loaded.ends.1;
   said_is = loaded.said_is;
@@ -43,12 +43,12 @@ loads_each start paths said status new loaded = record {
 
 loads_with : (counts : Counts) (start : SessionState) (paths : List (List ℕ)) (said : List ℕ) (status : ℕ) (new : SessionState) → LoadsEach start paths said status new → LoadsEach (with_counts counts start) paths said status (with_counts counts new)
 loads_with counts start paths said status new loads = record {
-  turns = files_with_counts counts loads.turns;
-  paths_are = loads.paths_are ∙ sym (paths_with counts loads.turns);
-  course = course_with counts start loads.turns loads.course;
-  new_is = ap (with_counts counts) loads.new_is ∙ sym (state_with counts start loads.turns);
-  said_is = loads.said_is ∙ sym (told_with counts start loads.turns);
-  status_is = loads.status_is ∙ sym (status_with counts start loads.turns);
+  transitions = files_with_counts counts loads.transitions;
+  paths_are = loads.paths_are ∙ sym (paths_with counts loads.transitions);
+  course = course_with counts start loads.transitions loads.course;
+  new_is = ap (with_counts counts) loads.new_is ∙ sym (state_with counts start loads.transitions);
+  said_is = loads.said_is ∙ sym (told_with counts start loads.transitions);
+  status_is = loads.status_is ∙ sym (status_with counts start loads.transitions);
 }
 
 module _ (words : List (List ℕ)) (owner : List ℕ) (paths : List (List ℕ)) (settings : Settings) (disk : Disk) (calls : List FilesCall) where
@@ -65,8 +65,8 @@ module _ (words : List (List ℕ)) (owner : List ℕ) (paths : List (List ℕ)) 
 
     mid_high : has.mid.files.counts.faults ≤ old.stock.files.counts.faults
     mid_high =
-        let later : has.mid.files.counts.faults ≤ (state_after start loads.turns).files.counts.faults = loads_later start loads.turns loads.course in
-        let high : (state_after start loads.turns).files.counts.faults ≤ old.stock.files.counts.faults
+        let later : has.mid.files.counts.faults ≤ (state_after start loads.transitions).files.counts.faults = loads_later start loads.transitions loads.course in
+        let high : (state_after start loads.transitions).files.counts.faults ≤ old.stock.files.counts.faults
         = subst (λ (f : FilesState). f.counts.faults ≤ old.stock.files.counts.faults) (has.uses.files_are ∙ ap (λ (s : SessionState). s.files) loads.new_is) (left_sound words (LoadTemplate owner paths) settings disk calls old new outcome clean has) in
         omega arith
 
@@ -92,14 +92,14 @@ module _ (words : List (List ℕ)) (owner : List ℕ) (paths : List (List ℕ)) 
         = subst (λ (s : SessionState). LoadsEach s paths other_has.told other_has.answer.status (with_counts counts other_has.uses.state)) begin
         (loads_with counts other_begins paths other_has.told other_has.answer.status other_has.uses.state (loads other last again other_clean other_has)) in
         let disk_told = starts_told words (LoadTemplate owner paths) settings disk calls one new outcome clean has in
-        let turns : first.turns ≡ second.turns
-        = one_course disk begins first.turns second.turns disk_told first.course second.course (sym first.paths_are ∙ second.paths_are) in
+        let transitions : first.transitions ≡ second.transitions
+        = one_course disk begins first.transitions second.transitions disk_told first.course second.course (sym first.paths_are ∙ second.paths_are) in
         let state : has.uses.state ≡ with_counts counts other_has.uses.state
-        = first.new_is ∙ ap (λ (ts : List FileTurn). state_after begins ts) turns ∙ sym second.new_is in
+        = first.new_is ∙ ap (λ (ts : List FileTurn). state_after begins ts) transitions ∙ sym second.new_is in
         let said : has.told ≡ other_has.told
-        = first.said_is ∙ ap (λ (ts : List FileTurn). lines_of begins ts) turns ∙ sym second.said_is in
+        = first.said_is ∙ ap (λ (ts : List FileTurn). lines_of begins ts) transitions ∙ sym second.said_is in
         let status : has.answer.status ≡ other_has.answer.status
-        = first.status_is ∙ ap (λ (ts : List FileTurn). load_status begins ts) turns ∙ sym second.status_is in
+        = first.status_is ∙ ap (λ (ts : List FileTurn). load_status begins ts) transitions ∙ sym second.status_is in
         record {
           leave = leave_alike words (LoadTemplate owner paths) settings disk calls one new other last outcome again clean other_clean has other_has
               (has.uses.layers_are ∙ ap (λ (s : SessionState). s.store.layers) state ∙ sym other_has.uses.layers_are) (ap (λ (f : FilesState). f.told) has.uses.files_are ∙ ap (λ (s : SessionState). s.files.told) state ∙ sym (ap (λ (f : FilesState). f.told) other_has.uses.files_are)) said

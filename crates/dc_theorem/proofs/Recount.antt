@@ -9,14 +9,14 @@ use Rattle.dc_proto.specs.Commands.{heard}
 use Rattle.dc_proto.specs.declared.command.Command.{Command}
 use Rattle.dc_proto.specs.declared.command.Heard.{Heard}
 use Rattle.dc_proto.specs.declared.command.Heard.TheVariants.{Nothing, Known, Refused}
-use Rattle.dc_serve.specs.Course.{Turn, lines_of, state_after, is_stop, stops, replies, add_reply, last_code_from, code_after, IsCourse}
-use Rattle.dc_serve.specs.Run.{HasRun, AreServed}
-use Rattle.dc_serve.specs.Step.{IsCaughtUp}
-use Rattle.dc_serve.specs.declared.heeds.Heeded.{Heeded}
+use Rattle.dc_serve.specs.Execution.{Transition, lines_of, state_after, is_stop, stops, replies, add_reply, last_code_from, code_after, IsExecution}
+use Rattle.dc_serve.specs.LinkRun.{IsLinkRun, AreServed}
+use Rattle.dc_serve.specs.Answering.{IsCaughtUp}
+use Rattle.dc_serve.specs.declared.machine.Response.{Response}
 use Rattle.dc_serve.specs.declared.outcome.LinkEnd.TheVariants.{Done}
 use Rattle.dc_session.specs.Answers.{answer}
 use Rattle.dc_session.specs.Displays.{Display, Shows}
-use Rattle.dc_session.specs.Machine.{Heeds, Breaks, Steps, StepsHeard, HasDone, Looks, file_of}
+use Rattle.dc_session.specs.Machine.{Handles, Aborts, Steps, StepsHeard, HasDone, Looks, file_of}
 use Rattle.dc_session.specs.SessionState.{FilesState, SessionState}
 use Rattle.dc_session.specs.TemplateFiles.{Finds, HasRead}
 use Rattle.dc_session.specs.declared.stepped.Stepped.{Stepped}
@@ -34,11 +34,11 @@ files_with counts files = record { told = files.told; counts = counts }
 abbrev pub with_counts : Counts → SessionState → SessionState
 with_counts counts state = record state { files = files_with counts state.files }
 
-abbrev turn_with : Counts → Turn SessionState → Turn SessionState
-turn_with counts turn = record { line = turn.line; did = turn.did; new = with_counts counts turn.new }
+abbrev turn_with : Counts → Transition SessionState → Transition SessionState
+turn_with counts transition = record { line = transition.line; did = transition.did; new = with_counts counts transition.new }
 
-abbrev turns_with : Counts → List (Turn SessionState) → List (Turn SessionState)
-turns_with counts turns = each (turn_with counts) turns
+abbrev turns_with : Counts → List (Transition SessionState) → List (Transition SessionState)
+turns_with counts transitions = each (turn_with counts) transitions
 
 pub read_with : (counts : Counts) (path : List ℕ) (old new : FilesState) (text : Option (List ℕ)) → HasRead path old new text → HasRead path (files_with counts old) (files_with counts new) text
 read_with counts path old new text read = record { told_is = read.told_is; counts = refl; found_is = read.found_is }
@@ -79,48 +79,48 @@ module _ (counts : Counts) (n : ℕ) (room : n < 2 ^ 64 - 1) where
     steps_with TooLong did steps = (steps.0, ap (with_counts counts) steps.1)
     steps_with (Whole line) did steps = heard_with (heard old.asking.escape line) did steps
 
-    heeds_with : (line : Line) (did : Heeded) → Heeds old line did new → Heeds (with_counts counts old) line did (with_counts counts new)
-    heeds_with line did heeds = record { stepped = heeds.stepped; steps = steps_with line heeds.stepped heeds.steps; did_is = heeds.did_is }
+    heeds_with : (line : Line) (did : Response) → Handles old line did new → Handles (with_counts counts old) line did (with_counts counts new)
+    heeds_with line did steps = record { stepped = steps.stepped; steps = steps_with line steps.stepped steps.steps; did_is = steps.did_is }
 
   -- ---- turns
 
-  course_with : (start : SessionState) (turns : List (Turn SessionState)) → n ≤ start.files.counts.faults → (state_after start turns).files.counts.faults ≤ n → IsCourse Heeds start turns
-      → IsCourse Heeds (with_counts counts start) (turns_with counts turns)
+  course_with : (start : SessionState) (transitions : List (Transition SessionState)) → n ≤ start.files.counts.faults → (state_after start transitions).files.counts.faults ≤ n → IsExecution Handles start transitions
+      → IsExecution Handles (with_counts counts start) (turns_with counts transitions)
   course_with start [] low high course = tt
-  course_with start (turn ∷ turns) low high course =
-      let here : start.files.counts.faults ≤ turn.new.files.counts.faults = steps_later start turn.new course.0.stepped turn.line course.0.steps in
-      let rest : turn.new.files.counts.faults ≤ (state_after turn.new turns).files.counts.faults = course_later turn.new turns course.2 in (
-        heeds_with start turn.new low (omega arith) turn.line turn.did course.0,
+  course_with start (transition ∷ transitions) low high course =
+      let here : start.files.counts.faults ≤ transition.new.files.counts.faults = steps_later start transition.new course.0.stepped transition.line course.0.steps in
+      let rest : transition.new.files.counts.faults ≤ (state_after transition.new transitions).files.counts.faults = course_later transition.new transitions course.2 in (
+        heeds_with start transition.new low (omega arith) transition.line transition.did course.0,
         (λ stop. ap (turns_with counts) (course.1 stop)),
-        course_with turn.new turns (omega arith) high course.2,
+        course_with transition.new transitions (omega arith) high course.2,
       )
 
-  turns_append : (a b : List (Turn SessionState)) → turns_with counts (a ++ b) ≡ turns_with counts a ++ turns_with counts b
+  turns_append : (a b : List (Transition SessionState)) → turns_with counts (a ++ b) ≡ turns_with counts a ++ turns_with counts b
   turns_append [] b = refl
-  turns_append (turn ∷ a) b = ap (λ (ts : List (Turn SessionState)). turn_with counts turn ∷ ts) (turns_append a b)
+  turns_append (transition ∷ a) b = ap (λ (ts : List (Transition SessionState)). turn_with counts transition ∷ ts) (turns_append a b)
 
-  lines_with : (turns : List (Turn SessionState)) → lines_of (turns_with counts turns) ≡ lines_of turns
+  lines_with : (transitions : List (Transition SessionState)) → lines_of (turns_with counts transitions) ≡ lines_of transitions
   lines_with [] = refl
-  lines_with (turn ∷ turns) = ap (λ (ls : List Line). turn.line ∷ ls) (lines_with turns)
+  lines_with (transition ∷ transitions) = ap (λ (ls : List Line). transition.line ∷ ls) (lines_with transitions)
 
-  stops_with : (turns : List (Turn SessionState)) → stops (turns_with counts turns) ≡ stops turns
+  stops_with : (transitions : List (Transition SessionState)) → stops (turns_with counts transitions) ≡ stops transitions
   stops_with [] = refl
-  stops_with (turn ∷ turns) = ap (λ (b : Bool). is_stop turn.did || b) (stops_with turns)
+  stops_with (transition ∷ transitions) = ap (λ (b : Bool). is_stop transition.did || b) (stops_with transitions)
 
-  replies_with : (turns : List (Turn SessionState)) → replies (turns_with counts turns) ≡ replies turns
+  replies_with : (transitions : List (Transition SessionState)) → replies (turns_with counts transitions) ≡ replies transitions
   replies_with [] = refl
-  replies_with (turn ∷ turns) = ap (add_reply turn.did) (replies_with turns)
+  replies_with (transition ∷ transitions) = ap (add_reply transition.did) (replies_with transitions)
 
-  code_with : (code : ℕ) (turns : List (Turn SessionState)) → last_code_from code (turns_with counts turns) ≡ last_code_from code turns
+  code_with : (code : ℕ) (transitions : List (Transition SessionState)) → last_code_from code (turns_with counts transitions) ≡ last_code_from code transitions
   code_with code [] = refl
-  code_with code (turn ∷ turns) = code_with (code_after code turn.did) turns
+  code_with code (transition ∷ transitions) = code_with (code_after code transition.did) transitions
 
-  state_with : (start : SessionState) (turns : List (Turn SessionState)) → state_after (with_counts counts start) (turns_with counts turns) ≡ with_counts counts (state_after start turns)
+  state_with : (start : SessionState) (transitions : List (Transition SessionState)) → state_after (with_counts counts start) (turns_with counts transitions) ≡ with_counts counts (state_after start transitions)
   state_with start [] = refl
-  state_with start (turn ∷ turns) = state_with turn.new turns
+  state_with start (transition ∷ transitions) = state_with transition.new transitions
 
-  caught_with : (turns : List (Turn SessionState)) (talk : List Piece) → IsCaughtUp turns talk → IsCaughtUp (turns_with counts turns) talk
-  caught_with turns talk caught = record {
+  caught_with : (transitions : List (Transition SessionState)) (talk : List Piece) → IsCaughtUp transitions talk → IsCaughtUp (turns_with counts transitions) talk
+  caught_with transitions talk caught = record {
     gone = turns_with counts caught.gone;
     later = turns_with counts caught.later;
     turns_are = ap (turns_with counts) caught.turns_are ∙ turns_append caught.gone caught.later;
@@ -132,28 +132,28 @@ module _ (counts : Counts) (n : ℕ) (room : n < 2 ^ 64 - 1) where
   -- ---- a run
 
   pub run_with : (talk new_talk : Option (List Piece)) (input left : Option (List ℕ)) (start new : SessionState) (code : ℕ) → n ≤ start.files.counts.faults → new.files.counts.faults ≤ n
-      → HasRun Heeds Breaks talk new_talk input left start Done new code → HasRun Heeds Breaks talk new_talk input left (with_counts counts start) Done (with_counts counts new) code
+      → IsLinkRun Handles Aborts talk new_talk input left start Done new code → IsLinkRun Handles Aborts talk new_talk input left (with_counts counts start) Done (with_counts counts new) code
   run_with talk new_talk input left start new code low high run =
       let are_said = run.answered.are_said in
       record {
         pieces = run.pieces;
         told_is = run.told_is;
         took = run.took;
-        turns = turns_with counts run.turns;
+        transitions = turns_with counts run.transitions;
         rest = run.rest;
-        course = course_with start run.turns low (subst (λ (s : SessionState). s.files.counts.faults ≤ n) are_said.state_is high) run.course;
-        served = subst (λ (ls : List Line). AreServed run.pieces input (ls ++ run.rest)) (sym (lines_with run.turns)) run.served;
-        in_step = λ before piece later is read. caught_with run.turns before (run.in_step before piece later is read);
+        course = course_with start run.transitions low (subst (λ (s : SessionState). s.files.counts.faults ≤ n) are_said.state_is high) run.course;
+        served = subst (λ (ls : List Line). AreServed run.pieces input (ls ++ run.rest)) (sym (lines_with run.transitions)) run.served;
+        in_step = λ before piece later is read. caught_with run.transitions before (run.in_step before piece later is read);
         calls = run.calls;
         answered = record {
           are_said = record {
-            pieces_are = are_said.pieces_are ∙ sym (replies_with run.turns);
-            state_is = ap (with_counts counts) are_said.state_is ∙ sym (state_with start run.turns);
-            code_is = are_said.code_is ∙ sym (code_with 0 run.turns);
+            pieces_are = are_said.pieces_are ∙ sym (replies_with run.transitions);
+            state_is = ap (with_counts counts) are_said.state_is ∙ sym (state_with start run.transitions);
+            code_is = are_said.code_is ∙ sym (code_with 0 run.transitions);
           };
           read = elim run.answered.read [
-            | inl stop ↦ inl (stops_with run.turns ∙ stop)
-            | inr read ↦ inr (lines_with run.turns ∙ read.0, read.1)
+            | inl stop ↦ inl (stops_with run.transitions ∙ stop)
+            | inr read ↦ inr (lines_with run.transitions ∙ read.0, read.1)
           ];
         };
       }

@@ -3,11 +3,11 @@ use Rattle.std.proofs.Common.{◌≡◌, ℕ, false, true, List, [], Option, Som
 use Rattle.std.specs.Prelude.{◌≤◌}
 use Rattle.dc_frontend.specs.declared.frontend.Frontend.{Frontend}
 use Rattle.dc_proto.specs.declared.priority.Priority.{Priority}
-use Rattle.dc_serve.specs.Run.{HasRun}
+use Rattle.dc_serve.specs.LinkRun.{IsLinkRun}
 use Rattle.dc_serve.specs.declared.outcome.LinkEnd.TheVariants as link
 use Rattle.dc_session.specs.Alike.{AreAlike}
 use Rattle.dc_session.specs.Asking.{finished}
-use Rattle.dc_session.specs.Machine.{Heeds, Breaks}
+use Rattle.dc_session.specs.Machine.{Handles, Aborts}
 use Rattle.dc_session.specs.SessionState.{FilesState, LinkState, SessionState, nothing_typed}
 use Rattle.dc_run.specs.OneRound.{HasUsed}
 use Rattle.dc_run.specs.Running.{IsStarted}
@@ -15,8 +15,8 @@ use Rattle.dc_run.specs.Starting.{begun}
 use Rattle.dc_run.specs.World.{World}
 use Rattle.dc_run.specs.declared.outcome.Outcome.{Outcome}
 use Rattle.dc_run.specs.declared.settings.Settings.{Settings}
-use Rattle.dc_usage.specs.Tools.{Names}
-use Rattle.dc_usage.specs.declared.tool.Tool.TheVariants.{Run}
+use Rattle.dc_cli.specs.Tools.{Names}
+use Rattle.dc_cli.specs.declared.tool.Tool.TheVariants.{Run}
 use Rattle.dc_theorem.specs.Runs.{IsClean, AreTypedAlike, RunAlike}
 use Rattle.dc_theorem.proofs.EndLemmas.{was_used, unstarted_other, WasServed, was_served}
 use Rattle.dc_outside.specs.Disk.{Disk}
@@ -45,8 +45,8 @@ module _ (words : List (List ℕ)) (owner : List ℕ) (frontend : Option Fronten
         was_served start has.layers has.files has.links.io old.links.child.link has.links.child.link started.ended has.answer.last_code
         (sym started.ended_is ∙ tool_done words (Run owner frontend priority command) settings disk calls old new outcome clean has) started.served
 
-    ran : HasRun Heeds Breaks old.links.child.link.talk has.links.child.link.talk (Some input) has.links.child.link.input start link.Done served.state has.answer.last_code
-    ran = subst (λ (k : Option (List ℕ)). HasRun Heeds Breaks old.links.child.link.talk has.links.child.link.talk k has.links.child.link.input start link.Done served.state has.answer.last_code) input_is served.ran
+    ran : IsLinkRun Handles Aborts old.links.child.link.talk has.links.child.link.talk (Some input) has.links.child.link.input start link.Done served.state has.answer.last_code
+    ran = subst (λ (k : Option (List ℕ)). IsLinkRun Handles Aborts old.links.child.link.talk has.links.child.link.talk k has.links.child.link.input start link.Done served.state has.answer.last_code) input_is served.ran
 
     high : served.state.files.counts.faults ≤ old.stock.files.counts.faults
     high = subst (λ (f : FilesState). f.counts.faults ≤ old.stock.files.counts.faults) served.files_are (left_sound words (Run owner frontend priority command) settings disk calls old new outcome clean has)
@@ -101,8 +101,8 @@ module _ (words : List (List ℕ)) (owner : List ℕ) (frontend : Option Fronten
         (starts_low words (Run owner frontend priority command) settings disk calls other last again other_clean other_has) (high other last again input other_clean other_has other_input_is) (ran other last again input other_clean other_has other_input_is) in
         let begin : with_counts counts other_begins ≡ begins
         = λ i. begun (Run owner frontend priority command) (record { files = record { told = sym starts.told i; counts = counts }; used = sym starts.used i }) (sym starts.roots_are i) settings other.links.io in
-        let other_ran : HasRun Heeds Breaks other.links.child.link.talk other_has.links.child.link.talk (Some input) other_has.links.child.link.input begins link.Done (with_counts counts second.state) other_has.answer.last_code
-        = subst (λ (s : SessionState). HasRun Heeds Breaks other.links.child.link.talk other_has.links.child.link.talk (Some input) other_has.links.child.link.input s link.Done (with_counts counts second.state) other_has.answer.last_code) begin recounted in
+        let other_ran : IsLinkRun Handles Aborts other.links.child.link.talk other_has.links.child.link.talk (Some input) other_has.links.child.link.input begins link.Done (with_counts counts second.state) other_has.answer.last_code
+        = subst (λ (s : SessionState). IsLinkRun Handles Aborts other.links.child.link.talk other_has.links.child.link.talk (Some input) other_has.links.child.link.input s link.Done (with_counts counts second.state) other_has.answer.last_code) begin recounted in
         let disk_told = starts_told words (Run owner frontend priority command) settings disk calls one new outcome clean has in
         let same = run_alike one.stock.files.counts.faults clean.none_failed.room disk disk_told.0 input one.links.child.link.talk has.links.child.link.talk other.links.child.link.talk other_has.links.child.link.talk has.links.child.link.input other_has.links.child.link.input
         (begun (Run owner frontend priority command) has.mid has.roots settings one.links.io) begins first.state (with_counts counts second.state) has.answer.last_code other_has.answer.last_code

@@ -15,7 +15,7 @@ use Rattle.dc_run.specs.declared.outcome.End.TheVariants as end
 use Rattle.dc_run.specs.declared.outcome.Outcome.{Outcome}
 use Rattle.dc_run.specs.declared.outcome.ToolEnd.TheVariants as tool
 use Rattle.dc_run.specs.declared.settings.Settings.{Settings}
-use Rattle.dc_usage.specs.declared.tool.Tool.{Tool}
+use Rattle.dc_cli.specs.declared.tool.Tool.{Tool}
 use Rattle.dc_theorem.specs.Runs.{IsClean, LeaveAlike}
 use Rattle.dc_theorem.proofs.EndLemmas.{HasSaved, waited, saved_so}
 use Rattle.dc_theorem.proofs.StartLaws.{StartAlike, started_later, started_told, one_start}

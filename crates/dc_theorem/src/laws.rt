@@ -8,13 +8,13 @@ ghost use Rattle.dc_proto.specs.declared.priority.Priority.{Priority};
 ghost use Rattle.dc_run.specs.World.{World};
 ghost use Rattle.dc_run.specs.declared.outcome.Outcome.{Outcome};
 ghost use Rattle.dc_run.specs.declared.settings.Settings.{Settings};
-ghost use Rattle.dc_serve.specs.Run.{HasRun};
+ghost use Rattle.dc_serve.specs.LinkRun.{IsLinkRun};
 ghost use Rattle.dc_serve.specs.declared.outcome.LinkEnd.TheVariants.{Done};
 ghost use Rattle.dc_session.specs.Alike.{AreAlike, EndAlike};
-ghost use Rattle.dc_session.specs.Machine.{Heeds, Breaks};
+ghost use Rattle.dc_session.specs.Machine.{Handles, Aborts};
 ghost use Rattle.dc_session.specs.SessionState.{SessionState};
-ghost use Rattle.dc_usage.specs.Tools.{Names};
-ghost use Rattle.dc_usage.specs.declared.tool.Tool.TheVariants.{Communicate, LoadTemplate, Run};
+ghost use Rattle.dc_cli.specs.Tools.{Names};
+ghost use Rattle.dc_cli.specs.declared.tool.Tool.TheVariants.{Communicate, LoadTemplate, Run};
 ghost use Rattle.dc_theorem.specs.Runs.{NoneFailed, IsClean, AreTypedAlike, CommunicateAlike, RunAlike, LoadAlike};
 
 /// The bytes of the link, the disk and what is typed determine a session in which no read of files failed: two from states that are alike
@@ -22,7 +22,7 @@ ghost use Rattle.dc_theorem.specs.Runs.{NoneFailed, IsClean, AreTypedAlike, Comm
 pub fn what_comes_in_determines_the_session()
     ensures { (start other new last : SessionState) (disk : Disk) (calls : List FilesCall) (input : List ℕ) (talk new_talk other_talk last_talk : Option (List Piece)) (left other_left : Option (List ℕ)) (code number : ℕ)
         → start.files.told ≡ record { disk = Some disk; calls = Some calls } → AreAlike start other → NoneFailed start.files.counts new.files.counts → NoneFailed other.files.counts last.files.counts
-        → (one : HasRun Heeds Breaks talk new_talk (Some input) left start Done new code) → (two : HasRun Heeds Breaks other_talk last_talk (Some input) other_left other Done last number)
+        → (one : IsLinkRun Handles Aborts talk new_talk (Some input) left start Done new code) → (two : IsLinkRun Handles Aborts other_talk last_talk (Some input) other_left other Done last number)
         → EndAlike one.pieces two.pieces code number new last }
 {}
 

@@ -3,7 +3,7 @@ use Rattle.dc_question.proofs.laws.refused_rows_change_nothing.Goals as goal
 
 pub returns : goal.returns
 returns c = record {
-  taken = λ store new names row. row_taken store names row new;
+  taken = λ store new names batch. row_taken store names batch new;
   left = row_left;
   refused = row_refused;
   told = row_told;

@@ -3,5 +3,5 @@ use Rattle.dc_run.proofs.LoadLemmas.{loaded_over}
 use Rattle.dc_run.proofs.loading_templates.load_template_files.Goals as goal
 
 pub returns : goal.returns
-returns g c terminal manner asking =
-    loaded_over _ _ _ _ c.args.paths.now _ _ c.load_files-loaded.result _ _ _ (search rules) (search rules) (c.load_files-loaded.ensures.loads terminal manner asking) (search rules) (search rules) (search rules)
+returns g c terminal policy asking =
+    loaded_over _ _ _ _ c.args.paths.now _ _ c.load_files-loaded.result _ _ _ (search rules) (search rules) (c.load_files-loaded.ensures.loads terminal policy asking) (search rules) (search rules) (search rules)

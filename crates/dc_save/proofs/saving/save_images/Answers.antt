@@ -5,7 +5,7 @@ use Rattle.dc_save.specs.declared.saving.SaveError.TheVariants.{OutOfMemory}
 use Rattle.dc_save.specs.Saving.{all_images}
 use Rattle.dc_save.proofs.Ends.{ends}
 use Rattle.dc_save.proofs.ImageLemmas.{reversed_saves}
-use Rattle.dc_save.proofs.Standing.{every_moment}
+use Rattle.dc_save.proofs.DiskState.{every_moment}
 use Rattle.dc_save.proofs.saving.save_images.Goals as goal
 
 pub returns-in-Err-clause-ends : goal.returns-in-Err-clause-ends

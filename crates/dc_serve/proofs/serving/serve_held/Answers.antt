@@ -20,7 +20,7 @@ loop-line-preserved g c =
     let first = rw c.in-Ok-Some.field-0-is at c.in-Ok-Some.ensures.line in
     record {
       gone = gone_more (whole_lines c.args.lines.now) (whole_lines c.loop-line.lines) (whole_lines c.next.new.self) gone.2 c.in-On.ensures.served gone.1 first;
-      held = c.in-On.ensures.held ∙ c.loop-line.invariant.held;
+      borrows = c.in-On.ensures.borrows ∙ c.loop-line.invariant.borrows;
       input = c.in-On.ensures.input ∙ c.loop-line.invariant.input;
       faults = c.in-On.ensures.faults ∙ c.loop-line.invariant.faults;
       refusals = c.in-On.ensures.refusals ∙ c.loop-line.invariant.refusals;

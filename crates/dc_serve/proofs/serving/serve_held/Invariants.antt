@@ -8,8 +8,8 @@ use Rattle.dc_serve.proofs.serving.serve_held.Given as goal
 abbrev pub invariant-loop-line : goal.invariant-loop-line
 invariant-loop-line g l = record {
   gone : (gone : List Line) × (whole_lines l.fn.lines ≡ gone ++ whole_lines l.lines)
-      × HasServed g.H.Heeds.heeds g.H.Heeds.breaks (g.L.Link.talk l.fn.io) (g.L.Link.talk l.io) (g.H.Heeds.sight l.fn.machine) gone On l.fn.last_code (g.H.Heeds.sight l.machine) l.last_code;
-  held : g.H.Heeds.held l.machine ≡ g.H.Heeds.held l.fn.machine;
+      × HasServed g.H.LineMachine.steps g.H.LineMachine.aborts (g.L.Link.talk l.fn.io) (g.L.Link.talk l.io) (g.H.LineMachine.state l.fn.machine) gone On l.fn.last_code (g.H.LineMachine.state l.machine) l.last_code;
+  borrows : g.H.LineMachine.borrows l.machine ≡ g.H.LineMachine.borrows l.fn.machine;
   input : g.L.Link.left l.io ≡ g.L.Link.left l.fn.io;
   faults : g.L.Link.faults l.io ≡ g.L.Link.faults l.fn.io;
   refusals : g.L.Link.refusals l.io ≡ g.L.Link.refusals l.fn.io;

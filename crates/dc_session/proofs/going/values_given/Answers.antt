@@ -15,11 +15,11 @@ loop-question-preserved c =
     let yielded = c.loop-question.yielded in
     let question = c.in-Some.question.now in
     let answer = c.in-Some.answer.now in
-    let turn = zip_turn questions answers yielded c.into_iter-question-iterator.result c.loop-question.question-iterator c.next.new.self c.next.result (search rules) (search rules) c.loop-question.yielded_by (c.in-Some.question, c.in-Some.answer) c.in-Some.is c.next.ensures.steps in
+    let transition = zip_turn questions answers yielded c.into_iter-question-iterator.result c.loop-question.question-iterator c.next.new.self c.next.result (search rules) (search rules) c.loop-question.yielded_by (c.in-Some.question, c.in-Some.answer) c.in-Some.is c.next.ensures.steps in
     c.in_ok-add_value.ensures
     ∙ ap (λ vs. vs ++ cons_option (value_given question answer) []) c.loop-question.invariant
-    ∙ filter_map_more (λ pair. value_given pair.0 pair.1) (zip questions answers) (length yielded) (question, answer) (omega (arith, length-zip questions answers, turn.0, turn.1))
-    ((λ i. (turn.2 question i, turn.3 answer i)) ∙ sym (get_or-zip questions answers (length yielded) (question, answer) turn.0 turn.1))
+    ∙ filter_map_more (λ pair. value_given pair.0 pair.1) (zip questions answers) (length yielded) (question, answer) (omega (arith, length-zip questions answers, transition.0, transition.1))
+    ((λ i. (transition.2 question i, transition.3 answer i)) ∙ sym (get_or-zip questions answers (length yielded) (question, answer) transition.0 transition.1))
     ∙ ap (λ n. filter_map (λ pair. value_given pair.0 pair.1) (take n (zip questions answers))) (sym (length_push yielded (c.in-Some.question, c.in-Some.answer)))
 
 pub returns : goal.returns

@@ -4,4 +4,4 @@ use Rattle.dc_question.proofs.questions.Questions.add_losses.Given as goal
 
 abbrev pub invariant-loop-group : goal.invariant-loop-group
 invariant-loop-group g l =
-    l.row ≡ l.fn.row ++ losses_of (each (λ b. (goal.Layer-dyn g (b.vtable, b.value)).state b.value) l.self.store.now.layers.items) l.self.setting (take l.group-index l.groups)
+    l.batch ≡ l.fn.batch ++ losses_of (each (λ b. (goal.Layer-dyn g (b.vtable, b.value)).state b.value) l.self.store.now.layers.items) l.self.context (take l.group-index l.groups)

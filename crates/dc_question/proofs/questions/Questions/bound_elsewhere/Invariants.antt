@@ -6,4 +6,4 @@ use Rattle.dc_question.proofs.questions.Questions.bound_elsewhere.Given as goal
 abbrev pub invariant-loop-template : goal.invariant-loop-template
 invariant-loop-template g l =
     let layers = each (λ b. (goal.Layer-dyn g (b.vtable, b.value)).state b.value) l.self.store.now.layers.items in
-    bound_elsewhere layers l.self.setting l.list ≡ bound_elsewhere layers l.self.setting (drop l.template-index l.list)
+    bound_elsewhere layers l.self.context l.list ≡ bound_elsewhere layers l.self.context (drop l.template-index l.list)

@@ -9,13 +9,13 @@ pub returns-in-Ok-clause-does : goal.returns-in-Ok-clause-does
 returns-in-Ok-clause-does g c =
     let old : StoreState = stored (each (λ b. (goal.Layer-dyn g (b.vtable, b.value)).state b.value) c.args.self.now.store.now.layers.items) c.args.self.now.store.now.told in
     let new : StoreState = stored (each (λ b. (goal.Layer-dyn g (b.vtable, b.value)).state b.value) c.write.new.self.store.now.layers.items) c.write.new.self.store.now.told in
-    taken_does old c.args.self.now.setting c.args.name.now c.in-Some.item.now c.kind-kind.result c.args.op.now c.in-Some.ensures (c.kind-kind.ensures ∙ ap kind_by c.template.ensures) new c.in-Ok.ensures.ok
+    taken_does old c.args.self.now.context c.args.name.now c.in-Some.item.now c.kind-kind.result c.args.op.now c.in-Some.ensures (c.kind-kind.ensures ∙ ap kind_by c.template.ensures) new c.in-Ok.ensures.ok
 
 pub returns-in-Err-clause-does : goal.returns-in-Err-clause-does
 returns-in-Err-clause-does g c =
     let old : StoreState = stored (each (λ b. (goal.Layer-dyn g (b.vtable, b.value)).state b.value) c.args.self.now.store.now.layers.items) c.args.self.now.store.now.told in
     let new : StoreState = stored (each (λ b. (goal.Layer-dyn g (b.vtable, b.value)).state b.value) c.write.new.self.store.now.layers.items) c.write.new.self.store.now.told in
     refusal_does (Unit {0}) _ old new c.in-Err.error c.refusal.result c.args.name.now c.refusal.ensures.refused c.refusal.ensures.memory
-    (λ e. refused_does old c.args.self.now.setting c.args.name.now c.in-Some.item.now c.kind-kind.result c.args.op.now c.in-Some.ensures (c.kind-kind.ensures ∙ ap kind_by c.template.ensures)
+    (λ e. refused_does old c.args.self.now.context c.args.name.now c.in-Some.item.now c.kind-kind.result c.args.op.now c.in-Some.ensures (c.kind-kind.ensures ∙ ap kind_by c.template.ensures)
     (c.write.ensures.refused (c.in-Err.is ∙ ap (λ (x : StoreError). Err x) e)))
     (λ e. c.write.ensures.unchanged (c.in-Err.is ∙ ap (λ (x : StoreError). Err x) e))

@@ -6,4 +6,4 @@ use Rattle.dc_question.proofs.questions.Questions.leaves.Given as goal
 abbrev pub invariant-loop-name : goal.invariant-loop-name
 invariant-loop-name g l =
     let layers = each (λ b. (goal.Layer-dyn g (b.vtable, b.value)).state b.value) l.self.store.now.layers.items in
-    l.row ≡ each (λ name. write_by layers l.self.setting l.kinds name (DropOwners (l.owner ∷ []))) (take l.name-index l.names)
+    l.batch ≡ each (λ name. write_by layers l.self.context l.kinds name (DropOwners (l.owner ∷ []))) (take l.name-index l.names)

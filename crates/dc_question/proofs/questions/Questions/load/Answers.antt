@@ -1,5 +1,5 @@
 use Rattle.std.proofs.Common.{length, map as each, sym, subst, refl, ◌∙◌}
-use Rattle.dc_store.specs.Rows.{AreOver, AllDistinct}
+use Rattle.dc_store.specs.Batches.{AreOver, AllDistinct}
 use Rattle.dc_question.proofs.BindLemmas.{does_row}
 use Rattle.dc_question.proofs.LoadLemmas.{load_over, load_distinct}
 use Rattle.dc_question.proofs.questions.Questions.load.Goals as goal
@@ -7,13 +7,13 @@ use Rattle.dc_question.proofs.questions.Questions.load.Goals as goal
 pub do_load-requires-clause-over : goal.do_load-requires-clause-over
 do_load-requires-clause-over g c =
     let layers = each (λ b. (goal.Layer-dyn g (b.vtable, b.value)).state b.value) c.args.self.now.store.now.layers.items in
-    subst (λ row. AreOver row (length c.args.self.now.store.now.layers.items)) (sym c.in_ok-row.ensures)
-    (load_over layers c.args.self.now.setting c.args.owner.now c.args.list.now (length c.args.self.now.store.now.layers.items) c.requires.over)
+    subst (λ batch. AreOver batch (length c.args.self.now.store.now.layers.items)) (sym c.in_ok-batch.ensures)
+    (load_over layers c.args.self.now.context c.args.owner.now c.args.list.now (length c.args.self.now.store.now.layers.items) c.requires.over)
 
 pub do_load-requires-clause-distinct : goal.do_load-requires-clause-distinct
 do_load-requires-clause-distinct g c =
     let layers = each (λ b. (goal.Layer-dyn g (b.vtable, b.value)).state b.value) c.args.self.now.store.now.layers.items in
-    subst AllDistinct (sym c.in_ok-row.ensures) (load_distinct layers c.args.self.now.setting c.args.owner.now c.args.list.now c.requires.apart c.requires.names)
+    subst AllDistinct (sym c.in_ok-batch.ensures) (load_distinct layers c.args.self.now.context c.args.owner.now c.args.list.now c.requires.apart c.requires.names)
 
 pub returns-clause-does : goal.returns-clause-does
-returns-clause-does g c = does_row c.do_load.result _ _ _ _ _ _ refl c.in_ok-row.ensures c.do_load.ensures.does
+returns-clause-does g c = does_row c.do_load.result _ _ _ _ _ _ refl c.in_ok-batch.ensures c.do_load.ensures.does

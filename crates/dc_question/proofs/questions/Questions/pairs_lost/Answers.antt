@@ -9,5 +9,5 @@ pub loop-name-preserved : goal.loop-name-preserved
 loop-name-preserved g c =
     let layers = each (λ b. (goal.Layer-dyn g (b.vtable, b.value)).state b.value) c.args.self.now.store.now.layers.items in
     c.in_ok-add_lost.ensures
-    ∙ ap (λ l. l ++ cons_option (option_map (λ t. (t, c.name-item.result)) (loser_of layers c.args.self.now.setting c.args.owner.now c.name-item.result)) []) c.loop-name.invariant
-    ∙ filter_map_more (λ name. option_map (λ t. (t, name)) (loser_of layers c.args.self.now.setting c.args.owner.now name)) c.args.names.now c.loop-name.name-index c.name-item.result (omega arith) c.name-item.is
+    ∙ ap (λ l. l ++ cons_option (option_map (λ t. (t, c.name-item.result)) (loser_of layers c.args.self.now.context c.args.owner.now c.name-item.result)) []) c.loop-name.invariant
+    ∙ filter_map_more (λ name. option_map (λ t. (t, name)) (loser_of layers c.args.self.now.context c.args.owner.now name)) c.args.names.now c.loop-name.name-index c.name-item.result (omega arith) c.name-item.is

@@ -6,4 +6,4 @@ use Rattle.dc_question.proofs.questions.Questions.purge.Goals as goal
 pub leave-requires-clause-names : goal.leave-requires-clause-names
 leave-requires-clause-names g c =
     let layers = each (λ b. (goal.Layer-dyn g (b.vtable, b.value)).state b.value) c.args.self.now.store.now.layers.items in
-    subst AreDistinct (sym (c.as_slice.ensures ∙ c.in_ok-names.ensures)) (owned_differ layers c.args.self.now.setting c.args.owner.now)
+    subst AreDistinct (sym (c.as_slice.ensures ∙ c.in_ok-names.ensures)) (owned_differ layers c.args.self.now.context c.args.owner.now)

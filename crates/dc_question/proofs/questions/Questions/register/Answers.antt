@@ -7,6 +7,6 @@ pub returns-clause-does : goal.returns-clause-does
 returns-clause-does g c =
     let old : StoreState = stored (each (λ b. (goal.Layer-dyn g (b.vtable, b.value)).state b.value) c.args.self.now.store.now.layers.items) c.args.self.now.store.now.told in
     does_same c.bind.result old _ _ _
-    (registers old c.args.self.now.setting c.args.template.now c.args.name.now c.args.owner.now c.in-Some.template c.in_ok-template.field-0 _ c.has_other_template.result
+    (registers old c.args.self.now.context c.args.template.now c.args.name.now c.args.owner.now c.in-Some.template c.in_ok-template.field-0 _ c.has_other_template.result
     c.in_ok-template.ensures c.in-Some.is c.question.ensures c.has_other_template.ensures c.if-has_other_template.false)
     c.bind.ensures.does

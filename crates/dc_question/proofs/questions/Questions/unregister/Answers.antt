@@ -1,7 +1,7 @@
 use Rattle.std.proofs.Common.{[], ◌∷◌, map as each, sym, ap, ◌∙◌}
 use Rattle.dc_store.specs.Plans.{StoreState, stored}
-use Rattle.dc_question.specs.Changes.{row_for}
-use Rattle.dc_question.specs.Ownership.{leave_row}
+use Rattle.dc_question.specs.Changes.{batch_for}
+use Rattle.dc_question.specs.Ownership.{leave_batch}
 use Rattle.dc_question.specs.Questions.{question}
 use Rattle.dc_question.proofs.BindLemmas.{does_same}
 use Rattle.dc_question.proofs.LeaveLemmas.{read_there}
@@ -11,7 +11,7 @@ pub returns-clause-does : goal.returns-clause-does
 returns-clause-does g c =
     let old : StoreState = stored (each (λ b. (goal.Layer-dyn g (b.vtable, b.value)).state b.value) c.args.self.now.store.now.layers.items) c.args.self.now.store.now.told in
     does_same c.leave.result old _ _ _
-    (ap (λ ns. row_for old ns (leave_row old.layers c.args.self.now.setting c.args.owner.now ns)) (c.as_slice.ensures ∙ c.in_ok-names.ensures)
-    ∙ read_there c.args.name.now (question old.layers c.args.self.now.setting c.args.name.now) (row_for old (c.args.name.now ∷ []) (leave_row old.layers c.args.self.now.setting c.args.owner.now (c.args.name.now ∷ [])))
+    (ap (λ ns. batch_for old ns (leave_batch old.layers c.args.self.now.context c.args.owner.now ns)) (c.as_slice.ensures ∙ c.in_ok-names.ensures)
+    ∙ read_there c.args.name.now (question old.layers c.args.self.now.context c.args.name.now) (batch_for old (c.args.name.now ∷ []) (leave_batch old.layers c.args.self.now.context c.args.owner.now (c.args.name.now ∷ [])))
     (sym c.exists.ensures ∙ c.if-not-exists.false))
     c.leave.ensures.does

@@ -20,7 +20,7 @@ returns-in-Some-clause-does g c =
 pub returns-in_err-hold-clause-does : goal.returns-in_err-hold-clause-does
 returns-in_err-hold-clause-does g c =
     let layers = each (λ b. (goal.Layer-dyn g (b.vtable, b.value)).state b.value) c.args.self.now.desk.questions.store.now.layers.items in
-    let at = c.args.self.now.desk.questions.setting in
+    let at = c.args.self.now.desk.questions.context in
     let pick : List ℕ → Option Shown = λ name. option_map (shown layers at name) (kind layers at name) in
     let are = c.in_ok-questions.ensures ∙ ap (filter_map pick) (c.as_slice-2.ensures ∙ c.in_ok-prepared.ensures.names) in
     let none = rw (c.in_default.is, c.as_slice.ensures ∙ c.in_ok-prepared.ensures.names) at c.in_ok-name.ensures in
@@ -30,17 +30,17 @@ returns-in_err-hold-clause-does g c =
 pub returns-in-Back-clause-does : goal.returns-in-Back-clause-does
 returns-in-Back-clause-does g c =
     let layers = each (λ b. (goal.Layer-dyn g (b.vtable, b.value)).state b.value) c.args.self.now.desk.questions.store.now.layers.items in
-    let at = c.args.self.now.desk.questions.setting in
+    let at = c.args.self.now.desk.questions.context in
     let pick : List ℕ → Option Shown = λ name. option_map (shown layers at name) (kind layers at name) in
     let are = c.in_ok-questions.ensures ∙ ap (filter_map pick) (c.as_slice-2.ensures ∙ c.in_ok-prepared.ensures.names) in
     let none = rw (c.in_default.is, c.as_slice.ensures ∙ c.in_ok-prepared.ensures.names) at c.in_ok-name.ensures in
-    let session = ghosts g.row.F g.row.T g.F.Files g.F.Files-dict g.T.Link g.T.Link-dict g.dyn-1 in
-    rw c.lifted-in-Back.ensures (held_does _ c.requires.asks (sym none) Back _ _ (rw (are, c.in-Back.is) at c.in_ok-hold.ensures.asks) c.back_up.result (comes_asking _ [] (session.sight c.hold.new.self) (session.sight c.back_up.new.self) c.back_up.result c.back_up.ensures.comes))
+    let session = ghosts g.batch.F g.batch.T g.F.Files g.F.Files-dict g.T.Link g.T.Link-dict g.dyn-1 in
+    rw c.lifted-in-Back.ensures (held_does _ c.requires.asks (sym none) Back _ _ (rw (are, c.in-Back.is) at c.in_ok-hold.ensures.asks) c.back_up.result (comes_asking _ [] (session.state c.hold.new.self) (session.state c.back_up.new.self) c.back_up.result c.back_up.ensures.comes))
 
 pub take_answers-requires-clause-shown : goal.take_answers-requires-clause-shown
 take_answers-requires-clause-shown g c =
     let layers = each (λ b. (goal.Layer-dyn g (b.vtable, b.value)).state b.value) c.args.self.now.desk.questions.store.now.layers.items in
-    let at = c.args.self.now.desk.questions.setting in
+    let at = c.args.self.now.desk.questions.context in
     let pick : List ℕ → Option Shown = λ name. option_map (shown layers at name) (kind layers at name) in
     let are = c.in_ok-questions.ensures ∙ ap (filter_map pick) (c.as_slice-2.ensures ∙ c.in_ok-prepared.ensures.names) in
     are ∙ sym (ap to_show c.in_ok-hold.ensures.asks.kept)
@@ -48,7 +48,7 @@ take_answers-requires-clause-shown g c =
 pub take_answers-requires-clause-distinct : goal.take_answers-requires-clause-distinct
 take_answers-requires-clause-distinct g c =
     let layers = each (λ b. (goal.Layer-dyn g (b.vtable, b.value)).state b.value) c.args.self.now.desk.questions.store.now.layers.items in
-    let at = c.args.self.now.desk.questions.setting in
+    let at = c.args.self.now.desk.questions.context in
     let pick : List ℕ → Option Shown = λ name. option_map (shown layers at name) (kind layers at name) in
     let are = c.in_ok-questions.ensures ∙ ap (filter_map pick) (c.as_slice-2.ensures ∙ c.in_ok-prepared.ensures.names) in
     subst (λ (qs : List Shown). AreDistinct (each (λ s. s.name) qs)) (sym are) (shown_distinct layers at c.args.self.now.asking.now.prepared c.in_ok-prepared.ensures.distinct)
@@ -56,7 +56,7 @@ take_answers-requires-clause-distinct g c =
 pub returns-clause-does : goal.returns-clause-does
 returns-clause-does g c =
     let layers = each (λ b. (goal.Layer-dyn g (b.vtable, b.value)).state b.value) c.args.self.now.desk.questions.store.now.layers.items in
-    let at = c.args.self.now.desk.questions.setting in
+    let at = c.args.self.now.desk.questions.context in
     let pick : List ℕ → Option Shown = λ name. option_map (shown layers at name) (kind layers at name) in
     let are = c.in_ok-questions.ensures ∙ ap (filter_map pick) (c.as_slice-2.ensures ∙ c.in_ok-prepared.ensures.names) in
     let none = rw (c.in_default.is, c.as_slice.ensures ∙ c.in_ok-prepared.ensures.names) at c.in_ok-name.ensures in

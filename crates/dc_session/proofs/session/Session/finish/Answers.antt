@@ -8,7 +8,7 @@ loop-name-init g c = (marked_none _ _, refl)
 pub loop-name-preserved : goal.loop-name-preserved
 loop-name-preserved g c = (
   marked_more _ _ _ _ c.loop-name.name-index c.name-item.result (omega arith) c.name-item.is c.loop-name.invariant.0 c.in_ok-mark_seen.ensures.others c.in_ok-mark_seen.ensures.kept c.in_ok-mark_seen.ensures.ok,
-  c.in_ok-mark_seen.ensures.held ∙ c.loop-name.invariant.1,
+  c.in_ok-mark_seen.ensures.borrows ∙ c.loop-name.invariant.1,
 )
 
 pub returns-in_err-mark_seen-clause-others : goal.returns-in_err-mark_seen-clause-others
@@ -20,8 +20,8 @@ pub returns-in_err-mark_seen-clause-kept : goal.returns-in_err-mark_seen-clause-
 returns-in_err-mark_seen-clause-kept g c =
     marked_kept _ _ _ _ c.loop-name.name-index c.name-item.result (omega arith) c.name-item.is c.loop-name.invariant.0 c.in_err-mark_seen.ensures.others c.in_err-mark_seen.ensures.kept
 
-pub returns-in_err-mark_seen-clause-held : goal.returns-in_err-mark_seen-clause-held
-returns-in_err-mark_seen-clause-held g c = c.in_err-mark_seen.ensures.held ∙ c.loop-name.invariant.1
+pub returns-in_err-mark_seen-clause-borrows : goal.returns-in_err-mark_seen-clause-borrows
+returns-in_err-mark_seen-clause-borrows g c = c.in_err-mark_seen.ensures.borrows ∙ c.loop-name.invariant.1
 
 pub returns-clause-others : goal.returns-clause-others
 returns-clause-others g c = others_named _ _ _ _ (c.as_slice-name-items.ensures ∙ c.in_ok-asked.ensures.names) c.loop-name.invariant.0.others
@@ -29,5 +29,5 @@ returns-clause-others g c = others_named _ _ _ _ (c.as_slice-name-items.ensures 
 pub returns-clause-kept : goal.returns-clause-kept
 returns-clause-kept g c = c.loop-name.invariant.0.kept
 
-pub returns-clause-held : goal.returns-clause-held
-returns-clause-held g c = c.loop-name.invariant.1
+pub returns-clause-borrows : goal.returns-clause-borrows
+returns-clause-borrows g c = c.loop-name.invariant.1

@@ -10,7 +10,7 @@ use Rattle.dc_session.proofs.session.Session.to_show.Goals as goal
 pub loop-name-preserved : goal.loop-name-preserved
 loop-name-preserved g c =
     let layers = each (λ b. (goal.Layer-dyn g (b.vtable, b.value)).state b.value) c.args.self.now.desk.questions.store.now.layers.items in
-    let at = c.args.self.now.desk.questions.setting in
+    let at = c.args.self.now.desk.questions.context in
     let pick : List ℕ → Option Shown = λ name. option_map (shown layers at name) (kind layers at name) in
     c.in_ok-add_question.ensures
     ∙ ap (λ l. l ++ cons_option (pick c.name-item.result) []) c.loop-name.invariant

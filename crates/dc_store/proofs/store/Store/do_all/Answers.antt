@@ -3,9 +3,9 @@ use Rattle.std.specs.List.{list_any, Contains}
 use Rattle.std.specs.Vec.Iter.{into_iter_items}
 use Rattle.std.proofs.lemmas.List.Elements.{All-head, All-tail}
 use Rattle.dc_conf.specs.Plans.{IsOver}
-use Rattle.dc_store.specs.Landings.{AreLandings}
+use Rattle.dc_store.specs.Targets.{AreTargets}
 use Rattle.dc_store.specs.Plans.{StoreState, stored}
-use Rattle.dc_store.specs.Rows.{Write, AreOver, AllDistinct, is_refused, all_done, names_of}
+use Rattle.dc_store.specs.Batches.{Write, AreOver, AllDistinct, is_refused, all_done, names_of}
 use Rattle.dc_store.proofs.Landings.{first_landing, rest_landings}
 use Rattle.dc_store.proofs.RowLemmas.{first_taken, rest_taken, rest_left, rest_distinct, first_name, other_name, same_all, same_all_refl, same_all_then}
 use Rattle.dc_store.proofs.store.Store.do_all.Goals as goal
@@ -13,15 +13,15 @@ use Rattle.dc_store.proofs.store.Store.do_all.Goals as goal
 pub loop-write-init : goal.loop-write-init
 loop-write-init g c =
     let layers = each (λ b. (goal.Layer-dyn g (b.vtable, b.value)).state b.value) c.args.self.now.layers.items in
-    let all : c.args.row.items ≡ into_iter_items c.into_iter-writes.result = sym c.into_iter-writes.ensures.rest in
+    let all : c.args.batch.items ≡ into_iter_items c.into_iter-writes.result = sym c.into_iter-writes.ensures.rest in
     record {
       over = subst (λ ws. AreOver ws (length c.args.self.now.layers.items)) all c.requires.over;
       distinct = subst AllDistinct all c.requires.distinct;
       left = ap (all_done (stored layers c.args.self.now.told)) (sym all);
       taken = subst (λ ws. list_any (is_refused layers) ws ≡ false) all c.requires.taken;
-      landings = subst (λ ws. AreLandings layers ws c.args.landings.now) all c.requires.landings;
+      targets = subst (λ ws. AreTargets layers ws c.args.targets.now) all c.requires.targets;
       among = λ name in'. subst (λ ws. Contains (names_of ws) name) (sym all) in';
-      others = same_all_refl (names_of c.args.row.items) layers;
+      others = same_all_refl (names_of c.args.batch.items) layers;
       count = refl;
     }
 
@@ -39,8 +39,8 @@ pub returns-in_err-do_one-clause-others : goal.returns-in_err-do_one-clause-othe
 returns-in_err-do_one-clause-others g c =
     let w = c.in-Some.write in
     let rest = into_iter_items c.next.new.self in
-    same_all_then (names_of c.args.row.items) _ _ _ c.loop-write.invariant.others
-    (same_all (names_of c.args.row.items) w.name _ _
+    same_all_then (names_of c.args.batch.items) _ _ _ c.loop-write.invariant.others
+    (same_all (names_of c.args.batch.items) w.name _ _
     (c.loop-write.invariant.among w.name (subst (λ ws. Contains (names_of ws) w.name) (sym c.in-Some.ensures.cases.0) (first_name w rest)))
     c.in_err-do_one.ensures.others)
 
@@ -53,7 +53,7 @@ loop-write-preserved g c =
     let rest : List Write = into_iter_items c.next.new.self in
     let parts : into_iter_items c.loop-write.writes ≡ w ∷ rest = c.in-Some.ensures.cases.0 in
     let count = length c.loop-write.self.layers.items in
-    let final = all_done (stored (each (λ b. (goal.Layer-dyn g (b.vtable, b.value)).state b.value) c.args.self.now.layers.items) c.args.self.now.told) c.args.row.items in
+    let final = all_done (stored (each (λ b. (goal.Layer-dyn g (b.vtable, b.value)).state b.value) c.args.self.now.layers.items) c.args.self.now.told) c.args.batch.items in
     let distinct : AllDistinct (w ∷ rest) = subst AllDistinct parts c.loop-write.invariant.distinct in
     let taken : list_any (is_refused layers) (w ∷ rest) ≡ false = subst (λ ws. list_any (is_refused layers) ws ≡ false) parts c.loop-write.invariant.taken in
     let did = c.in_ok-do_one.ensures.ok in
@@ -63,11 +63,11 @@ loop-write-preserved g c =
       distinct = rest_distinct w rest distinct;
       left = rest_left w rest store new final did (subst (λ ws. all_done store ws ≡ final) parts c.loop-write.invariant.left);
       taken = rest_taken w rest store new distinct did taken;
-      landings = rest_landings w rest c.first_landing-landing.result.1.now store new distinct did
-          (first_landing layers w rest c.loop-write.rest.now c.first_landing-landing.result.1.now c.first_landing-landing.result.0 c.first_landing-landing.ensures
-          (subst (λ ws. AreLandings layers ws c.loop-write.rest.now) parts c.loop-write.invariant.landings)).1;
+      targets = rest_landings w rest c.first_landing-put_target.result.1.now store new distinct did
+          (first_landing layers w rest c.loop-write.rest.now c.first_landing-put_target.result.1.now c.first_landing-put_target.result.0 c.first_landing-put_target.ensures
+          (subst (λ ws. AreTargets layers ws c.loop-write.rest.now) parts c.loop-write.invariant.targets)).1;
       among = λ name in'. c.loop-write.invariant.among name (subst (λ ws. Contains (names_of ws) name) (sym parts) (other_name w rest name in'));
-      others = same_all_then (names_of c.args.row.items) _ _ _ c.loop-write.invariant.others
-          (same_all (names_of c.args.row.items) w.name _ _ (c.loop-write.invariant.among w.name (subst (λ ws. Contains (names_of ws) w.name) (sym parts) (first_name w rest))) c.do_one.ensures.others);
+      others = same_all_then (names_of c.args.batch.items) _ _ _ c.loop-write.invariant.others
+          (same_all (names_of c.args.batch.items) w.name _ _ (c.loop-write.invariant.among w.name (subst (λ ws. Contains (names_of ws) w.name) (sym parts) (first_name w rest))) c.do_one.ensures.others);
       count = c.do_one.ensures.count ∙ c.loop-write.invariant.count;
     }

@@ -1,6 +1,6 @@
 use Rattle.std.proofs.Common.{◌≡◌, true, map as each, sym, subst}
 use Rattle.dc_store.specs.Plans.{would_take}
-use Rattle.dc_store.specs.Rows.{Write}
+use Rattle.dc_store.specs.Batches.{Write}
 use Rattle.dc_store.proofs.Landings.{would_be_taken}
 use Rattle.dc_store.proofs.store.Store.do_one.Goals as goal
 

@@ -4,7 +4,7 @@ use Rattle.dc_conf.specs.Plans.{places}
 use Rattle.dc_item.specs.declared.op.Op.TheVariants.{Put}
 use Rattle.dc_layer.specs.State.{LayerState, made_at, refusal, with_made}
 use Rattle.dc_store.specs.Plans.{stored, write}
-use Rattle.dc_store.specs.Rows.{Write}
+use Rattle.dc_store.specs.Batches.{Write}
 use Rattle.dc_store.specs.Writes.{change_at}
 use Rattle.dc_store.proofs.Frames.{write_keeps, kept}
 use Rattle.dc_store.proofs.Landings.{landed_within, landed_taken, lands_as, lands_written}

@@ -1,6 +1,6 @@
 use Rattle.std.proofs.Common.{Err, sym, ap, ◌∙◌}
 use Rattle.std.proofs.lemmas.Result.{err_from_is_err_and}
-use Rattle.dc_teletype.specs.TerminalLines.{Ahead}
+use Rattle.dc_teletype.specs.TerminalLines.{TypeAhead}
 use Rattle.dc_teletype.proofs.ReadLemmas.{read_line, read_last, read_refused, read_stopped, read_on, unmoved, goes_on, none_there, still_open, ends_well, smaller}
 use Rattle.dc_teletype.proofs.terminal.TerminalLines.next.Goals as goal
 
@@ -18,15 +18,15 @@ pub returns-then-self-clause-read : goal.returns-then-self-clause-read
 returns-then-self-clause-read g c =
     let taken = rw c.in-None.is at c.in_ok-line.ensures.taken in
     let progress = goes_on c.loop-line.invariant.progress c.take_first.new.self (unmoved c.loop-line.self c.take_first.new.self taken c.in_ok-line.ensures.end) in
-    read_last progress c.take_last.new.self c.take_last.result (none_there c.loop-line.self c.take_first.new.self taken) c.take_last.ensures.line c.take_last.ensures.none (c.take_last.ensures.end ∙ (sym (ap (λ (a : Ahead). a.has_ended) c.self.view_is) ∙ c.if-self.true))
+    read_last progress c.take_last.new.self c.take_last.result (none_there c.loop-line.self c.take_first.new.self taken) c.take_last.ensures.line c.take_last.ensures.none (c.take_last.ensures.end ∙ (sym (ap (λ (a : TypeAhead). a.has_ended) c.self.view_is) ∙ c.if-self.true))
 
 pub loop-line-preserved : goal.loop-line-preserved
 loop-line-preserved g c =
     let taken = rw c.in-None.is at c.in_ok-line.ensures.taken in
     let progress = goes_on c.loop-line.invariant.progress c.take_first.new.self (unmoved c.loop-line.self c.take_first.new.self taken c.in_ok-line.ensures.end) in
     record {
-      progress = read_on progress (still_open c.loop-line.self c.take_first.new.self taken (sym (ap (λ (a : Ahead). a.has_ended) c.self.view_is) ∙ c.if-self.false)) c.read.new.self (g.L.Link.talk c.read.new.link) (g.L.Link.left c.read.new.link) c.in_ok-read.field-0 c.in_ok-read.ensures.brought;
-      end = ends_well c.args.self.now c.take_first.new.self c.read.new.self (g.L.Link.left c.read.new.link) (sym (ap (λ (a : Ahead). a.has_ended) c.self.view_is) ∙ c.if-self.false) c.in_ok-read.ensures.end;
+      progress = read_on progress (still_open c.loop-line.self c.take_first.new.self taken (sym (ap (λ (a : TypeAhead). a.has_ended) c.self.view_is) ∙ c.if-self.false)) c.read.new.self (g.L.Link.talk c.read.new.link) (g.L.Link.left c.read.new.link) c.in_ok-read.field-0 c.in_ok-read.ensures.brought;
+      end = ends_well c.args.self.now c.take_first.new.self c.read.new.self (g.L.Link.left c.read.new.link) (sym (ap (λ (a : TypeAhead). a.has_ended) c.self.view_is) ∙ c.if-self.false) c.in_ok-read.ensures.end;
       faults = c.in_ok-read.ensures.faults ∙ c.loop-line.invariant.faults;
       refusals = c.in_ok-read.ensures.refusals ∙ c.loop-line.invariant.refusals;
     }
@@ -36,11 +36,11 @@ returns-in_err-read-clause-read g c =
     let taken = rw c.in-None.is at c.in_ok-line.ensures.taken in
     let progress = goes_on c.loop-line.invariant.progress c.take_first.new.self (unmoved c.loop-line.self c.take_first.new.self taken c.in_ok-line.ensures.end) in
     let p = err_from_is_err_and c.from_residual-in_err-read.result c.from_residual-in_err-read.ensures.1 in
-    read_stopped progress (still_open c.loop-line.self c.take_first.new.self taken (sym (ap (λ (a : Ahead). a.has_ended) c.self.view_is) ∙ c.if-self.false)) c.read.new.self (g.L.Link.talk c.read.new.link) (g.L.Link.left c.read.new.link) c.in_err-read.field-0.0 c.in_err-read.ensures.brought
+    read_stopped progress (still_open c.loop-line.self c.take_first.new.self taken (sym (ap (λ (a : TypeAhead). a.has_ended) c.self.view_is) ∙ c.if-self.false)) c.read.new.self (g.L.Link.talk c.read.new.link) (g.L.Link.left c.read.new.link) c.in_err-read.field-0.0 c.in_err-read.ensures.brought
     c.from_residual-in_err-read.result (p.1 ∙ ap Err p.2)
 
 pub loop-line-smaller : goal.loop-line-smaller
 loop-line-smaller g c =
     let taken = rw c.in-None.is at c.in_ok-line.ensures.taken in
     smaller c.loop-line.self c.take_first.new.self c.read.new.self (unmoved c.loop-line.self c.take_first.new.self taken c.in_ok-line.ensures.end) (none_there c.loop-line.self c.take_first.new.self taken)
-    (sym (ap (λ (a : Ahead). a.has_ended) c.self.view_is) ∙ c.if-self.false) c.in_ok-read.ensures.brought.pieces c.in_ok-read.ensures.brought.brings
+    (sym (ap (λ (a : TypeAhead). a.has_ended) c.self.view_is) ∙ c.if-self.false) c.in_ok-read.ensures.brought.pieces c.in_ok-read.ensures.brought.brings

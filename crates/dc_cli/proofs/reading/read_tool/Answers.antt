@@ -1,0 +1,28 @@
+use Rattle.std.proofs.Common.{sym, subst, ◌∙◌}
+use Rattle.dc_cli.specs.Tools.{AreRefusedAt, IsToolAnswer}
+use Rattle.dc_cli.proofs.ToolLemmas.{none_refused, word_refused, answered}
+use Rattle.dc_cli.proofs.reading.read_tool.Goals as goal
+
+pub returns-in-empty : goal.returns-in-empty
+returns-in-empty c = subst (λ words. AreRefusedAt words 0) c.as_slice.ensures (none_refused c.as_slice.result.now c.in-empty.len_below)
+
+pub returns-then-is_word : goal.returns-then-is_word
+returns-then-is_word c =
+    subst (λ words. IsToolAnswer words c.read_communicate.result) c.as_slice.ensures
+    (answered c.as_slice.result.now c.tool-item.result _ _ c.in-len1-up.len_at_least c.tool-item.is (sym c.is_word.ensures ∙ c.if-is_word.true) c.read_communicate.ensures)
+
+pub returns-then-is_word-2 : goal.returns-then-is_word-2
+returns-then-is_word-2 c =
+    subst (λ words. IsToolAnswer words c.read_load_template.result) c.as_slice.ensures
+    (answered c.as_slice.result.now c.tool-item.result _ _ c.in-len1-up.len_at_least c.tool-item.is (sym c.is_word-else-is_word.ensures ∙ c.if-is_word-2.true) c.read_load_template.ensures)
+
+pub returns-then-is_word-3 : goal.returns-then-is_word-3
+returns-then-is_word-3 c =
+    subst (λ words. IsToolAnswer words c.read_run.result) c.as_slice.ensures
+    (answered c.as_slice.result.now c.tool-item.result _ _ c.in-len1-up.len_at_least c.tool-item.is (sym c.is_word-else-is_word-2.ensures ∙ c.if-is_word-3.true) c.read_run.ensures)
+
+pub returns-else-is_word-3 : goal.returns-else-is_word-3
+returns-else-is_word-3 c =
+    subst (λ words. AreRefusedAt words 0) c.as_slice.ensures
+    (word_refused c.as_slice.result.now c.tool-item.result c.in-len1-up.len_at_least c.tool-item.is (sym c.is_word.ensures ∙ c.if-is_word.false)
+    (sym c.is_word-else-is_word.ensures ∙ c.if-is_word-2.false) (sym c.is_word-else-is_word-2.ensures ∙ c.if-is_word-3.false))

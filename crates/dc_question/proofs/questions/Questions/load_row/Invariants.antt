@@ -1,9 +1,0 @@
-use Rattle.std.proofs.Common.{◌≡◌, map as each, take}
-use Rattle.dc_item.specs.Item.{no_parts}
-use Rattle.dc_question.specs.Ownership.{load_row}
-use Rattle.dc_question.proofs.questions.Questions.load_row.Given as goal
-
-abbrev pub invariant-loop-template : goal.invariant-loop-template
-invariant-loop-template g l =
-    let layers = each (λ b. (goal.Layer-dyn g (b.vtable, b.value)).state b.value) l.self.store.now.layers.items in
-    (l.row ≡ load_row layers l.self.setting l.owner (take l.template-index l.list)) × (l.builder ≡ no_parts)

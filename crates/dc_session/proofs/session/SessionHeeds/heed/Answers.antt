@@ -1,8 +1,0 @@
-use Rattle.dc_session.specs.contracts.session.SessionHeeds.TheImpl.{ghosts}
-use Rattle.dc_session.proofs.BreakLemmas.{unsent_breaks}
-use Rattle.dc_session.proofs.session.SessionHeeds.heed.Goals as goal
-
-pub returns-in-Err-clause-err : goal.returns-in-Err-clause-err
-returns-in-Err-clause-err g c =
-    let session = ghosts g.row.F g.row.T g.F.Files g.F.Files-dict g.T.Link g.T.Link-dict g.dyn-1 in
-    unsent_breaks (session.sight c.args.self.now) (session.sight c.step.new.self) c.args.line.now c.in_ok-stepped.stepped c.in_ok-stepped.ensures.ok
