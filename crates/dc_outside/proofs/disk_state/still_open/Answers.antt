@@ -1,7 +1,7 @@
 use Rattle.std.proofs.Common.{◌∙◌, sym, ap, ℕ, List, map as each}
 use Rattle.dc_outside.specs.Disk.{CrashOutcome}
 use Rattle.dc_outside.proofs.StillOpen.{kept_of, stays, kept-all}
-use Rattle.dc_outside.proofs.current.still_open.Goals as goal
+use Rattle.dc_outside.proofs.disk_state.still_open.Goals as goal
 
 pub returns : goal.returns
 returns c =

@@ -1,6 +1,6 @@
 use Rattle.dc_session.specs.contracts.session.SessionHeeds.TheImpl.{ghosts}
 use Rattle.dc_session.proofs.BreakLemmas.{unsent_breaks}
-use Rattle.dc_session.proofs.session.SessionHeeds.handle.Goals as goal
+use Rattle.dc_session.proofs.session.SessionLineMachine.handle.Goals as goal
 
 pub returns-in-Err-clause-err : goal.returns-in-Err-clause-err
 returns-in-Err-clause-err g c =
