@@ -1,8 +1,9 @@
-"""What several benches share: the program that is tried, this machine's databases, C's debconf beside it, and counts of instructions."""
+"""What several benches share: the program that is tried, this machine's databases, sessions that write, C's debconf, and counts of instructions."""
 import glob
 import os
 import re
 import shutil
+import stat
 import subprocess
 import sys
 
@@ -68,6 +69,58 @@ def copy_databases(folder):
     for name in FILES:
         if os.path.exists(f"{FOLDER}/{name}"):
             shutil.copy(f"{FOLDER}/{name}", f"{folder}/{name}")
+
+
+# ---- sessions that write to a database of each sort
+
+ONE = two_files("{0}/q.dat", "{0}/t.dat")
+TWO = ("Config: s\nTemplates: t\n\nName: q\nDriver: File\nMode: 644\nReject-Type: password\nFilename: {0}/q.dat\n\nName: p\nDriver: File\n"
+       "Backup: false\nAccept-Type: password\nFilename: {0}/p.dat\n\nName: s\nDriver: Stack\nStack: q, p\n\nName: t\nDriver: File\nFilename: {0}/t.dat\n")
+IN_FOLDER = "Config: q\nTemplates: t\n\nName: q\nDriver: {1}\nDirectory: {0}/{2}\n\nName: t\nDriver: File\nFilename: {0}/t.dat\n"
+
+
+def question(name):
+    return f"Name: {name}\nTemplate: a/b\nValue: old\nOwners: p\n\n"
+
+
+STORED = {
+    "q.dat": question("a/b"),
+    "p.dat": "Name: a/secret\nTemplate: a/secret\nOwners: p\n\n",
+    "t.dat": "Name: a/b\nType: string\nOwners: a/b, a/c, c/d\n\nName: a/secret\nType: password\nOwners: a/secret\n\n",
+    "tree/a/b.dat": question("a/b"),
+    "tree/a/c.dat": question("a/c"),
+    "tree/c/d.dat": question("c/d"),
+    "pack/a.dat": question("a/b") + question("a/c"),
+    "pack/c.dat": question("c/d"),
+    "other": "not a database\n",
+}
+SESSIONS = {
+    "one database": (ONE, "SET a/b new\nFSET a/b seen true\n"),
+    "two databases": (TWO, "SET a/b new\nSET a/secret hush\nSUBST a/b k v\n"),
+    "a file for each item": (IN_FOLDER.format("{0}", "DirTree", "tree"), "SET a/c new\nUNREGISTER c/d\nSET a/b new\nREGISTER a/b e/f/g\n"),
+    "a file for each prefix": (IN_FOLDER.format("{0}", "PackageDir", "pack"), "SET a/c new\nUNREGISTER c/d\nSET a/b new\nREGISTER a/b e/f/g\n"),
+}
+# what the next session asks, and what it may be answered
+NEXT = "GET a/b\nSET a/b later\nGET a/b\n"
+ANSWERS = (b"0 old\n0 value set\n0 later\n", b"0 new\n0 value set\n0 later\n")
+
+
+def store(folder, conf):
+    """The databases before a session, with this configuration."""
+    for name, text in {**STORED, "conf": conf.format(folder)}.items():
+        os.makedirs(os.path.dirname(f"{folder}/{name}"), exist_ok=True)
+        put(f"{folder}/{name}", text)
+        os.chmod(f"{folder}/{name}", 0o600)
+
+
+def stored(folder):
+    """What each file holds, and its mode."""
+    found = {}
+    for top, _, names in os.walk(folder):
+        for name in names:
+            with open(f"{top}/{name}", "rb") as file:
+                found[os.path.relpath(f"{top}/{name}", folder)] = file.read(), stat.S_IMODE(os.fstat(file.fileno()).st_mode)
+    return found
 
 
 # ---- programs beside it
