@@ -1,101 +1,20 @@
-// A layer in a folder with a file for each prefix.
-ghost use Rattle.std.specs.Prelude.{◌≡◌};
-ghost use Rattle.dc_layer.specs.State.{blank};
+// Layers in folders with a file for each prefix.
+use dc_conf::spec::LayerSort;
+use dc_layer::{Sort, SortedLayer};
 
-use dc_conf::spec::{LayerSort, LayerSpec};
-use dc_item::{Item, Op, Records};
-use dc_layer::{Held, Image, Layer, LayerError, PatternError, Taken};
-use dc_template::Kind;
-use dc_text::{List, Mem, Name, Text};
-use std::alloc::Global;
-
-/// A layer in a folder: a file for all items whose names begin alike up to the first slash (debconf.conf(5), PackageDir).
+/// A folder: a file for all items whose names begin alike up to the first slash (debconf.conf(5), PackageDir).
 #[derive(Drop)]
-pub struct PackageDirLayer {
-    held: Held,
-}
+pub struct PackSort;
 
-impl PackageDirLayer {
+impl Sort for PackSort {
     ghost use Rattle.dc_conf.specs.declared.spec.LayerSort.TheVariants.{Pack};
 
-    /// A layer that holds nothing and wasn't set up.
-    pub fn blank(alloc: Global) -> PackageDirLayer
-        ensures { ⟦<PackageDirLayer as Layer>⟧.state result ≡ blank Pack }
-    {
-        PackageDirLayer {
-            held: Held::blank(alloc, LayerSort::Pack),
-        }
+    ghost sort = { Pack };
+
+    fn value() -> LayerSort {
+        LayerSort::Pack
     }
 }
 
-impl Layer for PackageDirLayer {
-    ghost state = { λ f. ⟦<Held as Layer>⟧.state f.held };
-
-    fn sort(&self) -> LayerSort {
-        self.held.sort()
-    }
-
-    fn set_up(&mut self, spec: LayerSpec) -> Result<(), PatternError> {
-        self.held.set_up(spec)
-    }
-
-    fn take_in(&mut self, name: Name, item: Item) -> Mem<()> {
-        self.held.take_in(name, item)
-    }
-
-    fn take_all(&mut self, records: Records) {
-        self.held.take_all(records)
-    }
-
-    fn keep_old(&mut self, text: Text) {
-        self.held.keep_old(text)
-    }
-
-    fn leave_out(&mut self) {
-        self.held.leave_out()
-    }
-
-    fn has(&self, name: &Name) -> bool {
-        self.held.has(name)
-    }
-
-    fn item(&self, name: &Name) -> Option<&Item> {
-        self.held.item(name)
-    }
-
-    fn seek(&self, name: &[u8]) -> Option<&Item> {
-        self.held.seek(name)
-    }
-
-    fn writable(&self) -> bool {
-        self.held.writable()
-    }
-
-    fn admits(&self, name: &Name, kind: Option<Kind>) -> Mem<bool> {
-        self.held.admits(name, kind)
-    }
-
-    fn change(&mut self, name: &Name, op: &Op) -> Result<Taken, LayerError> {
-        self.held.change(name, op)
-    }
-
-    fn put(&mut self, name: Name, item: Item) -> Result<Taken, LayerError> {
-        self.held.put(name, item)
-    }
-
-    fn names(&self) -> Mem<List<Name>> {
-        self.held.names()
-    }
-
-    fn owned(&self, owner: &Name) -> Mem<List<Name>> {
-        self.held.owned(owner)
-    }
-
-    fn images(&self) -> Mem<List<Image>> {
-        self.held.images()
-    }
-
-    fn mark_saved(&mut self, saved: List<Image>) {
-        self.held.mark_saved(saved)
-    }
-}
+/// A layer in a folder with a file for each prefix.
+pub type PackageDirLayer = SortedLayer<PackSort>;

@@ -1,3 +1,3 @@
 pub mod FolderLemmas
+pub mod LockLemmas
 pub mod ReadingLemmas
-pub mod StreamLemmas

@@ -1,5 +1,5 @@
 -- The folders that changed.
-use Rattle.std.specs.Prelude.{◌≡◌, ℕ, List, [], ◌∷◌, Option, Some, None}
+use Rattle.std.specs.Prelude.{◌≡◌, ℕ, List, [], ◌∷◌, ◌++◌, Option, Some, None}
 use Rattle.std.specs.Coded.{Coded, coded_list, coded_ℕ}
 use Rattle.std.specs.FinMap as map
 use Rattle.std.specs.Path.{path_parent}
@@ -35,3 +35,9 @@ IsKept folders path = map.get folders (folder_of path) ≡ Some tt
 -- each folder that was kept still is
 abbrev pub Keeps : TextSet → TextSet → Type 0
 Keeps before now = (folder : List ℕ) → map.get before folder ≡ Some tt → map.get now folder ≡ Some tt
+
+-- the path of a name in a folder. A folder or a name without bytes adds nothing
+abbrev pub joined : List ℕ → List ℕ → List ℕ
+joined [] name = name
+joined (byte ∷ bytes) [] = byte ∷ bytes
+joined (byte ∷ bytes) (first ∷ others) = (byte ∷ bytes) ++ 47 ∷ first ∷ others

@@ -1,4 +1,3 @@
 pub mod Counting
 pub mod Folders
-pub mod Programs
-pub mod Streams
+pub mod Locks

@@ -1,23 +1,19 @@
-//! The edge to the host: links, files and programs of the system, as adapters of the traits of the outside.
+//! The files of the host, as an adapter of the trait of the outside.
 #![tactic(auto)]
 
-pub mod host_child;
-mod host_counts;
-pub mod host_err;
-pub mod host_files;
-mod host_folders;
-mod host_guard;
-mod host_io;
-mod host_limits;
-pub mod host_link;
-pub mod host_output;
-mod host_paths;
+mod counts;
+pub mod files;
+mod folders;
+mod guard;
+mod locks;
+mod paths;
+mod search;
+pub mod system;
 
-pub use host_child::HostChild;
-pub use host_err::HostErr;
-pub use host_files::HostFiles;
-pub use host_link::HostLink;
-pub use host_output::HostOutput;
+pub use files::HostFiles;
+pub use system::HostSystem;
 
+#[cfg(test)]
+mod memory_tests;
 #[cfg(test)]
 mod tests;

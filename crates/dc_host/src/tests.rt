@@ -1,52 +1,12 @@
-// The links, programs and files of the host, on pipes and in a folder.
-ghost use Rattle.std.specs.Prelude.{◌<◌, length, IfOk};
-
-use crate::host_child::HostChild;
-use crate::host_err::HostErr;
-use crate::host_files::{HostFiles, MAX_FILE};
-use crate::host_link::HostLink;
-use dc_outside::{Child, Files, FilesError, FilesOp, Link, LinkError};
+// The files of the host, in a folder.
+use crate::files::{HostFiles, MAX_FILE};
+use crate::system::HostSystem;
+use dc_outside::{Files, FilesError, FilesOp};
 use dc_text::{List, Mem, Text};
 use std::alloc::Global;
 use std::fs::OpenFile;
 use std::os::unix::fs::{MetadataExt, symlink};
 use std::{env, fs, io};
-
-#[test]
-fn a_link_reads_and_writes(rt: HostRuntime) {
-    let (input, output) = io::pipe(&rt).ok().expect(&rt, "done");
-    let mut link = HostLink::new(input, output);
-    let mut buf = [0u8; 3];
-    assert_eq!(rt; link.write(b"abcd"), Ok(()));
-    assert_eq!(rt; link.read_some(&mut buf), Ok(3));
-    assert_eq!(rt; buf.as_slice(), b"abc".as_slice());
-    assert_eq!(rt; link.read_some(&mut buf), Ok(1));
-}
-
-#[test]
-fn a_link_ends_and_fails(rt: HostRuntime) {
-    let folder = make_folder(&rt, "link").ok().expect(&rt, "done");
-    let path = inside(&rt, &folder, "file").ok().expect(&rt, "done");
-    fs::write(&rt, path.as_str(), "").ok().expect(&rt, "done");
-    let (input, _) = io::pipe(&rt).ok().expect(&rt, "done");
-    let mut link = HostLink::new(input, fs::open(&rt, path.as_str()).ok().expect(&rt, "done"));
-    assert_eq!(rt; link.read_some(&mut [0u8; 3]), Ok(0));
-    assert_eq!(rt;
-        link.write(b"x"),
-        Err(LinkError::Failed),
-        "a file open for reading"
-    );
-    fs::remove_dir_all(&rt, folder.as_str())
-        .ok()
-        .expect(&rt, "done");
-}
-
-#[test]
-fn standard_error_is_written(rt: HostRuntime) {
-    let mut err = HostErr::new(rt.stderr());
-    assert_eq!(rt; err.write(b"written to standard error\n"), Ok(()));
-    assert_eq!(rt; err.read_some(&mut [0u8; 3]), Ok(0));
-}
 
 // An empty folder of this process.
 fn make_folder(rt: &HostRuntime, name: &str) -> io::Result<String> {
@@ -184,7 +144,7 @@ fn mode_of(rt: &HostRuntime, path: &str) -> io::Result<u32> {
 
 // Puts the bytes at the path as a file that is saved.
 fn save(
-    files: &mut HostFiles<HostRuntime>,
+    files: &mut HostFiles<HostSystem<HostRuntime>>,
     new: &Text,
     path: &Text,
     bytes: &str,
@@ -233,7 +193,11 @@ fn files_are_saved(rt: HostRuntime) {
 }
 
 // Whether a read, and then a save, at the path are done.
-fn can_use(files: &mut HostFiles<HostRuntime>, new: &Text, path: &Text) -> (bool, bool) {
+fn can_use(
+    files: &mut HostFiles<HostSystem<HostRuntime>>,
+    new: &Text,
+    path: &Text,
+) -> (bool, bool) {
     let is_read = files.read(path).is_ok();
     (is_read, save(files, new, path, "x", 0o600).is_ok())
 }
@@ -285,6 +249,30 @@ fn a_listed_folder_is_locked(rt: HostRuntime) {
     assert_eq!(rt; first.list(&dir).is_ok(), true);
     assert_eq!(rt; can_use(&mut first, &new, &path), (true, true));
     assert_eq!(rt; first.list(&dir).is_ok(), true, "its own");
+    let mut other = HostFiles::new(
+        rt.alloc(),
+        rt.clone().ok().expect(&rt, "done"),
+        List::new(rt.alloc()),
+    );
+    assert_eq!(rt; other.list(&dir).is_ok(), false, "the first has it");
+    fs::remove_dir_all(&rt, folder.as_str())
+        .ok()
+        .expect(&rt, "done");
+}
+
+#[test]
+fn a_folder_that_is_not_there_is_locked(rt: HostRuntime) {
+    let folder = make_folder(&rt, "first").ok().expect(&rt, "done");
+    let dir = text_inside(&rt, &folder, "a/b").expect(&rt, "done");
+    let mut first = HostFiles::new(
+        rt.alloc(),
+        rt.clone().ok().expect(&rt, "done"),
+        List::new(rt.alloc()),
+    );
+    let shown = show_paths(rt.alloc(), first.list(&dir))
+        .ok()
+        .expect(&rt, "done");
+    assert_eq!(rt; shown.bytes(), b"".as_slice(), "its lock isn't listed");
     let mut other = HostFiles::new(
         rt.alloc(),
         rt.clone().ok().expect(&rt, "done"),
@@ -371,8 +359,12 @@ fn links_and_devices_are_not_written(rt: HostRuntime) {
         .expect(&rt, "done");
 }
 
-// A call on the path. A write leaves "x" with mode 640, and a rename puts the file in its own place.
-fn call(files: &mut HostFiles<HostRuntime>, op: FilesOp, path: &Text) -> Result<(), FilesError> {
+// A call on the path. A write leaves "x" with mode 640, and a rename is to the path itself, where a file stands.
+fn call(
+    files: &mut HostFiles<HostSystem<HostRuntime>>,
+    op: FilesOp,
+    path: &Text,
+) -> Result<(), FilesError> {
     match op {
         FilesOp::Read => files.read(path).map(|_| ()),
         FilesOp::List => files.list(path).map(|_| ()),
@@ -398,7 +390,7 @@ fn files_are_changed(rt: HostRuntime) {
         (FilesOp::Write, "a", Err(FilesError::Failed)),
         (FilesOp::Write, "a/q/b/c", Err(FilesError::Failed)),
         (FilesOp::SyncNames, "", Ok(())),
-        (FilesOp::Rename, "a/q", Ok(())),
+        (FilesOp::Rename, "a/q", Err(FilesError::Failed)),
         (FilesOp::Rename, "a/r", Err(FilesError::Failed)),
         (FilesOp::Sync, "a/r", Err(FilesError::Failed)),
         (FilesOp::Remove, "a", Err(FilesError::Failed)),
@@ -422,7 +414,11 @@ fn files_are_changed(rt: HostRuntime) {
 }
 
 // Files at any depth, and links.
-fn fill(rt: &HostRuntime, files: &mut HostFiles<HostRuntime>, folder: &str) -> Option<()> {
+fn fill(
+    rt: &HostRuntime,
+    files: &mut HostFiles<HostSystem<HostRuntime>>,
+    folder: &str,
+) -> Option<()> {
     for name in ["d/b", "d/a/c", "d/a.x", "da/x"] {
         files
             .write(&text_inside(rt, folder, name)?, b"", 0o600)
@@ -430,7 +426,7 @@ fn fill(rt: &HostRuntime, files: &mut HostFiles<HostRuntime>, folder: &str) -> O
     }
     for (name, target) in [
         ("d/to_file", "a/c"),
-        ("d/to_folder", "a"),
+        ("d/to_folder", "../da"),
         ("d/nowhere", "x"),
     ] {
         symlink(rt, target, inside(rt, folder, name).ok()?.as_str()).ok()?;
@@ -448,7 +444,7 @@ fn files_are_listed(rt: HostRuntime) {
     );
     fill(&rt, &mut files, &folder).expect(&rt, "done");
     for (name, paths) in [
-        ("d", "a.x|a/c|b|to_file|"),
+        ("d", "a.x|a/c|b|to_file|to_folder/x|"),
         ("d/a", "c|"),
         ("x", ""),
         ("d/b", "failed"),
@@ -460,57 +456,4 @@ fn files_are_listed(rt: HostRuntime) {
     fs::remove_dir_all(&rt, folder.as_str())
         .ok()
         .expect(&rt, "done");
-}
-
-// The words of a program and its arguments.
-fn words_of(alloc: Global, program: &str, arguments: &[&str]) -> Mem<List<Text>>
-    ensures { IfOk result (λ words. 0 < length words) }
-{
-    let mut words = List::new(alloc);
-    words.push(Text::from_bytes(alloc, program.as_bytes())?)?;
-    for argument in arguments {
-        words.push(Text::from_bytes(alloc, argument.as_bytes())?)?;
-    }
-    Ok(words)
-}
-
-#[test]
-fn a_program_is_answered_and_waited_for(rt: HostRuntime) {
-    let script =
-        "echo GET a/b; read reply; test \"$reply $DEBIAN_HAS_FRONTEND\" = \"0 yes 1\" && exit 3";
-    let words = words_of(rt.alloc(), "sh", &["-c", script])
-        .ok()
-        .expect(&rt, "memory");
-    let mut child = HostChild::new(rt.alloc(), &rt);
-    let mut buf = [0u8; 8];
-    assert_eq!(rt; child.start(&words), Ok(()));
-    assert_eq!(rt; child.read_some(&mut buf), Ok(8));
-    assert_eq!(rt; buf.as_slice(), b"GET a/b\n".as_slice());
-    assert_eq!(rt; child.write(b"0 yes\n"), Ok(()));
-    assert_eq!(rt; child.read_some(&mut buf), Ok(0));
-    assert_eq!(rt; child.wait(), Ok(3));
-}
-
-#[test]
-fn a_program_that_is_not_there_is_not_started(rt: HostRuntime) {
-    let words = words_of(rt.alloc(), "/missing/config", &[])
-        .ok()
-        .expect(&rt, "memory");
-    let mut child = HostChild::new(rt.alloc(), &rt);
-    assert_eq!(rt; child.start(&words), Err(LinkError::Failed));
-    assert_eq!(rt; child.read_some(&mut [0u8; 8]), Err(LinkError::Failed));
-}
-
-// It writes until nobody reads, and then a signal ends it.
-#[test]
-fn a_program_that_reads_nothing_is_not_written_to(rt: HostRuntime) {
-    let script = "exec <&-; echo; while echo; do :; done";
-    let words = words_of(rt.alloc(), "sh", &["-c", script])
-        .ok()
-        .expect(&rt, "memory");
-    let mut child = HostChild::new(rt.alloc(), &rt);
-    assert_eq!(rt; child.start(&words), Ok(()));
-    assert_eq!(rt; child.read_some(&mut [0u8; 1]), Ok(1));
-    assert_eq!(rt; child.write(b"0\n"), Err(LinkError::Failed));
-    assert_eq!(rt; child.wait(), Ok(128));
 }

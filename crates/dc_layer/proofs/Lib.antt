@@ -2,3 +2,4 @@ pub mod FolderLemmas
 mod PartLemmas
 pub mod PatternLemmas
 pub mod PrefixLemmas
+pub mod RuleLemmas

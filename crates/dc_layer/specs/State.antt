@@ -80,6 +80,10 @@ with_made layer name Same = layer
 with_made layer name (Changed item) = record layer { table = map.insert layer.table name item; touched = touch layer.touched name }
 with_made layer name Gone = record layer { table = map.remove layer.table name; touched = touch layer.touched name }
 
+-- the layer once the operation on the item of the name is done
+abbrev pub after_change : LayerState → List ℕ → Op → LayerState
+after_change layer name op = with_made layer name (made_at layer name op)
+
 -- ---- the files that it asks for
 
 -- the file of a layer in one file: the printed table, and with backup the text that the file had

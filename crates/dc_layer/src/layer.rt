@@ -4,7 +4,7 @@ ghost use Rattle.std.specs.FinMap as map;
 ghost use Rattle.std.specs.Option.{option_copied};
 ghost use Rattle.dc_item.specs.Table.{table_of};
 ghost use Rattle.dc_item.specs.declared.op.Op.TheVariants.{Put};
-ghost use Rattle.dc_layer.specs.State.{LayerState, blank, set_up as set_up_with, taken_in, without_items, is_writable, admits, made_at, with_made, taken_of, refusal, owned, images as images_of, saved as saved_state};
+ghost use Rattle.dc_layer.specs.State.{LayerState, blank, set_up as set_up_with, taken_in, without_items, is_writable, admits, made_at, after_change, taken_of, refusal, owned, images as images_of, saved as saved_state};
 ghost use Rattle.dc_layer.specs.Rules.{rules_of, are_patterns, are_plain};
 
 use crate::image::Image;
@@ -104,7 +104,7 @@ pub trait Layer: Drop {
     /// Does the operation on the item of the name. After any refusal the layer is as before.
     fn change(&mut self, name: &Name, op: &Op) -> Result<Taken, LayerError>
         ensures taken { IfOk result (λ taken. taken ≡ taken_of (made_at (state self.old) name.now op.now)) }
-        ensures ok { OnOk result (state self.new ≡ with_made (state self.old) name.now (made_at (state self.old) name.now op.now)) }
+        ensures ok { OnOk result (state self.new ≡ after_change (state self.old) name.now op.now) }
         ensures allowed { OnOk result (refusal (state self.old) name.now op.now ≡ None) }
         ensures cause { IfErr result (λ error. error ≢ LayerError.OutOfMemory → refusal (state self.old) name.now op.now ≡ Some error) }
         ensures err { OnErr result (state self.new ≡ state self.old) };
@@ -113,7 +113,7 @@ pub trait Layer: Drop {
     /// before.
     fn put(&mut self, name: Name, item: Item) -> Result<Taken, LayerError>
         ensures taken { IfOk result (λ taken. taken ≡ taken_of (made_at (state self.old) name (Put item))) }
-        ensures ok { OnOk result (state self.new ≡ with_made (state self.old) name (made_at (state self.old) name (Put item))) }
+        ensures ok { OnOk result (state self.new ≡ after_change (state self.old) name (Put item)) }
         ensures allowed { OnOk result (refusal (state self.old) name (Put item) ≡ None) }
         ensures cause { IfErr result (λ error. error ≢ LayerError.OutOfMemory → refusal (state self.old) name (Put item) ≡ Some error) }
         ensures err { OnErr result (state self.new ≡ state self.old) };

@@ -1,7 +1,7 @@
 // Which items a database accepts.
-ghost use Rattle.std.specs.Prelude.{◌≡◌, true, false, IfOk, OnOk};
+ghost use Rattle.std.specs.Prelude.{◌≡◌, true, false, IfOk, IfErr, OnOk};
 ghost use Rattle.dc_layer.specs.Patterns.{is_plain, is_pattern};
-ghost use Rattle.dc_layer.specs.Rules.{passes as passes_of, passes_kind as passes_kind_of, is_found_or, text_in, IgnoresCase, accepts as accepts_of, is_absent_or, are_patterns, are_plain};
+ghost use Rattle.dc_layer.specs.Rules.{passes as passes_of, passes_kind as passes_kind_of, is_found_or, text_in, IgnoresCase, accepts as accepts_of, is_absent_or, are_patterns, are_plain, IsRefusedBy};
 
 use crate::pattern::{Pattern, PatternError};
 use dc_conf::spec::LayerSpec;
@@ -40,12 +40,14 @@ impl Model for LayerRules {
 impl LayerRules {
     ghost use Rattle.dc_layer.specs.Rules.{rules_of};
 
-    /// Builds the patterns of the database. `Bad` comes only where one that is there is no pattern.
+    /// Builds the patterns of the database, in the order of their fields. The first that can't be built decides: it is `Bad` only where
+    /// it is no pattern.
     pub fn build(alloc: Global, spec: &LayerSpec) -> Result<Self, PatternError>
         ensures value { IfOk result (λ rules. rules ≡ rules_of spec.now) }
         ensures ok { OnOk result (are_patterns (rules_of spec.now) ≡ true) }
         ensures bad { result ≡ Err PatternError.Bad → are_patterns (rules_of spec.now) ≡ false }
         ensures too_large { result ≡ Err PatternError.TooLarge → are_plain (rules_of spec.now) ≡ false }
+        ensures first { IfErr result (IsRefusedBy (rules_of spec.now)) }
     {
         let accept_name = pattern_in(alloc, &spec.accept_name)?;
         let reject_name = pattern_in(alloc, &spec.reject_name)?;

@@ -1,13 +1,13 @@
 // A layer that runs out of memory.
 ghost use Rattle.std.specs.Prelude.{◌≡◌, ◌≢◌, ◌+◌, None, Some, Err, IfOk, IfErr, OnOk, OnErr, unwrap_or};
 ghost use Rattle.dc_item.specs.declared.op.Op.TheVariants.{Put};
-ghost use Rattle.dc_layer.specs.State.{blank, made_at, with_made, taken_of, refusal};
+ghost use Rattle.dc_layer.specs.State.{blank, made_at, after_change, taken_of, refusal};
 
-use crate::file::FileLayer;
-use crate::held::is_put_op;
 use crate::image::Image;
 use crate::layer::{Layer, LayerError, Taken};
+use crate::layer_core::is_put_op;
 use crate::pattern::PatternError;
+use crate::sorted::FileLayer;
 use dc_conf::spec::{LayerSort, LayerSpec};
 use dc_item::{Item, Op, Records};
 use dc_template::Kind;
@@ -99,14 +99,14 @@ impl Layer for TiredLayer {
 
     /// As the layer in one file while changes are left; then what isn't refused finds no memory.
     fn change(&mut self, name: &Name, op: &Op) -> Result<Taken, LayerError>
-        ensures taken { IfOk result (λ taken. taken ≡ taken_of (made_at (⟦<FileLayer as Layer>⟧.state self.old.layer) name.now op.now)) }
-        ensures ok { OnOk result (⟦<FileLayer as Layer>⟧.state self.new.layer ≡ with_made (⟦<FileLayer as Layer>⟧.state self.old.layer) name.now (made_at (⟦<FileLayer as Layer>⟧.state self.old.layer) name.now op.now)) }
-        ensures allowed { OnOk result (refusal (⟦<FileLayer as Layer>⟧.state self.old.layer) name.now op.now ≡ None) }
-        ensures cause { IfErr result (λ error. error ≢ LayerError.OutOfMemory → refusal (⟦<FileLayer as Layer>⟧.state self.old.layer) name.now op.now ≡ Some error) }
-        ensures err { OnErr result (⟦<FileLayer as Layer>⟧.state self.new.layer ≡ ⟦<FileLayer as Layer>⟧.state self.old.layer) }
+        ensures taken { IfOk result (λ taken. taken ≡ taken_of (made_at (⟦<Self as Layer>⟧.state self.old) name.now op.now)) }
+        ensures ok { OnOk result (⟦<Self as Layer>⟧.state self.new ≡ after_change (⟦<Self as Layer>⟧.state self.old) name.now op.now) }
+        ensures allowed { OnOk result (refusal (⟦<Self as Layer>⟧.state self.old) name.now op.now ≡ None) }
+        ensures cause { IfErr result (λ error. error ≢ LayerError.OutOfMemory → refusal (⟦<Self as Layer>⟧.state self.old) name.now op.now ≡ Some error) }
+        ensures err { OnErr result (⟦<Self as Layer>⟧.state self.new ≡ ⟦<Self as Layer>⟧.state self.old) }
         ensures fewer { OnOk result (self.new.left + 1 ≡ self.old.left) }
         ensures as_many { OnErr result (self.new.left ≡ self.old.left) }
-        ensures tired { self.old.left ≡ 0 → refusal (⟦<FileLayer as Layer>⟧.state self.old.layer) name.now op.now ≡ None → result ≡ Err LayerError.OutOfMemory }
+        ensures tired { self.old.left ≡ 0 → refusal (⟦<Self as Layer>⟧.state self.old) name.now op.now ≡ None → result ≡ Err LayerError.OutOfMemory }
     {
         if self.left == 0 {
             return Err(self.refusal(name, op));
@@ -118,14 +118,14 @@ impl Layer for TiredLayer {
 
     /// As the layer in one file while changes are left, of which this is one; then what isn't refused finds no memory.
     fn put(&mut self, name: Name, item: Item) -> Result<Taken, LayerError>
-        ensures taken { IfOk result (λ taken. taken ≡ taken_of (made_at (⟦<FileLayer as Layer>⟧.state self.old.layer) name (Put item))) }
-        ensures ok { OnOk result (⟦<FileLayer as Layer>⟧.state self.new.layer ≡ with_made (⟦<FileLayer as Layer>⟧.state self.old.layer) name (made_at (⟦<FileLayer as Layer>⟧.state self.old.layer) name (Put item))) }
-        ensures allowed { OnOk result (refusal (⟦<FileLayer as Layer>⟧.state self.old.layer) name (Put item) ≡ None) }
-        ensures cause { IfErr result (λ error. error ≢ LayerError.OutOfMemory → refusal (⟦<FileLayer as Layer>⟧.state self.old.layer) name (Put item) ≡ Some error) }
-        ensures err { OnErr result (⟦<FileLayer as Layer>⟧.state self.new.layer ≡ ⟦<FileLayer as Layer>⟧.state self.old.layer) }
+        ensures taken { IfOk result (λ taken. taken ≡ taken_of (made_at (⟦<Self as Layer>⟧.state self.old) name (Put item))) }
+        ensures ok { OnOk result (⟦<Self as Layer>⟧.state self.new ≡ after_change (⟦<Self as Layer>⟧.state self.old) name (Put item)) }
+        ensures allowed { OnOk result (refusal (⟦<Self as Layer>⟧.state self.old) name (Put item) ≡ None) }
+        ensures cause { IfErr result (λ error. error ≢ LayerError.OutOfMemory → refusal (⟦<Self as Layer>⟧.state self.old) name (Put item) ≡ Some error) }
+        ensures err { OnErr result (⟦<Self as Layer>⟧.state self.new ≡ ⟦<Self as Layer>⟧.state self.old) }
         ensures fewer { OnOk result (self.new.left + 1 ≡ self.old.left) }
         ensures as_many { OnErr result (self.new.left ≡ self.old.left) }
-        ensures tired { self.old.left ≡ 0 → refusal (⟦<FileLayer as Layer>⟧.state self.old.layer) name (Put item) ≡ None → result ≡ Err LayerError.OutOfMemory }
+        ensures tired { self.old.left ≡ 0 → refusal (⟦<Self as Layer>⟧.state self.old) name (Put item) ≡ None → result ≡ Err LayerError.OutOfMemory }
     {
         if self.left == 0 {
             return Err(self.refusal(&name, &Op::Put(item)));

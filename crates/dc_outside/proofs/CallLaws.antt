@@ -2,8 +2,8 @@
 use Rattle.std.proofs.Common.{◌≡◌, ◌↔◌, inl, inr, ℕ, List, Option, Some, Result, Ok, Err, sym, ap, subst, ◌∙◌}
 use Rattle.std.specs.Option.{option_map}
 use Rattle.dc_outside.specs.Disk.{Disk, DiskState, File, MayLeave, IsSound, HasLeftMore, Left, moment, then_stands}
-use Rattle.dc_outside.specs.Told.{Told}
-use Rattle.dc_outside.specs.Steps.{Step, Writing, Syncing, Renaming, SyncingNames, Removing, Takes, Leaves, done}
+use Rattle.dc_outside.specs.State.{FilesView, FilesState}
+use Rattle.dc_outside.specs.Steps.{Step, Writing, Syncing, Renaming, SyncingNames, Removing, Takes, AddsStep, Leaves, done}
 use Rattle.dc_outside.specs.declared.files.FilesError.{FilesError}
 use Rattle.dc_outside.specs.declared.files.FilesError.TheVariants.{Failed, OutOfMemory}
 use Rattle.dc_outside.proofs.Moments.{none_more, more_then, left_now, sound_open, sound_settled, sound_renamed, sound_names, sound_removed}
@@ -22,11 +22,14 @@ failed_join : (step : Step) (before after : Disk) (new : Option Disk) → new �
 failed_join step before after new is (inl same) = stood before after (same_some before after (sym same ∙ is))
 failed_join step before after new is (inr half) = moved_on before after half.0 (same_some (then_stands before half.0) after (sym half.2 ∙ is))
 
-pub join : (step : Step) (old new : Told) (result : Result (Unit {0}) FilesError) (before after : Disk) → Takes step old new result → old.disk ≡ Some before → new.disk ≡ Some after → HasLeftMore (MayLeave after.current) before after
-join step old new (Ok value) before after takes at is =
-    moved_on before after (done step before.current) (same_some _ after (sym (ap (λ (o : Option Disk). option_map (λ disk. then_stands disk (done step disk.current)) o) at) ∙ ap (λ (t : Told). t.disk) (sym takes) ∙ is))
-join step old new (Err Failed) before after takes at is = failed_join step before after new.disk is (subst (λ (o : Option Disk). Leaves step o new.disk) at takes.disk)
-join step old new (Err OutOfMemory) before after takes at is = stood before after (same_some before after (sym at ∙ ap (λ (t : Told). t.disk) (sym takes) ∙ is))
+joined : (step : Step) (old new : FilesView) (result : Result (Unit {0}) FilesError) (before after : Disk) → AddsStep step old new result → old.disk ≡ Some before → new.disk ≡ Some after → HasLeftMore (MayLeave after.current) before after
+joined step old new (Ok value) before after takes at is =
+    moved_on before after (done step before.current) (same_some _ after (sym (ap (λ (o : Option Disk). option_map (λ disk. then_stands disk (done step disk.current)) o) at) ∙ ap (λ (t : FilesView). t.disk) (sym takes) ∙ is))
+joined step old new (Err Failed) before after takes at is = failed_join step before after new.disk is (subst (λ (o : Option Disk). Leaves step o new.disk) at takes.disk)
+joined step old new (Err OutOfMemory) before after takes at is = stood before after (same_some before after (sym at ∙ ap (λ (t : FilesView). t.disk) (sym takes) ∙ is))
+
+pub join : (step : Step) (old new : FilesState) (result : Result (Unit {0}) FilesError) (before after : Disk) → Takes step old new result → old.view.disk ≡ Some before → new.view.disk ≡ Some after → HasLeftMore (MayLeave after.current) before after
+join step old new result before after takes at is = joined step old.view new.view result before after takes.view at is
 
 pub left_at : (disk : Disk) (path : List ℕ) (entry : Option File) → Left disk (moment disk) path entry ↔ MayLeave disk.current path entry
 left_at disk path entry = (left_now disk path entry, λ now. inr now)

@@ -1,14 +1,14 @@
 -- The program behind a link, where there is one.
-use Rattle.std.specs.Prelude.{◌≡◌, ⊤, ℕ, List, Option, None, IfSome, Result, Ok, Err}
+use Rattle.std.specs.Prelude.{◌≡◌, ⊤, ℕ, List, Option, None, IfSome}
 use Rattle.dc_outside.specs.Counts.{Rose}
-use Rattle.dc_outside.specs.declared.link.LinkError.{LinkError}
-use Rattle.dc_outside.specs.declared.link.LinkError.TheVariants.{Failed, OutOfMemory}
+use Rattle.dc_outside.specs.declared.link.Piece.{Piece}
 
--- It wasn't started. It was, with these words where they are told. It has ended, with this exit status.
+-- It wasn't started. It was, with these words where they are told. It was waited for and has ended, with this exit status, and what had
+-- been said on the link then, where it is told.
 pub data Life : Type 0 where
   Unstarted : Life
   Running : Option (List (List ℕ)) → Life
-  Ended : Option (List (List ℕ)) → ℕ → Life
+  Ended : Option (List (List ℕ)) → ℕ → Option (List Piece) → Life
 
 -- a program, and how often a start of it or a wait for it failed
 pub record Program : Type 0 where
@@ -23,12 +23,12 @@ no_program = record { life = Unstarted; failures = 0 }
 abbrev pub words_of : Life → Option (List (List ℕ))
 words_of Unstarted = None
 words_of (Running words) = words
-words_of (Ended words status) = words
+words_of (Ended words status talk) = words
 
 abbrev pub IsRunning : Life → Type 0
 IsRunning Unstarted = ⊥
 IsRunning (Running words) = ⊤
-IsRunning (Ended words status) = ⊥
+IsRunning (Ended words status talk) = ⊥
 
 -- it runs from now on, and if it tells its words, they are these
 pub record Began (words : List (List ℕ)) (before now : Program) : Type 0 where
@@ -42,19 +42,8 @@ pub record FailureRose (before now : Program) : Type 0 where
   pub life : now.life ≡ before.life
   pub failures : Rose before.failures now.failures
 
--- what a start with these words makes of it
-abbrev pub Starts : {T : Type 0} → List (List ℕ) → Program → Program → Result T LinkError → Type 0
-Starts words before now (Ok value) = Began words before now
-Starts words before now (Err Failed) = FailureRose before now
-Starts words before now (Err OutOfMemory) = now ≡ before
-
--- the life of what runs, when it has ended with the status
-abbrev pub ended : Life → ℕ → Life
-ended Unstarted status = Unstarted
-ended (Running words) status = Ended words status
-ended (Ended words earlier) status = Ended words earlier
-
--- what a wait for it makes of it
-abbrev pub Waits : {E : Type 0} → Program → Program → Result ℕ E → Type 0
-Waits before now (Ok status) = now ≡ record before { life = ended before.life status }
-Waits before now (Err error) = FailureRose before now
+-- the life of what runs, when it has ended with the status and this was said
+abbrev pub ended : Life → ℕ → Option (List Piece) → Life
+ended Unstarted status talk = Unstarted
+ended (Running words) status talk = Ended words status talk
+ended (Ended words earlier said) status talk = Ended words earlier said

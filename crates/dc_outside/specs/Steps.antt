@@ -1,8 +1,9 @@
--- What a call of the files does to what they tell.
-use Rattle.std.specs.Prelude.{◌≡◌, ◌⊎◌, ℕ, Bool, true, false, List, [], ◌∷◌, ◌++◌, Option, None, Some, option_map, Result, Ok, Err}
+-- What a call of the files does, by its answer.
+use Rattle.std.specs.Prelude.{◌≡◌, ◌⊎◌, ℕ, Bool, true, false, List, [], ◌∷◌, ◌++◌, Option, None, Some, option_map, IfOk, IfSome, Result, Ok, Err}
 use Rattle.std.specs.FinMap as map
 use Rattle.dc_outside.specs.Disk.{Disk, DiskState, File, renamed, then_stands, open_at, durable_at, with_rename, with_removal, names_durable}
-use Rattle.dc_outside.specs.Told.{Told}
+use Rattle.dc_outside.specs.Counts.{Counted}
+use Rattle.dc_outside.specs.State.{FilesView, FilesState}
 use Rattle.dc_outside.specs.declared.files.FilesOp.{FilesOp}
 use Rattle.dc_outside.specs.declared.files.FilesOp.TheVariants.{Write, Sync, Rename, SyncNames, Remove}
 use Rattle.dc_outside.specs.declared.files.FilesCall.{FilesCall}
@@ -14,14 +15,20 @@ abbrev pub then_calls : Option (List FilesCall) → List FilesCall → Option (L
 then_calls calls more = option_map (λ before. before ++ more) calls
 
 -- after a read or a list of the path, which was answered or failed
-abbrev pub after_look : Told → FilesOp → List ℕ → Bool → Told
-after_look told op path ok = record told { calls = then_calls told.calls (record { op = op; path = path; ok = ok } ∷ []) }
+abbrev pub after_look : FilesView → FilesOp → List ℕ → Bool → FilesView
+after_look view op path ok = record view { calls = then_calls view.calls (record { op = op; path = path; ok = ok } ∷ []) }
 
--- what a read or a list does, by its answer
-abbrev pub Looks : {T : Type 0} → FilesOp → List ℕ → Told → Told → Result T FilesError → Type 0
-Looks op path old new (Ok value) = new ≡ after_look old op path true
-Looks op path old new (Err Failed) = new ≡ after_look old op path false
-Looks op path old new (Err OutOfMemory) = new ≡ old
+-- what a read or a list adds to what is told, by its answer
+abbrev pub AddsLook : {T : Type 0} → FilesOp → List ℕ → FilesView → FilesView → Result T FilesError → Type 0
+AddsLook op path old new (Ok value) = new ≡ after_look old op path true
+AddsLook op path old new (Err Failed) = new ≡ after_look old op path false
+AddsLook op path old new (Err OutOfMemory) = new ≡ old
+
+-- a read or a list, which gives what this finds on a disk that is told
+pub record Looks {T : Type 0} (op : FilesOp) (path : List ℕ) (found : Disk → T) (old new : FilesState) (result : Result T FilesError) : Type 0 where
+  pub value : IfOk result (λ value. IfSome old.view.disk (λ disk. value ≡ found disk))
+  pub view : AddsLook op path old.view new.view result
+  pub counts : Counted old.counts new.counts result
 
 -- ---- calls that change the disk
 
@@ -59,20 +66,28 @@ HalfDone (Renaming from to) old new = (new ≡ with_rename old from to) ⊎ (new
 HalfDone SyncingNames old new = ⊥
 HalfDone (Removing path) old new = (new ≡ with_removal old path) ⊎ (new ≡ done (Removing path) old)
 
-abbrev pub after_step : Told → Step → Told
-after_step told step = record { disk = option_map (λ disk. then_stands disk (done step disk.current)) told.disk; calls = then_calls told.calls (call_of true step ∷ []) }
+abbrev pub after_step : FilesView → Step → FilesView
+after_step view step = record {
+  disk = option_map (λ disk. then_stands disk (done step disk.current)) view.disk;
+  calls = then_calls view.calls (call_of true step ∷ []);
+}
 
 -- what a step that failed leaves of the disk: nothing changed, or it was done by half
 abbrev pub Leaves : Step → Option Disk → Option Disk → Type 0
 Leaves step None new = new ≡ None
 Leaves step (Some old) new = (new ≡ Some old) ⊎ ((half : DiskState) × HalfDone step old.current half × (new ≡ Some (then_stands old half)))
 
-pub record FailsAt (step : Step) (old new : Told) : Type 0 where
+pub record FailsAt (step : Step) (old new : FilesView) : Type 0 where
   pub calls : new.calls ≡ then_calls old.calls (call_of false step ∷ [])
   pub disk : Leaves step old.disk new.disk
 
--- what a step does, by its answer. A call that is refused for want of memory has done nothing
-abbrev pub Takes : {T : Type 0} → Step → Told → Told → Result T FilesError → Type 0
-Takes step old new (Ok value) = new ≡ after_step old step
-Takes step old new (Err Failed) = FailsAt step old new
-Takes step old new (Err OutOfMemory) = new ≡ old
+-- what a step adds to what is told, by its answer
+abbrev pub AddsStep : {T : Type 0} → Step → FilesView → FilesView → Result T FilesError → Type 0
+AddsStep step old new (Ok value) = new ≡ after_step old step
+AddsStep step old new (Err Failed) = FailsAt step old new
+AddsStep step old new (Err OutOfMemory) = new ≡ old
+
+-- A call that makes a step. One that is refused for want of memory has done nothing.
+pub record Takes {T : Type 0} (step : Step) (old new : FilesState) (result : Result T FilesError) : Type 0 where
+  pub view : AddsStep step old.view new.view result
+  pub counts : Counted old.counts new.counts result

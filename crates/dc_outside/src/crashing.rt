@@ -78,7 +78,8 @@ fn picked(
     current: &DiskState,
     past: &[DiskState],
 ) -> Mem<Option<Stored>>
-    ensures picked { IfOk result (λ entry. entry ≡ unwrap_or (listed_by pick outcome.now) (unlisted_by pick (record { current = current.now; past = past.now }) path.now)) }
+    ensures picked { IfOk result (λ entry. entry
+        ≡ unwrap_or (listed_by pick outcome.now) (unlisted_by pick (record { current = current.now; past = past.now }) path.now)) }
     ensures allowed { IfOk result (λ entry. Allows outcome.now entry) }
 {
     let listed = match pick {

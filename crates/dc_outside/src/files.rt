@@ -1,9 +1,7 @@
 // The files, by their paths. Each call is told apart by its place in the order of calls, and may fail.
-ghost use Rattle.std.specs.Prelude.{◌≡◌, IfOk, IfSome};
 ghost use Rattle.dc_outside.specs.Disk.{bytes_at, paths_below};
-ghost use Rattle.dc_outside.specs.Told.{Told, Counts};
+ghost use Rattle.dc_outside.specs.State.{FilesState};
 ghost use Rattle.dc_outside.specs.Steps.{Looks, Writing, Syncing, Renaming, SyncingNames, Removing, Takes};
-ghost use Rattle.dc_outside.specs.Counts.{Counted};
 
 use dc_text::{List, OutOfMemory, Text};
 
@@ -46,49 +44,36 @@ pub struct FilesCall {
     pub ok: bool,
 }
 
-/// The files that a program works on.
+/// The files that a program works on. A call that is refused for want of memory has done nothing.
 pub trait Files {
-    /// What they tell of the disk and of the calls so far.
-    ghost told: { Self → Told };
-
-    /// How often a call failed, and how often one was refused for want of memory. A refused call has done nothing.
-    ghost counts: { Self → Counts };
+    ghost files: { Self → FilesState };
 
     /// The bytes of the file at the path, or `None` where no file stands there.
     fn read(&mut self, path: &Text) -> Result<Option<Text>, FilesError>
-        ensures value { IfOk result (λ found. IfSome (told self.old).disk (λ disk. found ≡ bytes_at disk path.now)) }
-        ensures told { Looks FilesOp.Read path.now (told self.old) (told self.new) result }
-        ensures counts { Counted (counts self.old) (counts self.new) result };
+        ensures { Looks FilesOp.Read path.now (λ disk. bytes_at disk path.now) (files self.old) (files self.new) result };
 
     /// The paths of all files at any depth below the folder, relative to it, in byte order. There are none below a
     /// folder that isn't there.
     fn list(&mut self, dir: &Text) -> Result<List<Text>, FilesError>
-        ensures value { IfOk result (λ found. IfSome (told self.old).disk (λ disk. found ≡ paths_below disk dir.now)) }
-        ensures told { Looks FilesOp.List dir.now (told self.old) (told self.new) result }
-        ensures counts { Counted (counts self.old) (counts self.new) result };
+        ensures { Looks FilesOp.List dir.now (λ disk. paths_below disk dir.now) (files self.old) (files self.new) result };
 
     /// Makes the file, or replaces its bytes, with exactly these permission bits, and makes missing folders.
     fn write(&mut self, path: &Text, bytes: &[u8], mode: u16) -> Result<(), FilesError>
-        ensures told { Takes (Writing path.now (record { bytes = bytes.now; mode = mode })) (told self.old) (told self.new) result }
-        ensures counts { Counted (counts self.old) (counts self.new) result };
+        ensures { Takes (Writing path.now (record { bytes = bytes.now; mode = mode })) (files self.old) (files self.new) result };
 
     /// Lets no crash take what was written at the path.
     fn sync(&mut self, path: &Text) -> Result<(), FilesError>
-        ensures told { Takes (Syncing path.now) (told self.old) (told self.new) result }
-        ensures counts { Counted (counts self.old) (counts self.new) result };
+        ensures { Takes (Syncing path.now) (files self.old) (files self.new) result };
 
     /// Puts the file at `from` in the place of `to`.
     fn rename(&mut self, from: &Text, to: &Text) -> Result<(), FilesError>
-        ensures told { Takes (Renaming from.now to.now) (told self.old) (told self.new) result }
-        ensures counts { Counted (counts self.old) (counts self.new) result };
+        ensures { Takes (Renaming from.now to.now) (files self.old) (files self.new) result };
 
     /// Lets no crash undo the renames and removals so far.
     fn sync_names(&mut self) -> Result<(), FilesError>
-        ensures told { Takes SyncingNames (told self.old) (told self.new) result }
-        ensures counts { Counted (counts self.old) (counts self.new) result };
+        ensures { Takes SyncingNames (files self.old) (files self.new) result };
 
     /// Takes the file away. Where none stands nothing is changed.
     fn remove(&mut self, path: &Text) -> Result<(), FilesError>
-        ensures told { Takes (Removing path.now) (told self.old) (told self.new) result }
-        ensures counts { Counted (counts self.old) (counts self.new) result };
+        ensures { Takes (Removing path.now) (files self.old) (files self.new) result };
 }

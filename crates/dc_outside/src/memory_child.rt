@@ -1,11 +1,10 @@
 // A program in memory, behind a link in memory: what it writes is known, and so is the status that it ends with.
-ghost use Rattle.std.specs.Prelude.{◌≡◌, ◌+◌, ◌-◌, ◌^◌, ◌≤◌, ◌<◌, ◌++◌, [], length, drop, min, IfOk, OnOk, Some, is_ok, is_err, if◌then◌else◌};
+ghost use Rattle.std.specs.Prelude.{◌≡◌, ◌+◌, ◌-◌, ◌^◌, ◌<◌, ◌++◌, [], length, drop, min, IfOk, OnOk, Some, is_ok, is_err, if◌then◌else◌};
 ghost use Rattle.std.specs.Option.{option_copied};
-ghost use Rattle.std.specs.Io.KnownBytes.{prepend_known};
-ghost use Rattle.dc_outside.specs.Talk.{then_pieces, read_pieces, got, sent, AddsWrite, EndsAtNone};
-ghost use Rattle.dc_outside.specs.Counts.{CountsFaults, CountsRefusals};
-ghost use Rattle.dc_outside.specs.Programs.{Unstarted, Running, IsRunning, words_of, no_program, FailureRose, Starts, Waits};
-ghost use Rattle.dc_outside.specs.Memory.{is_among, next_cut, write_pieces, FailsWhere, TakesNumber};
+ghost use Rattle.dc_outside.specs.Talk.{sent};
+ghost use Rattle.dc_outside.specs.LinkCalls.{Reads, Sends, Starts, Waits};
+ghost use Rattle.dc_outside.specs.Programs.{Unstarted, Running, IsRunning, words_of, no_program, FailureRose};
+ghost use Rattle.dc_outside.specs.Memory.{child_link_of, is_among, next_cut, read_pieces, write_pieces, FailsWhere, TakesNumber};
 
 use crate::{Child, Link, LinkError, MemLink, Piece, WaitFault};
 use dc_text::{List, Mem, Text};
@@ -28,15 +27,24 @@ pub struct MemChild {
     stage: Stage,
     status: u8,
     failures: u64,
+    // How many pieces had been said when the program ended.
+    said: usize,
 }
 
 impl Model for MemChild {
-    ghost use Rattle.dc_outside.specs.Memory.{ChildState};
+    ghost use Rattle.std.specs.Prelude.{◌≤◌, length, take};
+    ghost use Rattle.dc_outside.specs.Memory.{MemChildState};
     ghost use Rattle.dc_outside.specs.MemoryLife.{life_in};
 
-    ghost Value = { ChildState };
+    ghost Value = { MemChildState };
 
-    ghost view = { λ c. record { link = c.link; program = record { life = life_in c.stage c.status; failures = c.failures }; status = c.status } };
+    ghost view = { λ c. record {
+      link = c.link;
+      program = record { life = life_in c.stage c.status (take c.said c.link.talk); failures = c.failures };
+      status = c.status;
+    } };
+
+    ghost invariant = { λ c. c.said ≤ length c.link.talk };
 }
 
 impl MemChild {
@@ -51,12 +59,11 @@ impl MemChild {
         status: u8,
     ) -> Mem<MemChild>
         ensures talk { IfOk result (λ child. child.link.talk ≡ []) }
-        ensures left { IfOk result (λ child. child.link.left ≡ input.now) }
+        ensures input { IfOk result (λ child. child.link.input ≡ input.now) }
         ensures cuts { IfOk result (λ child. child.link.cuts ≡ cuts.now) }
         ensures failing { IfOk result (λ child. child.link.failing ≡ failing.now) }
         ensures number { IfOk result (λ child. child.link.number ≡ 0) }
-        ensures faults { IfOk result (λ child. child.link.faults ≡ 0) }
-        ensures refusals { IfOk result (λ child. child.link.refusals ≡ 0) }
+        ensures counts { IfOk result (λ child. child.link.counts ≡ record { faults = 0; refusals = 0 }) }
         ensures program { IfOk result (λ child. child.program ≡ no_program) }
         ensures status { IfOk result (λ child. child.status ≡ status) }
     {
@@ -65,6 +72,7 @@ impl MemChild {
             stage: Stage::Ready,
             status,
             failures: 0,
+            said: 0,
         })
     }
 
@@ -102,27 +110,15 @@ impl MemChild {
 }
 
 impl Link for MemChild {
-    ghost talk = { λ c. Some c.link.talk };
+    ghost link = { child_link_of };
 
-    ghost left = { λ c. Some c.link.left };
-
-    ghost faults = { λ c. c.link.faults };
-
-    ghost refusals = { λ c. c.link.refusals };
-
-    ghost program = { λ c. c.program };
-
+    #[tactic(auto, using(crate::proofs::MemoryCalls::child_reads))]
     fn read_some(&mut self, buf: &mut [u8]) -> Result<usize, LinkError>
         requires { 0 < length buf.old }
-        ensures bound { IfOk result (λ count. count ≤ length buf.new) }
-        ensures talk { Some self.new.link.talk ≡ then_pieces (Some self.old.link.talk) (read_pieces result buf.new) }
-        ensures input { Some self.old.link.left ≡ prepend_known (got (read_pieces result buf.new)) (Some self.new.link.left) }
-        ensures end { EndsAtNone result (Some self.new.link.left) }
-        ensures faults { CountsFaults self.old.link.faults self.new.link.faults result }
-        ensures refusals { CountsRefusals self.old.link.refusals self.new.link.refusals result }
+        ensures reads { Reads buf.new (child_link_of self.old) (child_link_of self.new) result }
 
         ensures fails { FailsWhere (is_among self.old.link.failing self.old.link.number) result }
-        ensures count { IfOk result (λ count. count ≡ min (next_cut self.old.link.cuts (length buf.old)) (length self.old.link.left)) }
+        ensures count { IfOk result (λ count. count ≡ min (next_cut self.old.link.cuts (length buf.old)) (length self.old.link.input)) }
         ensures cuts { self.new.link.cuts ≡ (if is_ok result then drop 1 self.old.link.cuts else self.old.link.cuts) }
         ensures number { TakesNumber self.old.link.number self.new.link.number result }
         ensures failing { self.new.link.failing ≡ self.old.link.failing }
@@ -131,11 +127,9 @@ impl Link for MemChild {
         self.link.read_some(buf)
     }
 
+    #[tactic(auto, using(crate::proofs::MemoryCalls::child_sends))]
     fn write(&mut self, bytes: &[u8]) -> Result<(), LinkError>
-        ensures talk { AddsWrite (Some self.old.link.talk) (Some self.new.link.talk) result bytes.now }
-        ensures input { Some self.new.link.left ≡ Some self.old.link.left }
-        ensures faults { CountsFaults self.old.link.faults self.new.link.faults result }
-        ensures refusals { CountsRefusals self.old.link.refusals self.new.link.refusals result }
+        ensures sends { Sends bytes.now (child_link_of self.old) (child_link_of self.new) result }
 
         ensures fails { FailsWhere (is_among self.old.link.failing self.old.link.number) result }
         ensures nothing { self.new.link.talk ≡ self.old.link.talk ++ write_pieces result bytes.now }
@@ -152,13 +146,12 @@ impl Child for MemChild {
     fn start(&mut self, words: &List<Text>) -> Result<(), LinkError>
         requires some { 0 < length words.now }
         requires unstarted { self.old.program.life ≡ Unstarted }
-        ensures program { Starts words.now self.old.program self.new.program result }
-        ensures refusals { CountsRefusals self.old.link.refusals self.new.link.refusals result }
+        ensures starts { Starts words.now (child_link_of self.old) (child_link_of self.new) result }
 
         ensures words { OnOk result (self.new.program.life ≡ Running (Some words.now)) }
         ensures fails { FailsWhere (is_among self.old.link.failing self.old.link.number) result }
         ensures number { TakesNumber self.old.link.number self.new.link.number result }
-        ensures link { self.new.link ≡ record self.old.link { number = self.new.link.number; refusals = self.new.link.refusals } }
+        ensures link { self.new.link ≡ record self.old.link { number = self.new.link.number; counts = self.new.link.counts } }
         ensures status { self.new.status ≡ self.old.status }
     {
         if self.link.is_failing() {
@@ -181,7 +174,7 @@ impl Child for MemChild {
 
     fn wait(&mut self) -> Result<u8, WaitFault>
         requires { IsRunning self.old.program.life }
-        ensures program { Waits self.old.program self.new.program result }
+        ensures waits { Waits (child_link_of self.old) (child_link_of self.new) result }
 
         ensures answer { IfOk result (λ status. status ≡ self.old.status) }
         ensures fails { is_err result ≡ is_among self.old.link.failing self.old.link.number }
@@ -195,6 +188,7 @@ impl Child for MemChild {
             self.count_failure();
             return Err(WaitFault);
         }
+        self.said = self.link.talk().len();
         self.stage = match mem::replace(&mut self.stage, Stage::Ready) {
             Stage::Started(words) => Stage::Over(words),
             other => other,

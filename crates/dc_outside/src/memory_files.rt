@@ -4,9 +4,9 @@ ghost use Rattle.std.specs.Option.{option_copied};
 ghost use Rattle.std.specs.FinMap as map;
 ghost use Rattle.dc_outside.specs.Disk.{file_at, bytes_at, after_front, paths_below, then_stands};
 ghost use Rattle.dc_outside.specs.Crash.{IsLeftBy};
-ghost use Rattle.dc_outside.specs.Steps.{Looks, Takes, Writing, Syncing, Renaming, SyncingNames, Removing, done, call_of};
+ghost use Rattle.dc_outside.specs.Steps.{Looks, Takes, Writing, Syncing, Renaming, SyncingNames, Removing};
 ghost use Rattle.dc_outside.specs.Counts.{Counted};
-ghost use Rattle.dc_outside.specs.Memory.{files_from, fresh, fails_next, told_by, counted_by, FilesFailsWhere, IsLogged};
+ghost use Rattle.dc_outside.specs.Memory.{files_from, files_of, after_call, fresh, fails_next, FilesFailsWhere, IsLogged};
 
 use crate::crashing::{Pick, left_files};
 use crate::disk_state::{DiskState, Stored};
@@ -33,13 +33,19 @@ pub struct MemFiles {
 impl Model for MemFiles {
     ghost use Rattle.std.specs.Coded.{codes};
     ghost use Rattle.dc_outside.specs.Disk.{disk_code};
-    ghost use Rattle.dc_outside.specs.Memory.{FilesState};
+    ghost use Rattle.dc_outside.specs.Memory.{MemFilesState};
 
-    ghost Value = { FilesState };
+    ghost Value = { MemFilesState };
 
     ghost coded = { Prim.hlevel (codes, disk_code) };
 
-    ghost view = { λ m. record { disk = record { current = m.current; past = m.past }; failing = m.failing.items; stopped = m.stopped; calls = m.calls; faults = m.faults; refusals = m.refusals } };
+    ghost view = { λ m. record {
+      disk = record { current = m.current; past = m.past };
+      failing = m.failing.items;
+      stopped = m.stopped;
+      calls = m.calls;
+      counts = record { faults = m.faults; refusals = m.refusals };
+    } };
 }
 
 impl MemFiles {
@@ -145,8 +151,8 @@ impl MemFiles {
     // Counts a call by its answer.
     fn count<T>(&mut self, answer: Result<T, FilesError>) -> Result<T, FilesError>
         ensures answer { result ≡ answer }
-        ensures rest { self.new ≡ record self.old { faults = self.new.faults; refusals = self.new.refusals } }
-        ensures counts { Counted (counted_by self.old) (counted_by self.new) result }
+        ensures rest { self.new ≡ record self.old { counts = self.new.counts } }
+        ensures counts { Counted self.old.counts self.new.counts result }
     {
         match &answer {
             Ok(_) => {}
@@ -238,7 +244,7 @@ impl MemFiles {
 
     fn write_call(&mut self, path: &Text, bytes: &[u8], mode: u16) -> Result<(), FilesError>
         ensures fails { FilesFailsWhere (fails_next self.old) result }
-        ensures ok { OnOk result (self.new ≡ record self.old { disk = then_stands self.old.disk (done (Writing path.now (record { bytes = bytes.now; mode = mode })) self.old.disk.current); calls = self.old.calls ++ call_of true (Writing path.now (record { bytes = bytes.now; mode = mode })) ∷ [] }) }
+        ensures ok { OnOk result (self.new ≡ after_call self.old (Writing path.now (record { bytes = bytes.now; mode = mode }))) }
         ensures calls { OnErr result (IsLogged FilesOp.Write path.now self.old.calls self.new.calls result) }
         ensures err { OnErr result (self.new ≡ record self.old { calls = self.new.calls }) }
     {
@@ -252,7 +258,7 @@ impl MemFiles {
 
     fn sync_call(&mut self, path: &Text) -> Result<(), FilesError>
         ensures fails { FilesFailsWhere (fails_next self.old) result }
-        ensures ok { OnOk result (self.new ≡ record self.old { disk = then_stands self.old.disk (done (Syncing path.now) self.old.disk.current); calls = self.old.calls ++ call_of true (Syncing path.now) ∷ [] }) }
+        ensures ok { OnOk result (self.new ≡ after_call self.old (Syncing path.now)) }
         ensures calls { OnErr result (IsLogged FilesOp.Sync path.now self.old.calls self.new.calls result) }
         ensures err { OnErr result (self.new ≡ record self.old { calls = self.new.calls }) }
     {
@@ -264,7 +270,7 @@ impl MemFiles {
 
     fn rename_call(&mut self, from: &Text, to: &Text) -> Result<(), FilesError>
         ensures fails { FilesFailsWhere (fails_next self.old || is_none (file_at self.old.disk from.now)) result }
-        ensures ok { OnOk result (self.new ≡ record self.old { disk = then_stands self.old.disk (done (Renaming from.now to.now) self.old.disk.current); calls = self.old.calls ++ call_of true (Renaming from.now to.now) ∷ [] }) }
+        ensures ok { OnOk result (self.new ≡ after_call self.old (Renaming from.now to.now)) }
         ensures calls { OnErr result (IsLogged FilesOp.Rename to.now self.old.calls self.new.calls result) }
         ensures err { OnErr result (self.new ≡ record self.old { calls = self.new.calls }) }
     {
@@ -286,7 +292,7 @@ impl MemFiles {
     fn sync_names_call(&mut self, no_path: &Text) -> Result<(), FilesError>
         requires { no_path.now ≡ [] }
         ensures fails { FilesFailsWhere (fails_next self.old) result }
-        ensures ok { OnOk result (self.new ≡ record self.old { disk = then_stands self.old.disk (done (SyncingNames) self.old.disk.current); calls = self.old.calls ++ call_of true (SyncingNames) ∷ [] }) }
+        ensures ok { OnOk result (self.new ≡ after_call self.old SyncingNames) }
         ensures calls { OnErr result (IsLogged FilesOp.SyncNames no_path.now self.old.calls self.new.calls result) }
         ensures err { OnErr result (self.new ≡ record self.old { calls = self.new.calls }) }
     {
@@ -299,7 +305,7 @@ impl MemFiles {
 
     fn remove_call(&mut self, path: &Text) -> Result<(), FilesError>
         ensures fails { FilesFailsWhere (fails_next self.old) result }
-        ensures ok { OnOk result (self.new ≡ record self.old { disk = then_stands self.old.disk (done (Removing path.now) self.old.disk.current); calls = self.old.calls ++ call_of true (Removing path.now) ∷ [] }) }
+        ensures ok { OnOk result (self.new ≡ after_call self.old (Removing path.now)) }
         ensures calls { OnErr result (IsLogged FilesOp.Remove path.now self.old.calls self.new.calls result) }
         ensures err { OnErr result (self.new ≡ record self.old { calls = self.new.calls }) }
     {
@@ -337,14 +343,10 @@ fn stored_files(alloc: Global, entries: &[(Text, Text)]) -> Mem<TextMap<Stored>>
 }
 
 impl Files for MemFiles {
-    ghost told = { told_by };
-
-    ghost counts = { counted_by };
+    ghost files = { files_of };
 
     fn read(&mut self, path: &Text) -> Result<Option<Text>, FilesError>
-        ensures value { IfOk result (λ found. found ≡ bytes_at self.old.disk path.now) }
-        ensures told { Looks FilesOp.Read path.now (told_by self.old) (told_by self.new) result }
-        ensures counts { Counted (counted_by self.old) (counted_by self.new) result }
+        ensures looks { Looks FilesOp.Read path.now (λ disk. bytes_at disk path.now) (files_of self.old) (files_of self.new) result }
 
         ensures fails { FilesFailsWhere (fails_next self.old) result }
         ensures failing { (self.new.failing ≡ self.old.failing) × (self.new.stopped ≡ self.old.stopped) }
@@ -354,9 +356,7 @@ impl Files for MemFiles {
     }
 
     fn list(&mut self, dir: &Text) -> Result<List<Text>, FilesError>
-        ensures value { IfOk result (λ found. found ≡ paths_below self.old.disk dir.now) }
-        ensures told { Looks FilesOp.List dir.now (told_by self.old) (told_by self.new) result }
-        ensures counts { Counted (counted_by self.old) (counted_by self.new) result }
+        ensures looks { Looks FilesOp.List dir.now (λ disk. paths_below disk dir.now) (files_of self.old) (files_of self.new) result }
 
         ensures fails { FilesFailsWhere (fails_next self.old) result }
         ensures failing { (self.new.failing ≡ self.old.failing) × (self.new.stopped ≡ self.old.stopped) }
@@ -366,8 +366,7 @@ impl Files for MemFiles {
     }
 
     fn write(&mut self, path: &Text, bytes: &[u8], mode: u16) -> Result<(), FilesError>
-        ensures told { Takes (Writing path.now (record { bytes = bytes.now; mode = mode })) (told_by self.old) (told_by self.new) result }
-        ensures counts { Counted (counted_by self.old) (counted_by self.new) result }
+        ensures takes { Takes (Writing path.now (record { bytes = bytes.now; mode = mode })) (files_of self.old) (files_of self.new) result }
 
         ensures fails { FilesFailsWhere (fails_next self.old) result }
         ensures failing { (self.new.failing ≡ self.old.failing) × (self.new.stopped ≡ self.old.stopped) }
@@ -378,8 +377,7 @@ impl Files for MemFiles {
     }
 
     fn sync(&mut self, path: &Text) -> Result<(), FilesError>
-        ensures told { Takes (Syncing path.now) (told_by self.old) (told_by self.new) result }
-        ensures counts { Counted (counted_by self.old) (counted_by self.new) result }
+        ensures takes { Takes (Syncing path.now) (files_of self.old) (files_of self.new) result }
 
         ensures fails { FilesFailsWhere (fails_next self.old) result }
         ensures failing { (self.new.failing ≡ self.old.failing) × (self.new.stopped ≡ self.old.stopped) }
@@ -391,8 +389,7 @@ impl Files for MemFiles {
 
     // A file that isn't there can't be renamed.
     fn rename(&mut self, from: &Text, to: &Text) -> Result<(), FilesError>
-        ensures told { Takes (Renaming from.now to.now) (told_by self.old) (told_by self.new) result }
-        ensures counts { Counted (counted_by self.old) (counted_by self.new) result }
+        ensures takes { Takes (Renaming from.now to.now) (files_of self.old) (files_of self.new) result }
 
         ensures fails { FilesFailsWhere (fails_next self.old || is_none (file_at self.old.disk from.now)) result }
         ensures failing { (self.new.failing ≡ self.old.failing) × (self.new.stopped ≡ self.old.stopped) }
@@ -403,8 +400,7 @@ impl Files for MemFiles {
     }
 
     fn sync_names(&mut self) -> Result<(), FilesError>
-        ensures told { Takes (SyncingNames) (told_by self.old) (told_by self.new) result }
-        ensures counts { Counted (counted_by self.old) (counted_by self.new) result }
+        ensures takes { Takes SyncingNames (files_of self.old) (files_of self.new) result }
 
         ensures fails { FilesFailsWhere (fails_next self.old) result }
         ensures failing { (self.new.failing ≡ self.old.failing) × (self.new.stopped ≡ self.old.stopped) }
@@ -416,8 +412,7 @@ impl Files for MemFiles {
     }
 
     fn remove(&mut self, path: &Text) -> Result<(), FilesError>
-        ensures told { Takes (Removing path.now) (told_by self.old) (told_by self.new) result }
-        ensures counts { Counted (counted_by self.old) (counted_by self.new) result }
+        ensures takes { Takes (Removing path.now) (files_of self.old) (files_of self.new) result }
 
         ensures fails { FilesFailsWhere (fails_next self.old) result }
         ensures failing { (self.new.failing ≡ self.old.failing) × (self.new.stopped ≡ self.old.stopped) }

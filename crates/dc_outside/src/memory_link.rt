@@ -1,11 +1,10 @@
 // A link in memory: its input is known, its cuts and faults are chosen, and it keeps its talk.
-ghost use Rattle.std.specs.Prelude.{◌≡◌, ◌≤◌, ◌+◌, ◌-◌, ◌^◌, ◌<◌, [], ◌∷◌, ◌++◌, length, take, drop, min, IfOk, OnOk, OnErr, Some, Ok, is_ok, if◌then◌else◌};
+ghost use Rattle.std.specs.Prelude.{◌≡◌, ◌≤◌, ◌+◌, ◌-◌, ◌^◌, ◌<◌, [], ◌∷◌, ◌++◌, length, take, drop, min, IfOk, OnOk, OnErr, Ok, is_ok, if◌then◌else◌};
 ghost use Rattle.dc_outside.specs.declared.link.Piece.TheVariants.{Got};
-ghost use Rattle.dc_outside.specs.Talk.{then_pieces, read_pieces, got, sent, AddsWrite, EndsAtNone};
-ghost use Rattle.dc_outside.specs.Counts.{Rose, CountsFaults, CountsRefusals};
-ghost use Rattle.dc_outside.specs.Programs.{no_program};
-ghost use Rattle.dc_outside.specs.Memory.{is_among, next_cut, write_pieces, FailsWhere, TakesNumber};
-ghost use Rattle.std.specs.Io.KnownBytes.{prepend_known};
+ghost use Rattle.dc_outside.specs.Talk.{got, sent};
+ghost use Rattle.dc_outside.specs.Counts.{Rose, RefusalRose, LinkCounted};
+ghost use Rattle.dc_outside.specs.LinkCalls.{Reads, Sends};
+ghost use Rattle.dc_outside.specs.Memory.{link_of, is_among, next_cut, read_pieces, write_pieces, EndsAtNone, FailsWhere, TakesNumber};
 
 use crate::{Link, LinkError, Piece};
 use dc_text::{List, Mem, Text};
@@ -30,11 +29,18 @@ pub struct MemLink {
 impl Model for MemLink {
     ghost use Rattle.std.specs.Prelude.{◌≡◌, ◌≤◌, drop, length};
     ghost use Rattle.dc_outside.specs.Talk.{sent};
-    ghost use Rattle.dc_outside.specs.Memory.{LinkState};
+    ghost use Rattle.dc_outside.specs.Memory.{MemLinkState};
 
-    ghost Value = { LinkState };
+    ghost Value = { MemLinkState };
 
-    ghost view = { λ m. record { talk = m.talk; left = drop m.taken m.input.items; cuts = drop m.reads m.cuts.items; failing = m.failing.items; number = m.number; faults = m.faults; refusals = m.refusals } };
+    ghost view = { λ m. record {
+      talk = m.talk;
+      input = drop m.taken m.input.items;
+      cuts = drop m.reads m.cuts.items;
+      failing = m.failing.items;
+      number = m.number;
+      counts = record { faults = m.faults; refusals = m.refusals };
+    } };
 
     ghost invariant = { λ m. (m.taken ≤ length m.input.items) × (m.reads ≤ length m.cuts.items) × (m.written ≡ sent m.talk) };
 }
@@ -45,12 +51,11 @@ impl MemLink {
     /// moved.
     pub fn new(alloc: Global, input: &[u8], cuts: &[usize], failing: &[u64]) -> Mem<MemLink>
         ensures talk { IfOk result (λ link. link.talk ≡ []) }
-        ensures left { IfOk result (λ link. link.left ≡ input.now) }
+        ensures input { IfOk result (λ link. link.input ≡ input.now) }
         ensures cuts { IfOk result (λ link. link.cuts ≡ cuts.now) }
         ensures failing { IfOk result (λ link. link.failing ≡ failing.now) }
         ensures number { IfOk result (λ link. link.number ≡ 0) }
-        ensures faults { IfOk result (λ link. link.faults ≡ 0) }
-        ensures refusals { IfOk result (λ link. link.refusals ≡ 0) }
+        ensures counts { IfOk result (λ link. link.counts ≡ record { faults = 0; refusals = 0 }) }
     {
         let input = input.to_vec(alloc)?;
         let cuts = cuts.to_vec(alloc)?;
@@ -100,8 +105,8 @@ impl MemLink {
 
     // Counts a call that is refused for want of memory.
     pub(crate) fn count_refusal(&mut self)
-        ensures rose { Rose self.old.refusals self.new.refusals }
-        ensures rest { self.new ≡ record self.old { refusals = self.new.refusals } }
+        ensures rose { RefusalRose self.old.counts self.new.counts }
+        ensures rest { self.new ≡ record self.old { counts = self.new.counts } }
     {
         self.refusals = self.refusals.saturating_add(1);
     }
@@ -109,10 +114,9 @@ impl MemLink {
     // Counts a call by its answer.
     fn count<T>(&mut self, answer: Result<T, LinkError>) -> Result<T, LinkError>
         ensures answer { result ≡ answer }
-        ensures rest { self.new ≡ record self.old { number = self.new.number; faults = self.new.faults; refusals = self.new.refusals } }
+        ensures rest { self.new ≡ record self.old { number = self.new.number; counts = self.new.counts } }
         ensures number { TakesNumber self.old.number self.new.number result }
-        ensures faults { CountsFaults self.old.faults self.new.faults result }
-        ensures refusals { CountsRefusals self.old.refusals self.new.refusals result }
+        ensures counts { LinkCounted self.old.counts self.new.counts result }
     {
         match &answer {
             Ok(_) => self.pass_number(),
@@ -143,7 +147,7 @@ impl MemLink {
 
     // How many bytes the next read gives to a buffer with that room.
     fn next_count(&self, room: usize) -> usize
-        ensures { result ≡ min (next_cut self.now.cuts room) (length self.now.left) }
+        ensures { result ≡ min (next_cut self.now.cuts room) (length self.now.input) }
     {
         let cut = match self.cuts.get(self.reads) {
             Some(cut) => (*cut).max(1).min(room),
@@ -154,9 +158,9 @@ impl MemLink {
 
     // Gives the next bytes of the input, as many as the buffer takes.
     fn fill(&mut self, buf: &mut [u8]) -> Mem<()>
-        requires { length buf.old ≤ length self.old.left }
-        ensures bytes { OnOk result (buf.new ≡ take (length buf.old) self.old.left) }
-        ensures ok { OnOk result (self.new ≡ record self.old { talk = self.old.talk ++ Got buf.new ∷ []; left = drop (length buf.old) self.old.left }) }
+        requires { length buf.old ≤ length self.old.input }
+        ensures bytes { OnOk result (buf.new ≡ take (length buf.old) self.old.input) }
+        ensures ok { OnOk result (self.new ≡ record self.old { talk = self.old.talk ++ Got buf.new ∷ []; input = drop (length buf.old) self.old.input }) }
         ensures err { OnErr result (self.new ≡ self.old) }
     {
         let next = &self.input[self.taken..self.taken + buf.len()];
@@ -177,10 +181,10 @@ impl MemLink {
     }
 
     fn give(&mut self, buf: &mut [u8]) -> Mem<usize>
-        ensures count { IfOk result (λ count. count ≡ min (next_cut self.old.cuts (length buf.old)) (length self.old.left)) }
+        ensures count { IfOk result (λ count. count ≡ min (next_cut self.old.cuts (length buf.old)) (length self.old.input)) }
         ensures talk { IfOk result (λ count. self.new.talk ≡ self.old.talk ++ read_pieces (Ok count) buf.new) }
-        ensures left { IfOk result (λ count. self.old.left ≡ got (read_pieces (Ok count) buf.new) ++ self.new.left) }
-        ensures rest { OnOk result (self.new ≡ record self.old { talk = self.new.talk; left = self.new.left; cuts = drop 1 self.old.cuts }) }
+        ensures left { IfOk result (λ count. self.old.input ≡ got (read_pieces (Ok count) buf.new) ++ self.new.input) }
+        ensures rest { OnOk result (self.new ≡ record self.old { talk = self.new.talk; input = self.new.input; cuts = drop 1 self.old.cuts }) }
         ensures err { OnErr result (self.new ≡ self.old) }
     {
         let count = self.next_count(buf.len());
@@ -193,11 +197,11 @@ impl MemLink {
 
     fn receive(&mut self, buf: &mut [u8]) -> Result<usize, LinkError>
         ensures fails { FailsWhere (is_among self.old.failing self.old.number) result }
-        ensures count { IfOk result (λ count. count ≡ min (next_cut self.old.cuts (length buf.old)) (length self.old.left)) }
+        ensures count { IfOk result (λ count. count ≡ min (next_cut self.old.cuts (length buf.old)) (length self.old.input)) }
         ensures talk { self.new.talk ≡ self.old.talk ++ read_pieces result buf.new }
-        ensures left { self.old.left ≡ got (read_pieces result buf.new) ++ self.new.left }
+        ensures left { self.old.input ≡ got (read_pieces result buf.new) ++ self.new.input }
         ensures cuts { self.new.cuts ≡ (if is_ok result then drop 1 self.old.cuts else self.old.cuts) }
-        ensures rest { self.new ≡ record self.old { talk = self.new.talk; left = self.new.left; cuts = self.new.cuts } }
+        ensures rest { self.new ≡ record self.old { talk = self.new.talk; input = self.new.input; cuts = self.new.cuts } }
     {
         if self.is_failing() {
             self.say(Piece::Lost, &[])?;
@@ -221,28 +225,17 @@ impl MemLink {
     }
 }
 
-impl Link for MemLink {
-    ghost talk = { λ m. Some m.talk };
-
-    ghost left = { λ m. Some m.left };
-
-    ghost faults = { λ m. m.faults };
-
-    ghost refusals = { λ m. m.refusals };
-
-    ghost program = { λ _. no_program };
-
-    fn read_some(&mut self, buf: &mut [u8]) -> Result<usize, LinkError>
+impl MemLink {
+    // A read, and how it is counted.
+    fn read_call(&mut self, buf: &mut [u8]) -> Result<usize, LinkError>
         requires { 0 < length buf.old }
         ensures bound { IfOk result (λ count. count ≤ length buf.new) }
-        ensures talk { Some self.new.talk ≡ then_pieces (Some self.old.talk) (read_pieces result buf.new) }
-        ensures input { Some self.old.left ≡ prepend_known (got (read_pieces result buf.new)) (Some self.new.left) }
-        ensures end { EndsAtNone result (Some self.new.left) }
-        ensures faults { CountsFaults self.old.faults self.new.faults result }
-        ensures refusals { CountsRefusals self.old.refusals self.new.refusals result }
-
+        ensures talk { self.new.talk ≡ self.old.talk ++ read_pieces result buf.new }
+        ensures input { self.old.input ≡ got (read_pieces result buf.new) ++ self.new.input }
+        ensures end { EndsAtNone result self.new.input }
+        ensures counts { LinkCounted self.old.counts self.new.counts result }
         ensures fails { FailsWhere (is_among self.old.failing self.old.number) result }
-        ensures count { IfOk result (λ count. count ≡ min (next_cut self.old.cuts (length buf.old)) (length self.old.left)) }
+        ensures count { IfOk result (λ count. count ≡ min (next_cut self.old.cuts (length buf.old)) (length self.old.input)) }
         ensures cuts { self.new.cuts ≡ (if is_ok result then drop 1 self.old.cuts else self.old.cuts) }
         ensures number { TakesNumber self.old.number self.new.number result }
         ensures failing { self.new.failing ≡ self.old.failing }
@@ -251,19 +244,46 @@ impl Link for MemLink {
         self.count(answer)
     }
 
-    fn write(&mut self, bytes: &[u8]) -> Result<(), LinkError>
-        ensures talk { AddsWrite (Some self.old.talk) (Some self.new.talk) result bytes.now }
-        ensures input { Some self.new.left ≡ Some self.old.left }
-        ensures faults { CountsFaults self.old.faults self.new.faults result }
-        ensures refusals { CountsRefusals self.old.refusals self.new.refusals result }
-
+    // A write, and how it is counted.
+    fn write_call(&mut self, bytes: &[u8]) -> Result<(), LinkError>
+        ensures talk { self.new.talk ≡ self.old.talk ++ write_pieces result bytes.now }
+        ensures counts { LinkCounted self.old.counts self.new.counts result }
         ensures fails { FailsWhere (is_among self.old.failing self.old.number) result }
-        ensures nothing { self.new.talk ≡ self.old.talk ++ write_pieces result bytes.now }
-        ensures cuts { self.new.cuts ≡ self.old.cuts }
         ensures number { TakesNumber self.old.number self.new.number result }
-        ensures failing { self.new.failing ≡ self.old.failing }
+        ensures rest { self.new ≡ record self.old { talk = self.new.talk; number = self.new.number; counts = self.new.counts } }
     {
         let answer = self.send(bytes);
         self.count(answer)
+    }
+}
+
+impl Link for MemLink {
+    ghost link = { link_of };
+
+    #[tactic(auto, using(crate::proofs::MemoryCalls::reads_in_memory))]
+    fn read_some(&mut self, buf: &mut [u8]) -> Result<usize, LinkError>
+        requires { 0 < length buf.old }
+        ensures reads { Reads buf.new (link_of self.old) (link_of self.new) result }
+
+        ensures fails { FailsWhere (is_among self.old.failing self.old.number) result }
+        ensures count { IfOk result (λ count. count ≡ min (next_cut self.old.cuts (length buf.old)) (length self.old.input)) }
+        ensures talk { self.new.talk ≡ self.old.talk ++ read_pieces result buf.new }
+        ensures cuts { self.new.cuts ≡ (if is_ok result then drop 1 self.old.cuts else self.old.cuts) }
+        ensures number { TakesNumber self.old.number self.new.number result }
+        ensures failing { self.new.failing ≡ self.old.failing }
+    {
+        self.read_call(buf)
+    }
+
+    #[tactic(auto, using(crate::proofs::MemoryCalls::sends_in_memory))]
+    fn write(&mut self, bytes: &[u8]) -> Result<(), LinkError>
+        ensures sends { Sends bytes.now (link_of self.old) (link_of self.new) result }
+
+        ensures fails { FailsWhere (is_among self.old.failing self.old.number) result }
+        ensures nothing { self.new.talk ≡ self.old.talk ++ write_pieces result bytes.now }
+        ensures number { TakesNumber self.old.number self.new.number result }
+        ensures rest { self.new ≡ record self.old { talk = self.new.talk; number = self.new.number; counts = self.new.counts } }
+    {
+        self.write_call(bytes)
     }
 }

@@ -3,6 +3,7 @@ pub mod ApartLemmas
 pub mod BindLemmas
 pub mod ChangeLemmas
 pub mod FieldLemmas
+pub mod FrameLemmas
 pub mod GroupLemmas
 pub mod KindLemmas
 pub mod LeaveLemmas

@@ -40,7 +40,11 @@ known_kind layers at kinds name = unwrap_or (map.get kinds name) (kind_by (look 
 abbrev pub item_kind : List LayerState → QuestionContext → Texts (Option Kind) → Option ItemParts → Option Kind
 item_kind layers at kinds item = option_and_then (λ i. option_and_then (known_kind layers at kinds) (map.get i.fields (codes "template"))) item
 
+-- the kind of a question once an operation on it is done, where those of some templates are known
+abbrev pub kind_then : List LayerState → QuestionContext → Texts (Option Kind) → List ℕ → Op → Option Kind
+kind_then layers at kinds name op = item_kind layers at kinds (look_after layers at.config name op)
+
 -- a write to a question where the kinds of some templates are known
 abbrev pub write_by : List LayerState → QuestionContext → Texts (Option Kind) → List ℕ → Op → Write
 write_by layers at kinds name op =
-    record { plan = at.config; name = name; kind = item_kind layers at kinds (look_after layers at.config name op); op = op; reported_for = name ∷ [] }
+    record { plan = at.config; name = name; kind = kind_then layers at kinds name op; op = op; reported_for = name ∷ [] }

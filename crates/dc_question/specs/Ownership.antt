@@ -17,6 +17,7 @@ use Rattle.dc_layer.specs.State.{LayerState}
 use Rattle.dc_store.specs.Plans.{StoreState, look, look_after, has_below, owned}
 use Rattle.dc_store.specs.Batches.{Write, is_refused}
 use Rattle.dc_template.specs.Stanzas.{Stanza}
+use Rattle.dc_template.specs.declared.kinds.Kind.{Kind}
 use Rattle.dc_question.specs.Changes.{batch_for}
 use Rattle.dc_question.specs.Questions.{QuestionContext, question, named_template, read, read_template}
 use Rattle.dc_question.specs.Readings.{template_of, kind_by}
@@ -31,12 +32,16 @@ kept_after item Same = item
 kept_after item (Changed made) = Some made
 kept_after item Gone = item
 
+-- the kind by which a write to a template is tested
+abbrev pub kind_tested : List LayerState → QuestionContext → List ℕ → Op → Option Kind
+kind_tested layers at name op = kind_by (kept_after (look layers at.templates name) (after_at op (look layers at.templates name)))
+
 -- a write to a template, for some questions
 abbrev pub template_write : List LayerState → QuestionContext → List ℕ → Op → List (List ℕ) → Write
 template_write layers at name op questions = record {
   plan = at.templates;
   name = name;
-  kind = kind_by (kept_after (look layers at.templates name) (after_at op (look layers at.templates name)));
+  kind = kind_tested layers at name op;
   op = op;
   reported_for = questions;
 }
@@ -103,10 +108,14 @@ loaded_template template old = record {
   owners = map.insert (option_map_or (λ item. item.owners) old map.empty) template.name tt;
 }
 
+-- what puts it
+abbrev pub put_loaded : List LayerState → QuestionContext → Stanza → Op
+put_loaded layers at template = Put (loaded_template template (look layers at.templates template.name))
+
 -- each is put, with the question of its name bound to it and to the owner
 abbrev pub load_batch : List LayerState → QuestionContext → List ℕ → List Stanza → List Write
 load_batch layers at owner templates =
-    flat_map (λ t. bind_batch layers at t.name (Put (loaded_template t (look layers at.templates t.name))) t.name owner) templates
+    flat_map (λ t. bind_batch layers at t.name (put_loaded layers at t) t.name owner) templates
 
 -- the first whose question is bound to another template
 abbrev pub bound_elsewhere : List LayerState → QuestionContext → List Stanza → Option Stanza
@@ -158,7 +167,11 @@ abbrev pub unregistered : StoreState → QuestionContext → List ℕ → List �
 unregistered store at name owner =
     read name (question store.layers at name) (λ item. batch_for store (name ∷ []) (leave_batch store.layers at owner (name ∷ [])))
 
+-- each of the questions of an owner loses it
+abbrev pub purge_batch : List LayerState → QuestionContext → List ℕ → List Write
+purge_batch layers at owner = leave_batch layers at owner (owned layers at.config owner)
+
 -- the owner leaves all its questions
 abbrev pub purged : StoreState → QuestionContext → List ℕ → Result StoreState QuestionError
 purged store at owner =
-    batch_for store (owned store.layers at.config owner) (leave_batch store.layers at owner (owned store.layers at.config owner))
+    batch_for store (owned store.layers at.config owner) (purge_batch store.layers at owner)

@@ -1,9 +1,8 @@
 // Rows of writes that are done for questions.
-ghost use Rattle.std.specs.Prelude.{◌≡◌, ◌⊎◌, [], Some, None, Err, OnOk, length, unwrap_or, map as each};
-ghost use Rattle.dc_store.specs.Plans.{stored};
+ghost use Rattle.std.specs.Prelude.{◌≡◌, ◌⊎◌, [], Some, None, Err, OnOk, length, unwrap_or};
 ghost use Rattle.dc_store.specs.Batches.{AreOver, AllDistinct, names_of, commit, first_refused};
-ghost use Rattle.dc_store.specs.StoreLaws.{AreSameButAll};
 ghost use Rattle.dc_store.specs.declared.store.StoreError.{StoreError};
+ghost use Rattle.dc_question.specs.Asked.{asked, Leaves, SameButAll};
 ghost use Rattle.dc_question.specs.Changes.{Does, batch_for};
 ghost use Rattle.dc_question.specs.declared.errors.QuestionError.{QuestionError};
 
@@ -14,7 +13,6 @@ use dc_store::{Batch, StoreError, Write};
 use dc_text::Name;
 
 impl<'q> Questions<'q> {
-    #[tactic(auto, using(dc_store::proofs::RowLemmas::same_all_refl))]
     // Does all the writes, or none. A refusal names the first of the questions for which a write is refused.
     pub(crate) fn do_batch(
         &mut self,
@@ -23,11 +21,8 @@ impl<'q> Questions<'q> {
     ) -> Result<(), QuestionError>
         requires over { AreOver batch.old (length self.old.store.now.layers.items) }
         requires distinct { AllDistinct batch.old }
-        ensures does { Does result (batch_for (stored (each (λ b. state (b.vtable, b.value)) self.old.store.now.layers.items) self.old.store.now.told) names.now batch.old) (stored (each (λ b. state (b.vtable, b.value)) self.old.store.now.layers.items) self.old.store.now.told) (stored (each (λ b. state (b.vtable, b.value)) self.new.store.now.layers.items) self.new.store.now.told) }
-        ensures others { AreSameButAll (names_of batch.old) (each (λ b. state (b.vtable, b.value)) self.old.store.now.layers.items) (each (λ b. state (b.vtable, b.value)) self.new.store.now.layers.items) }
-        ensures count { length self.new.store.now.layers.items ≡ length self.old.store.now.layers.items }
-        ensures context { self.new.context ≡ self.old.context }
-        ensures held { self.new.store.ghost_name ≡ self.old.store.ghost_name }
+        ensures does { Leaves result (λ store at. batch_for store names.now batch.old) (asked state self.old) (asked state self.new) }
+        ensures frame { SameButAll (names_of batch.old) (asked state self.old) (asked state self.new) }
     {
         match self.write_row(batch) {
             Ok(()) => Ok(()),
@@ -40,14 +35,11 @@ impl<'q> Questions<'q> {
     pub(crate) fn write_row(&mut self, batch: &mut Batch<'_>) -> Result<(), StoreError>
         requires over { AreOver batch.old (length self.old.store.now.layers.items) }
         requires distinct { AllDistinct batch.old }
-        ensures ok { OnOk result (commit (stored (each (λ b. state (b.vtable, b.value)) self.old.store.now.layers.items) self.old.store.now.told) batch.old ≡ Some (stored (each (λ b. state (b.vtable, b.value)) self.new.store.now.layers.items) self.new.store.now.told)) }
-        ensures refused { result ≡ Err StoreError.Refused → commit (stored (each (λ b. state (b.vtable, b.value)) self.old.store.now.layers.items) self.old.store.now.told) batch.old ≡ None }
-        ensures unchanged { result ≡ Err StoreError.Refused → (stored (each (λ b. state (b.vtable, b.value)) self.new.store.now.layers.items) self.new.store.now.told) ≡ (stored (each (λ b. state (b.vtable, b.value)) self.old.store.now.layers.items) self.old.store.now.told) }
+        ensures ok { OnOk result (commit (asked state self.old).store batch.old ≡ Some (asked state self.new).store) }
+        ensures refused { result ≡ Err StoreError.Refused → commit (asked state self.old).store batch.old ≡ None }
+        ensures unchanged { result ≡ Err StoreError.Refused → (asked state self.new).store ≡ (asked state self.old).store }
         ensures stays { result ≡ Err StoreError.Refused → batch.new ≡ batch.old }
-        ensures others { AreSameButAll (names_of batch.old) (each (λ b. state (b.vtable, b.value)) self.old.store.now.layers.items) (each (λ b. state (b.vtable, b.value)) self.new.store.now.layers.items) }
-        ensures count { length self.new.store.now.layers.items ≡ length self.old.store.now.layers.items }
-        ensures context { self.new.context ≡ self.old.context }
-        ensures held { self.new.store.ghost_name ≡ self.old.store.ghost_name }
+        ensures frame { SameButAll (names_of batch.old) (asked state self.old) (asked state self.new) }
     {
         self.store.commit(batch)
     }
@@ -55,7 +47,8 @@ impl<'q> Questions<'q> {
     // The question that can't be changed, where a write of the row is refused.
     pub(crate) fn refused_names(&self, names: &[Name], batch: &[Write<'_>]) -> QuestionError
         requires { AreOver batch.now (length self.now.store.now.layers.items) }
-        ensures { (result ≡ QuestionError.OutOfMemory) ⊎ (result ≡ QuestionError.CantChange (unwrap_or (first_refused (each (λ b. state (b.vtable, b.value)) self.now.store.now.layers.items) names.now batch.now) [])) }
+        ensures { (result ≡ QuestionError.OutOfMemory)
+            ⊎ (result ≡ QuestionError.CantChange (unwrap_or (first_refused (asked state self.now).store.layers names.now batch.now) [])) }
     {
         match self.store.first_refused(names, batch) {
             Ok(Some(name)) => cant_change(name),

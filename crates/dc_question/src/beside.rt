@@ -1,15 +1,15 @@
 // Writes to templates, and to questions beside them.
-ghost use Rattle.std.specs.Prelude.{◌≡◌, ◌∷◌, [], IfOk, OnOk, length, map as each};
+ghost use Rattle.std.specs.Prelude.{◌≡◌, ◌∷◌, [], IfOk, OnOk, length};
 ghost use Rattle.std.specs.FinMap as map;
 ghost use Rattle.std.specs.Option.{option_copied};
 ghost use Rattle.dc_item.specs.After.{after_at};
 ghost use Rattle.dc_conf.specs.Plans.{IsOver};
 ghost use Rattle.dc_store.specs.Batches.{AreOver, is_refused};
-ghost use Rattle.dc_question.specs.KindsLeft.{kind_left as kind_left_of, with_kind, with_kinds, item_kind as item_kind_of, write_by, is_on_owners as is_on_owners_of};
-ghost use Rattle.dc_question.specs.Ownership.{kept_after, template_write, is_gone};
-ghost use Rattle.dc_question.specs.Questions.{IsSetOver};
+ghost use Rattle.dc_question.specs.Asked.{asked, HasPlans, seen};
+ghost use Rattle.dc_question.specs.KindsLeft.{kind_left as kind_left_of, with_kind, with_kinds, item_kind as item_kind_of, kind_then as kind_then_of, write_by, is_on_owners as is_on_owners_of};
+ghost use Rattle.dc_question.specs.Ownership.{kept_after, kind_tested as kind_tested_of, template_write, is_gone};
 ghost use Rattle.dc_question.specs.Readings.{kind_by};
-ghost use Rattle.dc_store.specs.Plans.{look, look_below, look_after};
+ghost use Rattle.dc_store.specs.Plans.{look, look_below};
 
 use crate::kinds_left::KindsLeft;
 use crate::questions::Questions;
@@ -24,8 +24,8 @@ use std::alloc::Global;
 impl<'q> Questions<'q> {
     // A write to a template, for some questions.
     pub(crate) fn template_write(&self, name: Name, op: Op, questions: List<Name>) -> Mem<Write<'q>>
-        requires over { IsSetOver self.now.context (length self.now.store.now.layers.items) }
-        ensures { IfOk result (λ w. w ≡ template_write (each (λ b. state (b.vtable, b.value)) self.now.store.now.layers.items) self.now.context name op questions) }
+        requires over { HasPlans self.now }
+        ensures { IfOk result (λ w. w ≡ seen (asked state self.now) template_write name op questions) }
     {
         let kind = self.kind_tested(&name, &op)?;
         Ok(Write {
@@ -39,8 +39,8 @@ impl<'q> Questions<'q> {
 
     // The kind by which a write to a template is tested. An item that is put says it by itself.
     fn kind_tested(&self, name: &Name, op: &Op) -> Mem<Option<Kind>>
-        requires over { IsSetOver self.now.context (length self.now.store.now.layers.items) }
-        ensures { IfOk result (λ kind. kind ≡ kind_by (kept_after (look (each (λ b. state (b.vtable, b.value)) self.now.store.now.layers.items) self.now.context.templates name.now) (after_at op.now (look (each (λ b. state (b.vtable, b.value)) self.now.store.now.layers.items) self.now.context.templates name.now)))) }
+        requires over { HasPlans self.now }
+        ensures { IfOk result (λ kind. kind ≡ seen (asked state self.now) kind_tested_of name.now op.now) }
     {
         if let Op::Put(made) = op {
             return Ok(kind(Some(made)));
@@ -50,9 +50,9 @@ impl<'q> Questions<'q> {
 
     // The kinds that writes to templates leave, of those that are taken.
     pub(crate) fn kinds_left<'k>(&self, batch: &[Write<'_>]) -> Mem<KindsLeft<'k>>
-        requires over { IsSetOver self.now.context (length self.now.store.now.layers.items) }
+        requires over { HasPlans self.now }
         requires batch { AreOver batch.now (length self.now.store.now.layers.items) }
-        ensures { IfOk result (λ kinds. kinds ≡ with_kinds (each (λ b. state (b.vtable, b.value)) self.now.store.now.layers.items) self.now.context map.empty batch.now) }
+        ensures { IfOk result (λ kinds. kinds ≡ seen (asked state self.now) with_kinds map.empty batch.now) }
     {
         let mut kinds = TextMap::new(self.alloc);
         for write in batch {
@@ -63,10 +63,10 @@ impl<'q> Questions<'q> {
 
     // The kind that a write to a template leaves, where it is taken.
     pub(crate) fn kind_left_by<'k>(&self, write: &'k Write<'_>) -> Mem<KindsLeft<'k>>
-        requires over { IsSetOver self.now.context (length self.now.store.now.layers.items) }
+        requires over { HasPlans self.now }
         requires write { IsOver write.now.plan (length self.now.store.now.layers.items) }
-        requires tested { write.now.kind ≡ kind_by (kept_after (look (each (λ b. state (b.vtable, b.value)) self.now.store.now.layers.items) self.now.context.templates write.now.name) (after_at write.now.op (look (each (λ b. state (b.vtable, b.value)) self.now.store.now.layers.items) self.now.context.templates write.now.name))) }
-        ensures { IfOk result (λ kinds. kinds ≡ with_kinds (each (λ b. state (b.vtable, b.value)) self.now.store.now.layers.items) self.now.context map.empty (write.now ∷ [])) }
+        requires tested { write.now.kind ≡ seen (asked state self.now) kind_tested_of write.now.name write.now.op }
+        ensures { IfOk result (λ kinds. kinds ≡ seen (asked state self.now) with_kinds map.empty (write.now ∷ [])) }
     {
         if self.refuses(write)? {
             return Ok(KindsLeft::none(self.alloc));
@@ -77,9 +77,9 @@ impl<'q> Questions<'q> {
 
     // The kind that a write to a template leaves that is taken. Of an item that is put it is the one by which the write is tested.
     fn kind_taken(&self, write: &Write<'_>) -> Mem<Option<Kind>>
-        requires over { IsSetOver self.now.context (length self.now.store.now.layers.items) }
-        requires tested { write.now.kind ≡ kind_by (kept_after (look (each (λ b. state (b.vtable, b.value)) self.now.store.now.layers.items) self.now.context.templates write.now.name) (after_at write.now.op (look (each (λ b. state (b.vtable, b.value)) self.now.store.now.layers.items) self.now.context.templates write.now.name))) }
-        ensures { IfOk result (λ kind. kind ≡ kind_left_of (each (λ b. state (b.vtable, b.value)) self.now.store.now.layers.items) self.now.context write.now.name write.now.op) }
+        requires over { HasPlans self.now }
+        requires tested { write.now.kind ≡ seen (asked state self.now) kind_tested_of write.now.name write.now.op }
+        ensures { IfOk result (λ kind. kind ≡ seen (asked state self.now) kind_left_of write.now.name write.now.op) }
     {
         if let Op::Put(_) = &write.op {
             return Ok(write.kind);
@@ -89,9 +89,9 @@ impl<'q> Questions<'q> {
 
     // Adds the kind that a write leaves, where it is taken and the first to its name.
     fn add_kind(&self, kinds: &mut TextMap<Option<Kind>>, write: &Write<'_>) -> Mem<()>
-        requires over { IsSetOver self.now.context (length self.now.store.now.layers.items) }
+        requires over { HasPlans self.now }
         requires write { IsOver write.now.plan (length self.now.store.now.layers.items) }
-        ensures { OnOk result (kinds.new ≡ with_kind (each (λ b. state (b.vtable, b.value)) self.now.store.now.layers.items) self.now.context kinds.old write.now) }
+        ensures { OnOk result (kinds.new ≡ seen (asked state self.now) with_kind kinds.old write.now) }
     {
         if kinds.contains(write.name.bytes()) || self.refuses(write)? {
             return Ok(());
@@ -102,7 +102,7 @@ impl<'q> Questions<'q> {
 
     fn refuses(&self, write: &Write<'_>) -> Mem<bool>
         requires { IsOver write.now.plan (length self.now.store.now.layers.items) }
-        ensures { IfOk result (λ is. is ≡ (is_refused (each (λ b. state (b.vtable, b.value)) self.now.store.now.layers.items) write.now)) }
+        ensures { IfOk result (λ is. is ≡ (is_refused (asked state self.now).store.layers write.now)) }
     {
         let would_take = self
             .store
@@ -112,8 +112,8 @@ impl<'q> Questions<'q> {
 
     // The kind of a template once an operation on it is done.
     fn kind_left(&self, name: &Name, op: &Op) -> Mem<Option<Kind>>
-        requires over { IsSetOver self.now.context (length self.now.store.now.layers.items) }
-        ensures { IfOk result (λ kind. kind ≡ kind_left_of (each (λ b. state (b.vtable, b.value)) self.now.store.now.layers.items) self.now.context name.now op.now) }
+        requires over { HasPlans self.now }
+        ensures { IfOk result (λ kind. kind ≡ seen (asked state self.now) kind_left_of name.now op.now) }
     {
         if let Op::Put(made) = op {
             return Ok(kind(Some(made)));
@@ -130,8 +130,8 @@ impl<'q> Questions<'q> {
 
     // The same by the item that the operation makes.
     fn kind_made(&self, name: &Name, op: &Op) -> Mem<Option<Kind>>
-        requires over { IsSetOver self.now.context (length self.now.store.now.layers.items) }
-        ensures { IfOk result (λ kind. kind ≡ kind_left_of (each (λ b. state (b.vtable, b.value)) self.now.store.now.layers.items) self.now.context name.now op.now) }
+        requires over { HasPlans self.now }
+        ensures { IfOk result (λ kind. kind ≡ seen (asked state self.now) kind_left_of name.now op.now) }
     {
         let item = self.template_seen(name);
         match op.at(item)? {
@@ -143,32 +143,32 @@ impl<'q> Questions<'q> {
 
     // What is seen of a template.
     fn template_seen(&self, name: &Name) -> Option<&Item>
-        requires over { IsSetOver self.now.context (length self.now.store.now.layers.items) }
-        ensures { option_copied result ≡ look (each (λ b. state (b.vtable, b.value)) self.now.store.now.layers.items) self.now.context.templates name.now }
+        requires over { HasPlans self.now }
+        ensures { option_copied result ≡ look (asked state self.now).store.layers self.now.context.templates name.now }
     {
         self.store.look(self.context.templates, name)
     }
 
     // What is seen below the holder of a template.
     fn template_below(&self, name: &Name) -> Option<&Item>
-        requires over { IsSetOver self.now.context (length self.now.store.now.layers.items) }
-        ensures { option_copied result ≡ look_below (each (λ b. state (b.vtable, b.value)) self.now.store.now.layers.items) self.now.context.templates name.now }
+        requires over { HasPlans self.now }
+        ensures { option_copied result ≡ look_below (asked state self.now).store.layers self.now.context.templates name.now }
     {
         self.store.look_below(self.context.templates, name)
     }
 
     // What is seen below the holder of a question.
     fn question_below(&self, name: &Name) -> Option<&Item>
-        requires over { IsSetOver self.now.context (length self.now.store.now.layers.items) }
-        ensures { option_copied result ≡ look_below (each (λ b. state (b.vtable, b.value)) self.now.store.now.layers.items) self.now.context.config name.now }
+        requires over { HasPlans self.now }
+        ensures { option_copied result ≡ look_below (asked state self.now).store.layers self.now.context.config name.now }
     {
         self.store.look_below(self.context.config, name)
     }
 
     // A write to a question beside writes that leave these kinds to templates.
     pub(crate) fn write_beside(&self, kinds: &KindsLeft<'_>, name: &Name, op: Op) -> Mem<Write<'q>>
-        requires over { IsSetOver self.now.context (length self.now.store.now.layers.items) }
-        ensures { IfOk result (λ w. w ≡ write_by (each (λ b. state (b.vtable, b.value)) self.now.store.now.layers.items) self.now.context kinds.now name.now op) }
+        requires over { HasPlans self.now }
+        ensures { IfOk result (λ w. w ≡ seen (asked state self.now) write_by kinds.now name.now op) }
     {
         let kind = self.kind_then(kinds, name, &op)?;
         Ok(Write {
@@ -182,8 +182,8 @@ impl<'q> Questions<'q> {
 
     // The kind of a question once an operation on it is done.
     fn kind_then(&self, kinds: &KindsLeft<'_>, name: &Name, op: &Op) -> Mem<Option<Kind>>
-        requires over { IsSetOver self.now.context (length self.now.store.now.layers.items) }
-        ensures { IfOk result (λ kind. kind ≡ item_kind_of (each (λ b. state (b.vtable, b.value)) self.now.store.now.layers.items) self.now.context kinds.now (look_after (each (λ b. state (b.vtable, b.value)) self.now.store.now.layers.items) self.now.context.config name.now op.now)) }
+        requires over { HasPlans self.now }
+        ensures { IfOk result (λ kind. kind ≡ seen (asked state self.now) kind_then_of kinds.now name.now op.now) }
     {
         if let Op::Put(made) = op {
             return Ok(self.item_kind(kinds, Some(made)));
@@ -200,8 +200,8 @@ impl<'q> Questions<'q> {
 
     // The same by the item that the operation makes.
     fn item_kind_made(&self, kinds: &KindsLeft<'_>, name: &Name, op: &Op) -> Mem<Option<Kind>>
-        requires over { IsSetOver self.now.context (length self.now.store.now.layers.items) }
-        ensures { IfOk result (λ kind. kind ≡ item_kind_of (each (λ b. state (b.vtable, b.value)) self.now.store.now.layers.items) self.now.context kinds.now (look_after (each (λ b. state (b.vtable, b.value)) self.now.store.now.layers.items) self.now.context.config name.now op.now)) }
+        requires over { HasPlans self.now }
+        ensures { IfOk result (λ kind. kind ≡ seen (asked state self.now) kind_then_of kinds.now name.now op.now) }
     {
         let item = self.question(name);
         match op.at(item)? {
@@ -213,8 +213,8 @@ impl<'q> Questions<'q> {
 
     // The kind of a question's item.
     fn item_kind(&self, kinds: &KindsLeft<'_>, item: Option<&Item>) -> Option<Kind>
-        requires over { IsSetOver self.now.context (length self.now.store.now.layers.items) }
-        ensures { result ≡ item_kind_of (each (λ b. state (b.vtable, b.value)) self.now.store.now.layers.items) self.now.context kinds.now (option_copied item.entry) }
+        requires over { HasPlans self.now }
+        ensures { result ≡ seen (asked state self.now) item_kind_of kinds.now (option_copied item.entry) }
     {
         let template = item?.field(b"template")?;
         match kinds.get(template) {

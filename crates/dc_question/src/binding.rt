@@ -1,13 +1,12 @@
 // Questions that are bound to templates and owners.
-ghost use Rattle.std.specs.Prelude.{◌≡◌, ◌∷◌, ◌++◌, [], IfOk, OnOk, length, map as each, option_map, true};
+ghost use Rattle.std.specs.Prelude.{◌≡◌, ◌∷◌, ◌++◌, [], IfOk, OnOk, option_map, true};
 ghost use Rattle.std.specs.Option.{option_copied};
 ghost use Rattle.dc_item.specs.Item.{no_parts};
 ghost use Rattle.dc_conf.specs.Plans.{are_disjoint};
-ghost use Rattle.dc_store.specs.Plans.{stored};
-ghost use Rattle.dc_store.specs.StoreLaws.{AreSameButAll};
-ghost use Rattle.dc_question.specs.Changes.{Does, batch_for};
+ghost use Rattle.dc_question.specs.Asked.{asked, HasPlans, seen, Leaves, SameButAll};
+ghost use Rattle.dc_question.specs.Changes.{batch_for};
 ghost use Rattle.dc_question.specs.Ownership.{register_batch, binding as binding_of, new_question as new_question_of, has_other_template as has_other_template_of, bind_batch as bind_row_of, template_write as template_write_of, write_beside as write_beside_of};
-ghost use Rattle.dc_question.specs.Questions.{IsSetOver, named_template as named_template_of, question as question_of};
+ghost use Rattle.dc_question.specs.Questions.{named_template as named_template_of, question as question_of};
 
 use crate::beside::only;
 use crate::errors::QuestionError;
@@ -20,8 +19,8 @@ use dc_text::{List, Mem, Name, NameRefused, OutOfMemory};
 impl<'q> Questions<'q> {
     // The name of a template that is there.
     pub(crate) fn template_named(&self, bytes: &[u8]) -> Mem<Option<Name>>
-        requires over { IsSetOver self.now.context (length self.now.store.now.layers.items) }
-        ensures { IfOk result (λ found. found ≡ option_map (λ _. bytes.now) (named_template_of (each (λ b. state (b.vtable, b.value)) self.now.store.now.layers.items) self.now.context bytes.now)) }
+        requires over { HasPlans self.now }
+        ensures { IfOk result (λ found. found ≡ option_map (λ _. bytes.now) (seen (asked state self.now) named_template_of bytes.now)) }
     {
         match Name::read(self.alloc, bytes) {
             Err(NameRefused::OutOfMemory) => Err(OutOfMemory),
@@ -33,7 +32,6 @@ impl<'q> Questions<'q> {
         }
     }
 
-    #[tactic(auto, using(dc_store::proofs::RowLemmas::same_all_refl))]
     // Binds the question to a template that is there and to the owner.
     pub(crate) fn bind(
         &mut self,
@@ -41,13 +39,12 @@ impl<'q> Questions<'q> {
         name: &Name,
         owner: &Name,
     ) -> Result<(), QuestionError>
-        requires over { IsSetOver self.old.context (length self.old.store.now.layers.items) }
+        requires over { HasPlans self.old }
         requires apart { are_disjoint self.old.context.config self.old.context.templates ≡ true }
-        ensures does { Does result (batch_for (stored (each (λ b. state (b.vtable, b.value)) self.old.store.now.layers.items) self.old.store.now.told) (name.now ∷ []) (register_batch (each (λ b. state (b.vtable, b.value)) self.old.store.now.layers.items) self.old.context template.now name.now owner.now)) (stored (each (λ b. state (b.vtable, b.value)) self.old.store.now.layers.items) self.old.store.now.told) (stored (each (λ b. state (b.vtable, b.value)) self.new.store.now.layers.items) self.new.store.now.told) }
-        ensures others { AreSameButAll (template.now ∷ name.now ∷ []) (each (λ b. state (b.vtable, b.value)) self.old.store.now.layers.items) (each (λ b. state (b.vtable, b.value)) self.new.store.now.layers.items) }
-        ensures count { length self.new.store.now.layers.items ≡ length self.old.store.now.layers.items }
-        ensures context { self.new.context ≡ self.old.context }
-        ensures held { self.new.store.ghost_name ≡ self.old.store.ghost_name }
+        ensures does { Leaves result
+            (λ store at. batch_for store (name.now ∷ []) (register_batch store.layers at template.now name.now owner.now))
+            (asked state self.old) (asked state self.new) }
+        ensures frame { SameButAll (template.now ∷ name.now ∷ []) (asked state self.old) (asked state self.new) }
     {
         let op = Op::AddOwner(name.copy()?);
         let mut batch = self.bind_batch(template, op, name, owner)?;
@@ -57,8 +54,8 @@ impl<'q> Questions<'q> {
 
     // The two writes that bind a question to a template, on which an operation is done, and to an owner.
     fn bind_batch(&self, template: &Name, op: Op, name: &Name, owner: &Name) -> Mem<Batch<'q>>
-        requires over { IsSetOver self.now.context (length self.now.store.now.layers.items) }
-        ensures { IfOk result (λ batch. batch ≡ bind_row_of (each (λ b. state (b.vtable, b.value)) self.now.store.now.layers.items) self.now.context template.now op name.now owner.now) }
+        requires over { HasPlans self.now }
+        ensures { IfOk result (λ batch. batch ≡ seen (asked state self.now) bind_row_of template.now op name.now owner.now) }
     {
         let first = self.template_write(template.copy()?, op, only(self.alloc, name)?)?;
         let mut batch = Batch::new(self.alloc);
@@ -76,10 +73,10 @@ impl<'q> Questions<'q> {
         name: &Name,
         owner: &Name,
     ) -> Mem<()>
-        requires over { IsSetOver self.now.context (length self.now.store.now.layers.items) }
-        requires first { first ≡ template_write_of (each (λ b. state (b.vtable, b.value)) self.now.store.now.layers.items) self.now.context first.name first.op (name.now ∷ []) }
+        requires over { HasPlans self.now }
+        requires first { first ≡ seen (asked state self.now) template_write_of first.name first.op (name.now ∷ []) }
         requires empty { builder.old ≡ no_parts }
-        ensures batch { OnOk result (batch.new ≡ batch.old ++ bind_row_of (each (λ b. state (b.vtable, b.value)) self.now.store.now.layers.items) self.now.context first.entry.name first.entry.op name.now owner.now) }
+        ensures batch { OnOk result (batch.new ≡ batch.old ++ seen (asked state self.now) bind_row_of first.entry.name first.entry.op name.now owner.now) }
         ensures left { OnOk result (builder.new ≡ no_parts) }
     {
         let second = self.bound_write(builder, &first, name, owner)?;
@@ -96,10 +93,11 @@ impl<'q> Questions<'q> {
         name: &Name,
         owner: &Name,
     ) -> Mem<Write<'q>>
-        requires over { IsSetOver self.now.context (length self.now.store.now.layers.items) }
-        requires first { first.now ≡ template_write_of (each (λ b. state (b.vtable, b.value)) self.now.store.now.layers.items) self.now.context first.now.name first.now.op (name.now ∷ []) }
+        requires over { HasPlans self.now }
+        requires first { first.now ≡ seen (asked state self.now) template_write_of first.now.name first.now.op (name.now ∷ []) }
         requires empty { builder.old ≡ no_parts }
-        ensures write { IfOk result (λ w. w ≡ write_beside_of (each (λ b. state (b.vtable, b.value)) self.now.store.now.layers.items) self.now.context (first.now ∷ []) name.now (binding_of first.now.name owner.now (question_of (each (λ b. state (b.vtable, b.value)) self.now.store.now.layers.items) self.now.context name.now))) }
+        ensures write { IfOk result (λ w. w ≡ seen (asked state self.now) write_beside_of (first.now ∷ []) name.now
+            (binding_of first.now.name owner.now (seen (asked state self.now) question_of name.now))) }
         ensures left { OnOk result (builder.new ≡ no_parts) }
     {
         let kinds = self.kind_left_by(first)?;

@@ -1,9 +1,9 @@
 // Changes of questions.
-ghost use Rattle.std.specs.Prelude.{◌≡◌, ◌⊎◌, Option, Some, Ok, Err, OnOk, is_some, true, false, length, map as each};
-ghost use Rattle.dc_store.specs.Plans.{stored, write, would_take};
-ghost use Rattle.dc_store.specs.StoreLaws.{AreSameBut};
+ghost use Rattle.std.specs.Prelude.{◌≡◌, ◌⊎◌, Option, Some, Ok, Err, OnOk, is_some, true, false};
+ghost use Rattle.dc_store.specs.Plans.{write, would_take};
+ghost use Rattle.dc_question.specs.Asked.{asked, HasPlans, seen, Leaves, SameBut};
 ghost use Rattle.dc_question.specs.Changes.{changed, value_set, flag_set, variable_set, value_reset, Does};
-ghost use Rattle.dc_question.specs.Questions.{IsSetOver, question as question_of};
+ghost use Rattle.dc_question.specs.Questions.{question as question_of};
 ghost use Rattle.dc_template.specs.declared.kinds.Kind.{Kind as KindOf};
 
 use crate::errors::QuestionError;
@@ -16,59 +16,43 @@ use dc_template::Kind;
 use dc_text::{FieldKey, FlagName, Mem, Name, VarKey, settle};
 
 impl<'q> Questions<'q> {
-    #[tactic(auto, using(dc_store::proofs::Frames::same_layers))]
     /// Sets the value of the question to the settled bytes. `CantChange` comes exactly where the store refuses the write.
     pub fn set(&mut self, name: &Name, value: &[u8]) -> Result<(), QuestionError>
-        requires { IsSetOver self.old.context (length self.old.store.now.layers.items) }
-        ensures does { Does result (value_set (stored (each (λ b. state (b.vtable, b.value)) self.old.store.now.layers.items) self.old.store.now.told) self.old.context name.now value.now) (stored (each (λ b. state (b.vtable, b.value)) self.old.store.now.layers.items) self.old.store.now.told) (stored (each (λ b. state (b.vtable, b.value)) self.new.store.now.layers.items) self.new.store.now.told) }
-        ensures others { AreSameBut name.now (each (λ b. state (b.vtable, b.value)) self.old.store.now.layers.items) (each (λ b. state (b.vtable, b.value)) self.new.store.now.layers.items) }
-        ensures count { length self.new.store.now.layers.items ≡ length self.old.store.now.layers.items }
-        ensures context { self.new.context ≡ self.old.context }
-        ensures held { self.new.store.ghost_name ≡ self.old.store.ghost_name }
+        requires { HasPlans self.old }
+        ensures does { Leaves result (λ store at. value_set store at name.now value.now) (asked state self.old) (asked state self.new) }
+        ensures frame { SameBut name.now (asked state self.old) (asked state self.new) }
     {
         let key = FieldKey::known(self.alloc, b"value")?;
         let value = settle(self.alloc, value)?;
         self.change(name, &Op::SetField(key, value))
     }
 
-    #[tactic(auto, using(dc_store::proofs::Frames::same_layers))]
     /// Makes the flag of the question true, or not.
     pub fn set_flag(&mut self, name: &Name, flag: &FlagName, on: bool) -> Result<(), QuestionError>
-        requires { IsSetOver self.old.context (length self.old.store.now.layers.items) }
-        ensures does { Does result (flag_set (stored (each (λ b. state (b.vtable, b.value)) self.old.store.now.layers.items) self.old.store.now.told) self.old.context name.now flag.now on) (stored (each (λ b. state (b.vtable, b.value)) self.old.store.now.layers.items) self.old.store.now.told) (stored (each (λ b. state (b.vtable, b.value)) self.new.store.now.layers.items) self.new.store.now.told) }
-        ensures others { AreSameBut name.now (each (λ b. state (b.vtable, b.value)) self.old.store.now.layers.items) (each (λ b. state (b.vtable, b.value)) self.new.store.now.layers.items) }
-        ensures count { length self.new.store.now.layers.items ≡ length self.old.store.now.layers.items }
-        ensures context { self.new.context ≡ self.old.context }
-        ensures held { self.new.store.ghost_name ≡ self.old.store.ghost_name }
+        requires { HasPlans self.old }
+        ensures does { Leaves result (λ store at. flag_set store at name.now flag.now on) (asked state self.old) (asked state self.new) }
+        ensures frame { SameBut name.now (asked state self.old) (asked state self.new) }
     {
         let flag = flag.copy()?;
         self.change(name, &Op::SetFlag(flag, on))
     }
 
-    #[tactic(auto, using(dc_store::proofs::Frames::same_layers))]
     /// Sets the variable of the question, which texts of its template may refer to, to the settled bytes.
     pub fn subst(&mut self, name: &Name, key: &VarKey, value: &[u8]) -> Result<(), QuestionError>
-        requires { IsSetOver self.old.context (length self.old.store.now.layers.items) }
-        ensures does { Does result (variable_set (stored (each (λ b. state (b.vtable, b.value)) self.old.store.now.layers.items) self.old.store.now.told) self.old.context name.now key.now value.now) (stored (each (λ b. state (b.vtable, b.value)) self.old.store.now.layers.items) self.old.store.now.told) (stored (each (λ b. state (b.vtable, b.value)) self.new.store.now.layers.items) self.new.store.now.told) }
-        ensures others { AreSameBut name.now (each (λ b. state (b.vtable, b.value)) self.old.store.now.layers.items) (each (λ b. state (b.vtable, b.value)) self.new.store.now.layers.items) }
-        ensures count { length self.new.store.now.layers.items ≡ length self.old.store.now.layers.items }
-        ensures context { self.new.context ≡ self.old.context }
-        ensures held { self.new.store.ghost_name ≡ self.old.store.ghost_name }
+        requires { HasPlans self.old }
+        ensures does { Leaves result (λ store at. variable_set store at name.now key.now value.now) (asked state self.old) (asked state self.new) }
+        ensures frame { SameBut name.now (asked state self.old) (asked state self.new) }
     {
         let key = key.copy()?;
         let value = settle(self.alloc, value)?;
         self.change(name, &Op::SetVar(key, value))
     }
 
-    #[tactic(auto, using(dc_store::proofs::Frames::same_layers))]
     /// Takes the value of the question away, so that its template's default holds again, and the flag `seen`.
     pub fn reset(&mut self, name: &Name) -> Result<(), QuestionError>
-        requires { IsSetOver self.old.context (length self.old.store.now.layers.items) }
-        ensures does { Does result (value_reset (stored (each (λ b. state (b.vtable, b.value)) self.old.store.now.layers.items) self.old.store.now.told) self.old.context name.now) (stored (each (λ b. state (b.vtable, b.value)) self.old.store.now.layers.items) self.old.store.now.told) (stored (each (λ b. state (b.vtable, b.value)) self.new.store.now.layers.items) self.new.store.now.told) }
-        ensures others { AreSameBut name.now (each (λ b. state (b.vtable, b.value)) self.old.store.now.layers.items) (each (λ b. state (b.vtable, b.value)) self.new.store.now.layers.items) }
-        ensures count { length self.new.store.now.layers.items ≡ length self.old.store.now.layers.items }
-        ensures context { self.new.context ≡ self.old.context }
-        ensures held { self.new.store.ghost_name ≡ self.old.store.ghost_name }
+        requires { HasPlans self.old }
+        ensures does { Leaves result (λ store at. value_reset store at name.now) (asked state self.old) (asked state self.new) }
+        ensures frame { SameBut name.now (asked state self.old) (asked state self.new) }
     {
         let Some(item) = self.question(name) else {
             return Err(QuestionError::NoQuestion { name: name.copy()? });
@@ -77,15 +61,11 @@ impl<'q> Questions<'q> {
         self.change(name, &Op::Put(item))
     }
 
-    #[tactic(auto, using(dc_store::proofs::Frames::same_layers))]
     // Does an operation on a question that is there. Mostly the topmost layer takes it, and then no kind is looked for.
     fn change(&mut self, name: &Name, op: &Op) -> Result<(), QuestionError>
-        requires { IsSetOver self.old.context (length self.old.store.now.layers.items) }
-        ensures does { Does result (changed (stored (each (λ b. state (b.vtable, b.value)) self.old.store.now.layers.items) self.old.store.now.told) self.old.context name.now op.now) (stored (each (λ b. state (b.vtable, b.value)) self.old.store.now.layers.items) self.old.store.now.told) (stored (each (λ b. state (b.vtable, b.value)) self.new.store.now.layers.items) self.new.store.now.told) }
-        ensures others { AreSameBut name.now (each (λ b. state (b.vtable, b.value)) self.old.store.now.layers.items) (each (λ b. state (b.vtable, b.value)) self.new.store.now.layers.items) }
-        ensures count { length self.new.store.now.layers.items ≡ length self.old.store.now.layers.items }
-        ensures context { self.new.context ≡ self.old.context }
-        ensures held { self.new.store.ghost_name ≡ self.old.store.ghost_name }
+        requires { HasPlans self.old }
+        ensures does { Leaves result (λ store at. changed store at name.now op.now) (asked state self.old) (asked state self.new) }
+        ensures frame { SameBut name.now (asked state self.old) (asked state self.new) }
     {
         match self.change_on_top(name, op) {
             Ok(true) => Ok(()),
@@ -96,27 +76,21 @@ impl<'q> Questions<'q> {
 
     // Tries the operation on the topmost layer, and answers whether it was done.
     fn change_on_top(&mut self, name: &Name, op: &Op) -> Mem<bool>
-        requires { IsSetOver self.old.context (length self.old.store.now.layers.items) }
-        ensures there { result ≡ Ok true → is_some (question_of (each (λ b. state (b.vtable, b.value)) self.old.store.now.layers.items) self.old.context name.now) ≡ true }
-        ensures done { result ≡ Ok true → (kind : Option KindOf) → write (stored (each (λ b. state (b.vtable, b.value)) self.old.store.now.layers.items) self.old.store.now.told) self.old.context.config name.now kind op.now ≡ Some (stored (each (λ b. state (b.vtable, b.value)) self.new.store.now.layers.items) self.new.store.now.told) }
-        ensures not_done { result ≡ Ok false → (stored (each (λ b. state (b.vtable, b.value)) self.new.store.now.layers.items) self.new.store.now.told) ≡ (stored (each (λ b. state (b.vtable, b.value)) self.old.store.now.layers.items) self.old.store.now.told) }
-        ensures others { AreSameBut name.now (each (λ b. state (b.vtable, b.value)) self.old.store.now.layers.items) (each (λ b. state (b.vtable, b.value)) self.new.store.now.layers.items) }
-        ensures count { length self.new.store.now.layers.items ≡ length self.old.store.now.layers.items }
-        ensures context { self.new.context ≡ self.old.context }
-        ensures held { self.new.store.ghost_name ≡ self.old.store.ghost_name }
+        requires { HasPlans self.old }
+        ensures there { result ≡ Ok true → is_some (seen (asked state self.old) question_of name.now) ≡ true }
+        ensures done { result ≡ Ok true → (kind : Option KindOf)
+            → write (asked state self.old).store self.old.context.config name.now kind op.now ≡ Some (asked state self.new).store }
+        ensures not_done { result ≡ Ok false → (asked state self.new).store ≡ (asked state self.old).store }
+        ensures frame { SameBut name.now (asked state self.old) (asked state self.new) }
     {
         self.store.change_on_top(self.context.config, name, op)
     }
 
-    #[tactic(auto, using(dc_store::proofs::Frames::same_layers))]
     // Does an operation on a question that is there, with the kind of its template.
     fn change_by_kind(&mut self, name: &Name, op: &Op) -> Result<(), QuestionError>
-        requires { IsSetOver self.old.context (length self.old.store.now.layers.items) }
-        ensures does { Does result (changed (stored (each (λ b. state (b.vtable, b.value)) self.old.store.now.layers.items) self.old.store.now.told) self.old.context name.now op.now) (stored (each (λ b. state (b.vtable, b.value)) self.old.store.now.layers.items) self.old.store.now.told) (stored (each (λ b. state (b.vtable, b.value)) self.new.store.now.layers.items) self.new.store.now.told) }
-        ensures others { AreSameBut name.now (each (λ b. state (b.vtable, b.value)) self.old.store.now.layers.items) (each (λ b. state (b.vtable, b.value)) self.new.store.now.layers.items) }
-        ensures count { length self.new.store.now.layers.items ≡ length self.old.store.now.layers.items }
-        ensures context { self.new.context ≡ self.old.context }
-        ensures held { self.new.store.ghost_name ≡ self.old.store.ghost_name }
+        requires { HasPlans self.old }
+        ensures does { Leaves result (λ store at. changed store at name.now op.now) (asked state self.old) (asked state self.new) }
+        ensures frame { SameBut name.now (asked state self.old) (asked state self.new) }
     {
         let Some(item) = self.question(name) else {
             return Err(QuestionError::NoQuestion { name: name.copy()? });
@@ -130,14 +104,12 @@ impl<'q> Questions<'q> {
 
     // Writes to the plan of questions.
     fn write(&mut self, name: &Name, kind: Option<Kind>, op: &Op) -> Result<(), StoreError>
-        requires { IsSetOver self.old.context (length self.old.store.now.layers.items) }
-        ensures ok { OnOk result (write (stored (each (λ b. state (b.vtable, b.value)) self.old.store.now.layers.items) self.old.store.now.told) self.old.context.config name.now kind op.now ≡ Some (stored (each (λ b. state (b.vtable, b.value)) self.new.store.now.layers.items) self.new.store.now.told)) }
-        ensures refused { result ≡ Err StoreError.Refused → would_take (each (λ b. state (b.vtable, b.value)) self.old.store.now.layers.items) self.old.context.config name.now kind op.now ≡ false }
-        ensures unchanged { result ≡ Err StoreError.Refused → (stored (each (λ b. state (b.vtable, b.value)) self.new.store.now.layers.items) self.new.store.now.told) ≡ (stored (each (λ b. state (b.vtable, b.value)) self.old.store.now.layers.items) self.old.store.now.told) }
-        ensures others { AreSameBut name.now (each (λ b. state (b.vtable, b.value)) self.old.store.now.layers.items) (each (λ b. state (b.vtable, b.value)) self.new.store.now.layers.items) }
-        ensures count { length self.new.store.now.layers.items ≡ length self.old.store.now.layers.items }
-        ensures context { self.new.context ≡ self.old.context }
-        ensures held { self.new.store.ghost_name ≡ self.old.store.ghost_name }
+        requires { HasPlans self.old }
+        ensures ok { OnOk result (write (asked state self.old).store self.old.context.config name.now kind op.now ≡ Some (asked state self.new).store) }
+        ensures refused { result ≡ Err StoreError.Refused
+            → would_take (asked state self.old).store.layers self.old.context.config name.now kind op.now ≡ false }
+        ensures unchanged { result ≡ Err StoreError.Refused → (asked state self.new).store ≡ (asked state self.old).store }
+        ensures frame { SameBut name.now (asked state self.old) (asked state self.new) }
     {
         self.store.change(self.context.config, name, kind, op)
     }

@@ -1,5 +1,5 @@
 //! Laws of the readings.
-ghost use Rattle.std.specs.Prelude.{◌≡◌, List, ℕ, [], Some, None, Ok, Err, true, false, length, unwrap_or, codes, map as each};
+ghost use Rattle.std.specs.Prelude.{◌≡◌, List, ℕ, [], None, Ok, Err, true, false, length, unwrap_or, codes, map as each};
 ghost use Rattle.std.specs.List.{All, list_any};
 ghost use Rattle.std.specs.FinMap as map;
 ghost use Rattle.dc_text.specs.Maps.{AreDistinct};
@@ -14,11 +14,12 @@ ghost use Rattle.dc_question.specs.Ownership.{register_batch, leave_batch, load_
 ghost use Rattle.dc_question.specs.Questions.{QuestionContext, exists, can_change};
 ghost use Rattle.dc_question.specs.declared.errors.QuestionError.{QuestionError};
 ghost use Rattle.dc_question.specs.declared.errors.QuestionError.TheVariants.{CantChange};
-ghost use Rattle.dc_question.specs.Readings.{choices_by, localised, value_of};
+ghost use Rattle.dc_question.specs.Readings.{choices_by, localised};
 
 /// A question has as many labels as choices.
 pub fn labels_pair_with_choices()
-    ensures { (lang : List ℕ) (question template : ItemParts) → length (choices_by lang question template).labels ≡ length (choices_by lang question template).plain }
+    ensures { (lang : List ℕ) (question template : ItemParts)
+        → length (choices_by lang question template).labels ≡ length (choices_by lang question template).plain }
 {}
 
 /// A field `type` in a language is never read for the type.
@@ -28,23 +29,33 @@ pub fn types_are_in_no_language()
 
 /// The writes of a row are on different items, where questions and templates share no layer.
 pub fn writes_of_a_row_are_distinct()
-    ensures register { (layers : List LayerState) (at : QuestionContext) (template name owner : List ℕ) → are_disjoint at.config at.templates ≡ true → AllDistinct (register_batch layers at template name owner) }
-    ensures leave { (layers : List LayerState) (at : QuestionContext) (owner : List ℕ) (names : List (List ℕ)) → are_disjoint at.config at.templates ≡ true → AreDistinct names → AllDistinct (leave_batch layers at owner names) }
-    ensures load { (layers : List LayerState) (at : QuestionContext) (owner : List ℕ) (templates : List Stanza) → are_disjoint at.config at.templates ≡ true → AreDistinct (each (λ t. t.name) templates) → AllDistinct (load_batch layers at owner templates) }
+    ensures register { (layers : List LayerState) (at : QuestionContext) (template name owner : List ℕ)
+        → are_disjoint at.config at.templates ≡ true → AllDistinct (register_batch layers at template name owner) }
+    ensures leave { (layers : List LayerState) (at : QuestionContext) (owner : List ℕ) (names : List (List ℕ))
+        → are_disjoint at.config at.templates ≡ true → AreDistinct names → AllDistinct (leave_batch layers at owner names) }
+    ensures load { (layers : List LayerState) (at : QuestionContext) (owner : List ℕ) (templates : List Stanza)
+        → are_disjoint at.config at.templates ≡ true → AreDistinct (each (λ t. t.name) templates) → AllDistinct (load_batch layers at owner templates) }
 {}
 
 /// A row is done as a whole exactly where none of its writes is refused, and else none of it is.
 pub fn refused_rows_change_nothing()
-    ensures taken { (store new : StoreState) (names : List (List ℕ)) (batch : List Write) → batch_for store names batch ≡ Ok new → (list_any (is_refused store.layers) batch ≡ false) × (new ≡ all_done store batch) }
-    ensures left { (store : StoreState) (names : List (List ℕ)) (batch : List Write) → list_any (is_refused store.layers) batch ≡ false → batch_for store names batch ≡ Ok (all_done store batch) }
-    ensures refused { (store : StoreState) (names : List (List ℕ)) (batch : List Write) (error : QuestionError) → batch_for store names batch ≡ Err error → (list_any (is_refused store.layers) batch ≡ true) × (error ≡ CantChange (unwrap_or (first_refused store.layers names batch) [])) }
-    ensures told { (store : StoreState) (names : List (List ℕ)) (batch : List Write) → list_any (is_refused store.layers) batch ≡ true → batch_for store names batch ≡ Err (CantChange (unwrap_or (first_refused store.layers names batch) [])) }
+    ensures taken { (store new : StoreState) (names : List (List ℕ)) (batch : List Write)
+        → batch_for store names batch ≡ Ok new → (list_any (is_refused store.layers) batch ≡ false) × (new ≡ all_done store batch) }
+    ensures left { (store : StoreState) (names : List (List ℕ)) (batch : List Write)
+        → list_any (is_refused store.layers) batch ≡ false → batch_for store names batch ≡ Ok (all_done store batch) }
+    ensures refused { (store : StoreState) (names : List (List ℕ)) (batch : List Write) (error : QuestionError)
+        → batch_for store names batch ≡ Err error
+        → (list_any (is_refused store.layers) batch ≡ true) × (error ≡ CantChange (unwrap_or (first_refused store.layers names batch) [])) }
+    ensures told { (store : StoreState) (names : List (List ℕ)) (batch : List Write)
+        → list_any (is_refused store.layers) batch ≡ true
+        → batch_for store names batch ≡ Err (CantChange (unwrap_or (first_refused store.layers names batch) [])) }
 {}
 
 /// Once an owner's questions are purged, no question that is seen has it, unless one that another had hidden has come into sight:
 /// where questions and templates share no layer, and those of questions have no backup.
 pub fn purged_questions_lose_the_owner()
-    ensures { (store new : StoreState) (at : QuestionContext) (owner name : List ℕ) → are_disjoint at.config at.templates ≡ true → at.config.backup ≡ None → purged store at owner ≡ Ok new
+    ensures { (store new : StoreState) (at : QuestionContext) (owner name : List ℕ)
+        → are_disjoint at.config at.templates ≡ true → at.config.backup ≡ None → purged store at owner ≡ Ok new
         → is_owned owner (look new.layers at.config name) ≡ true → is_owned owner (look_below store.layers at.config name) ≡ true }
 {}
 

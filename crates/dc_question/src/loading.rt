@@ -6,13 +6,10 @@ ghost use Rattle.dc_conf.specs.Plans.{are_disjoint};
 ghost use Rattle.dc_text.specs.Maps.{AreDistinct};
 ghost use Rattle.dc_text.specs.Settled.{settled};
 ghost use Rattle.dc_item.specs.Item.{no_parts};
-ghost use Rattle.dc_item.specs.declared.op.Op.TheVariants.{Put as PutOf};
-ghost use Rattle.dc_store.specs.Plans.{look, stored};
 ghost use Rattle.dc_store.specs.Batches.{AreOver, AllDistinct, names_of, first_refused};
-ghost use Rattle.dc_store.specs.StoreLaws.{AreSameButAll};
+ghost use Rattle.dc_question.specs.Asked.{asked, HasPlans, seen, Leaves, SameButAll};
 ghost use Rattle.dc_question.specs.Changes.{Does, batch_for};
-ghost use Rattle.dc_question.specs.Ownership.{bind_batch as bind_row_of, template_write as template_write_of, bound_elsewhere as bound_elsewhere_of, load_batch as load_row_of, loaded_template};
-ghost use Rattle.dc_question.specs.Questions.{IsSetOver};
+ghost use Rattle.dc_question.specs.Ownership.{bind_batch as bind_row_of, template_write as template_write_of, bound_elsewhere as bound_elsewhere_of, load_batch as load_row_of, loaded_template, put_loaded};
 ghost use Rattle.dc_question.specs.Readings.{kind_by};
 ghost use Rattle.dc_question.specs.declared.errors.QuestionError.{QuestionError};
 
@@ -29,8 +26,8 @@ use std::alloc::Global;
 impl<'q> Questions<'q> {
     // The first template whose question is bound to another.
     pub(crate) fn bound_elsewhere<'l>(&self, list: &'l [Template]) -> Option<&'l Template>
-        requires over { IsSetOver self.now.context (length self.now.store.now.layers.items) }
-        ensures { option_copied result ≡ bound_elsewhere_of (each (λ b. state (b.vtable, b.value)) self.now.store.now.layers.items) self.now.context list.now }
+        requires over { HasPlans self.now }
+        ensures { option_copied result ≡ seen (asked state self.now) bound_elsewhere_of list.now }
     {
         for template in list {
             if has_other_template(template.name(), self.question(template.name())) {
@@ -40,32 +37,26 @@ impl<'q> Questions<'q> {
         None
     }
 
-    #[tactic(auto, using(dc_store::proofs::RowLemmas::same_all_refl))]
     // Puts the templates, each with its question.
     pub(crate) fn load(&mut self, owner: &Name, list: &[Template]) -> Result<(), QuestionError>
         requires names { AreDistinct (each (λ t. t.name) list.now) }
-        requires over { IsSetOver self.old.context (length self.old.store.now.layers.items) }
+        requires over { HasPlans self.old }
         requires apart { are_disjoint self.old.context.config self.old.context.templates ≡ true }
-        ensures does { Does result (batch_for (stored (each (λ b. state (b.vtable, b.value)) self.old.store.now.layers.items) self.old.store.now.told) (each (λ t. t.name) list.now) (load_row_of (each (λ b. state (b.vtable, b.value)) self.old.store.now.layers.items) self.old.context owner.now list.now)) (stored (each (λ b. state (b.vtable, b.value)) self.old.store.now.layers.items) self.old.store.now.told) (stored (each (λ b. state (b.vtable, b.value)) self.new.store.now.layers.items) self.new.store.now.told) }
-        ensures others { AreSameButAll (names_of (load_row_of (each (λ b. state (b.vtable, b.value)) self.old.store.now.layers.items) self.old.context owner.now list.now)) (each (λ b. state (b.vtable, b.value)) self.old.store.now.layers.items) (each (λ b. state (b.vtable, b.value)) self.new.store.now.layers.items) }
-        ensures count { length self.new.store.now.layers.items ≡ length self.old.store.now.layers.items }
-        ensures context { self.new.context ≡ self.old.context }
-        ensures held { self.new.store.ghost_name ≡ self.old.store.ghost_name }
+        ensures does { Leaves result
+            (λ store at. batch_for store (each (λ t. t.name) list.now) (load_row_of store.layers at owner.now list.now))
+            (asked state self.old) (asked state self.new) }
+        ensures frame { SameButAll (names_of (seen (asked state self.old) load_row_of owner.now list.now)) (asked state self.old) (asked state self.new) }
     {
         let mut batch = self.load_batch(owner, list)?;
         self.do_load(list, &mut batch)
     }
 
-    #[tactic(auto, using(dc_store::proofs::RowLemmas::same_all_refl))]
     // Does all the writes, or none. The names of the templates are asked for only where a write is refused.
     fn do_load(&mut self, list: &[Template], batch: &mut Batch<'_>) -> Result<(), QuestionError>
         requires over { AreOver batch.old (length self.old.store.now.layers.items) }
         requires distinct { AllDistinct batch.old }
-        ensures does { Does result (batch_for (stored (each (λ b. state (b.vtable, b.value)) self.old.store.now.layers.items) self.old.store.now.told) (each (λ t. t.name) list.now) batch.old) (stored (each (λ b. state (b.vtable, b.value)) self.old.store.now.layers.items) self.old.store.now.told) (stored (each (λ b. state (b.vtable, b.value)) self.new.store.now.layers.items) self.new.store.now.told) }
-        ensures others { AreSameButAll (names_of batch.old) (each (λ b. state (b.vtable, b.value)) self.old.store.now.layers.items) (each (λ b. state (b.vtable, b.value)) self.new.store.now.layers.items) }
-        ensures count { length self.new.store.now.layers.items ≡ length self.old.store.now.layers.items }
-        ensures context { self.new.context ≡ self.old.context }
-        ensures held { self.new.store.ghost_name ≡ self.old.store.ghost_name }
+        ensures does { Leaves result (λ store at. batch_for store (each (λ t. t.name) list.now) batch.old) (asked state self.old) (asked state self.new) }
+        ensures frame { SameButAll (names_of batch.old) (asked state self.old) (asked state self.new) }
     {
         match self.write_row(batch) {
             Ok(()) => Ok(()),
@@ -77,7 +68,8 @@ impl<'q> Questions<'q> {
     // The question of the first template for which a write of the row is refused.
     fn load_held_up(&self, list: &[Template], batch: &[Write<'_>]) -> QuestionError
         requires { AreOver batch.now (length self.now.store.now.layers.items) }
-        ensures { (result ≡ QuestionError.OutOfMemory) ⊎ (result ≡ QuestionError.CantChange (unwrap_or (first_refused (each (λ b. state (b.vtable, b.value)) self.now.store.now.layers.items) (each (λ t. t.name) list.now) batch.now) [])) }
+        ensures { (result ≡ QuestionError.OutOfMemory)
+            ⊎ (result ≡ QuestionError.CantChange (unwrap_or (first_refused (asked state self.now).store.layers (each (λ t. t.name) list.now) batch.now) [])) }
     {
         match names(self.alloc, list) {
             Ok(names) => self.refused_names(names.as_slice(), batch),
@@ -87,8 +79,8 @@ impl<'q> Questions<'q> {
 
     // The writes that put the templates, each with its question.
     fn load_batch(&self, owner: &Name, list: &[Template]) -> Mem<Batch<'q>>
-        requires over { IsSetOver self.now.context (length self.now.store.now.layers.items) }
-        ensures { IfOk result (λ batch. batch ≡ load_row_of (each (λ b. state (b.vtable, b.value)) self.now.store.now.layers.items) self.now.context owner.now list.now) }
+        requires over { HasPlans self.now }
+        ensures { IfOk result (λ batch. batch ≡ seen (asked state self.now) load_row_of owner.now list.now) }
     {
         let mut batch = Batch::with_capacity(self.alloc, list.len().saturating_mul(2))?;
         let mut builder = ItemBuilder::new(self.alloc);
@@ -106,9 +98,10 @@ impl<'q> Questions<'q> {
         owner: &Name,
         template: &Template,
     ) -> Mem<()>
-        requires over { IsSetOver self.now.context (length self.now.store.now.layers.items) }
+        requires over { HasPlans self.now }
         requires empty { builder.old ≡ no_parts }
-        ensures batch { OnOk result (batch.new ≡ batch.old ++ bind_row_of (each (λ b. state (b.vtable, b.value)) self.now.store.now.layers.items) self.now.context template.now.name (PutOf (loaded_template template.now (look (each (λ b. state (b.vtable, b.value)) self.now.store.now.layers.items) self.now.context.templates template.now.name))) template.now.name owner.now) }
+        ensures batch { OnOk result (batch.new ≡ batch.old
+            ++ seen (asked state self.now) bind_row_of template.now.name (seen (asked state self.now) put_loaded template.now) template.now.name owner.now) }
         ensures left { OnOk result (builder.new ≡ no_parts) }
     {
         let first = self.put_write(builder, template)?;
@@ -118,9 +111,10 @@ impl<'q> Questions<'q> {
 
     // The write that puts a template for the question of its name.
     fn put_write(&self, builder: &mut ItemBuilder, template: &Template) -> Mem<Write<'q>>
-        requires over { IsSetOver self.now.context (length self.now.store.now.layers.items) }
+        requires over { HasPlans self.now }
         requires empty { builder.old ≡ no_parts }
-        ensures write { IfOk result (λ w. w ≡ template_write_of (each (λ b. state (b.vtable, b.value)) self.now.store.now.layers.items) self.now.context template.now.name (PutOf (loaded_template template.now (look (each (λ b. state (b.vtable, b.value)) self.now.store.now.layers.items) self.now.context.templates template.now.name))) (template.now.name ∷ [])) }
+        ensures write { IfOk result (λ w. w
+            ≡ seen (asked state self.now) template_write_of template.now.name (seen (asked state self.now) put_loaded template.now) (template.now.name ∷ [])) }
         ensures left { OnOk result (builder.new ≡ no_parts) }
     {
         let name = template.name();

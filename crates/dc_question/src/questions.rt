@@ -1,11 +1,12 @@
 // Questions over a store.
 ghost use Rattle.std.specs.Prelude.{◌≡◌, Err, length, map as each, Some, IfOk};
-ghost use Rattle.std.specs.Option.{option_copied, option_map_or};
+ghost use Rattle.std.specs.Option.{option_copied};
+ghost use Rattle.dc_question.specs.Asked.{asked, HasPlans, seen};
 ghost use Rattle.dc_question.specs.declared.errors.QuestionError.TheVariants.{NoQuestion};
 ghost use Rattle.dc_conf.specs.Plans.{IsOver};
 ghost use Rattle.dc_store.specs.Plans.{look};
 ghost use Rattle.dc_question.specs.Readings.{value_of as value_by};
-ghost use Rattle.dc_question.specs.Questions.{IsSetOver, question as question_of, template as template_of, exists as exists_of, kind as kind_of, can_change as can_change_of, value as value_of, field as field_of, expanded_field, choices as choices_of, flag as flag_of, read, read_template, Answers};
+ghost use Rattle.dc_question.specs.Questions.{question as question_of, template as template_of, exists as exists_of, kind as kind_of, can_change as can_change_of, value as value_of, field as field_of, expanded_field, choices as choices_of, flag as flag_of, read, Answers};
 
 use crate::choices::{ChoicePair, choice_pair};
 use crate::context::QuestionContext;
@@ -57,16 +58,16 @@ impl<'q> Questions<'q> {
 
     /// Whether there is such a question.
     pub fn exists(&self, name: &Name) -> bool
-        requires { IsSetOver self.now.context (length self.now.store.now.layers.items) }
-        ensures { result ≡ exists_of (each (λ b. state (b.vtable, b.value)) self.now.store.now.layers.items) self.now.context name.now }
+        requires { HasPlans self.now }
+        ensures { result ≡ seen (asked state self.now) exists_of name.now }
     {
         self.question(name).is_some()
     }
 
     /// The kind of the question: `None` without a template, or where the template's type is no kind's word.
     pub fn kind(&self, name: &Name) -> Option<Kind>
-        requires { IsSetOver self.now.context (length self.now.store.now.layers.items) }
-        ensures { result ≡ kind_of (each (λ b. state (b.vtable, b.value)) self.now.store.now.layers.items) self.now.context name.now }
+        requires { HasPlans self.now }
+        ensures { result ≡ seen (asked state self.now) kind_of name.now }
     {
         kind(self.template(self.question(name)?))
     }
@@ -74,8 +75,8 @@ impl<'q> Questions<'q> {
     /// Whether a change of the question is taken: the topmost layer that has it is writable, or one above takes a question of its name
     /// and kind. It is false where there is no such question.
     pub fn can_change(&self, name: &Name) -> Mem<bool>
-        requires { IsSetOver self.now.context (length self.now.store.now.layers.items) }
-        ensures { IfOk result (λ is. is ≡ can_change_of (each (λ b. state (b.vtable, b.value)) self.now.store.now.layers.items) self.now.context name.now) }
+        requires { HasPlans self.now }
+        ensures { IfOk result (λ is. is ≡ seen (asked state self.now) can_change_of name.now) }
     {
         self.store
             .can_change(self.context.config, name, self.kind(name))
@@ -83,8 +84,8 @@ impl<'q> Questions<'q> {
 
     /// The value of the question: its own, else its template's default in the user's language, else the empty text.
     pub fn value(&self, name: &Name) -> Result<Text, QuestionError>
-        requires { IsSetOver self.now.context (length self.now.store.now.layers.items) }
-        ensures { Answers result (value_of (each (λ b. state (b.vtable, b.value)) self.now.store.now.layers.items) self.now.context name.now) }
+        requires { HasPlans self.now }
+        ensures { Answers result (seen (asked state self.now) value_of name.now) }
     {
         match self.question(name) {
             None => Err(QuestionError::NoQuestion { name: name.copy()? }),
@@ -94,8 +95,8 @@ impl<'q> Questions<'q> {
 
     // The value of a question that is there. Its template is looked for only where it has none of its own.
     fn value_of(&self, item: &Item) -> Mem<Text>
-        requires { IsSetOver self.now.context (length self.now.store.now.layers.items) }
-        ensures { IfOk result (λ value. value ≡ value_by self.now.context.lang item.now (template_of (each (λ b. state (b.vtable, b.value)) self.now.store.now.layers.items) self.now.context item.now)) }
+        requires { HasPlans self.now }
+        ensures { IfOk result (λ value. value ≡ value_by self.now.context.lang item.now (seen (asked state self.now) template_of item.now)) }
     {
         match item.field(b"value") {
             Some(value) => Text::from_bytes(self.alloc, value),
@@ -106,8 +107,8 @@ impl<'q> Questions<'q> {
     /// A field of the question's template in the user's language. `NoField` comes exactly where the template has it in no
     /// language that is tried.
     pub fn field(&self, name: &Name, key: &FieldKey) -> Result<Text, QuestionError>
-        requires { IsSetOver self.now.context (length self.now.store.now.layers.items) }
-        ensures { Answers result (field_of (each (λ b. state (b.vtable, b.value)) self.now.store.now.layers.items) self.now.context name.now key.now) }
+        requires { HasPlans self.now }
+        ensures { Answers result (seen (asked state self.now) field_of name.now key.now) }
     {
         let Some(item) = self.question(name) else {
             return Err(QuestionError::NoQuestion { name: name.copy()? });
@@ -123,8 +124,8 @@ impl<'q> Questions<'q> {
 
     /// The same with the question's variables put in.
     pub fn expanded(&self, name: &Name, key: &FieldKey) -> Result<Text, QuestionError>
-        requires { IsSetOver self.now.context (length self.now.store.now.layers.items) }
-        ensures { Answers result (expanded_field (each (λ b. state (b.vtable, b.value)) self.now.store.now.layers.items) self.now.context name.now key.now) }
+        requires { HasPlans self.now }
+        ensures { Answers result (seen (asked state self.now) expanded_field name.now key.now) }
     {
         let Some(item) = self.question(name) else {
             return Err(QuestionError::NoQuestion { name: name.copy()? });
@@ -140,8 +141,8 @@ impl<'q> Questions<'q> {
 
     /// The choices of the question, each with its label.
     pub fn choices(&self, name: &Name) -> Result<ChoicePair, QuestionError>
-        requires { IsSetOver self.now.context (length self.now.store.now.layers.items) }
-        ensures { Answers result (choices_of (each (λ b. state (b.vtable, b.value)) self.now.store.now.layers.items) self.now.context name.now) }
+        requires { HasPlans self.now }
+        ensures { Answers result (seen (asked state self.now) choices_of name.now) }
     {
         let Some(item) = self.question(name) else {
             return Err(QuestionError::NoQuestion { name: name.copy()? });
@@ -154,8 +155,8 @@ impl<'q> Questions<'q> {
 
     /// Whether a flag of the question is true.
     pub fn flag(&self, name: &Name, flag: &FlagName) -> Result<bool, QuestionError>
-        requires { IsSetOver self.now.context (length self.now.store.now.layers.items) }
-        ensures { Answers result (flag_of (each (λ b. state (b.vtable, b.value)) self.now.store.now.layers.items) self.now.context name.now flag.now) }
+        requires { HasPlans self.now }
+        ensures { Answers result (seen (asked state self.now) flag_of name.now flag.now) }
     {
         match self.question(name) {
             None => Err(QuestionError::NoQuestion { name: name.copy()? }),
@@ -164,15 +165,15 @@ impl<'q> Questions<'q> {
     }
 
     pub(crate) fn question(&self, name: &Name) -> Option<&Item>
-        requires { IsSetOver self.now.context (length self.now.store.now.layers.items) }
-        ensures { option_copied result ≡ question_of (each (λ b. state (b.vtable, b.value)) self.now.store.now.layers.items) self.now.context name.now }
+        requires { HasPlans self.now }
+        ensures { option_copied result ≡ seen (asked state self.now) question_of name.now }
     {
         self.store.look(self.context.config, name)
     }
 
     pub(crate) fn template(&self, item: &Item) -> Option<&Item>
-        requires { IsSetOver self.now.context (length self.now.store.now.layers.items) }
-        ensures { option_copied result ≡ template_of (each (λ b. state (b.vtable, b.value)) self.now.store.now.layers.items) self.now.context item.now }
+        requires { HasPlans self.now }
+        ensures { option_copied result ≡ seen (asked state self.now) template_of item.now }
     {
         let name = item.field(b"template")?;
         self.named_template(name)
@@ -180,8 +181,8 @@ impl<'q> Questions<'q> {
 
     // The template of this name.
     pub(crate) fn named_template(&self, name: &[u8]) -> Option<&Item>
-        requires { IsSetOver self.now.context (length self.now.store.now.layers.items) }
-        ensures { option_copied result ≡ look (each (λ b. state (b.vtable, b.value)) self.now.store.now.layers.items) self.now.context.templates name.now }
+        requires { HasPlans self.now }
+        ensures { option_copied result ≡ look (asked state self.now).store.layers self.now.context.templates name.now }
     {
         self.store.seek(self.context.templates, name)
     }

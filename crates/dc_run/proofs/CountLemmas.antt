@@ -2,12 +2,12 @@
 use Rattle.std.proofs.Common.{◌≡◌, ◌⊎◌, inl, inr, ℕ, Bool, true, false, List, refl, sym, subst, ap, ◌∙◌, arith}
 use Rattle.std.specs.Prelude.{Err, Option}
 use Rattle.dc_words.specs.declared.stream.Line.{Line}
-use Rattle.dc_outside.specs.Counts.{Rose, FaultRose, CountsRefusals}
-use Rattle.dc_outside.specs.Told.{Counts}
+use Rattle.dc_outside.specs.Counts.{Counts, Rose, FaultRose}
 use Rattle.dc_outside.specs.declared.link.LinkError.{LinkError}
 use Rattle.dc_outside.specs.declared.link.LinkError.TheVariants.{Failed, OutOfMemory}
 use Rattle.dc_outside.specs.declared.link.Piece.{Piece}
-use Rattle.dc_outside.specs.Programs.{Program, Starts}
+use Rattle.dc_outside.specs.LinkCalls.{Starts}
+use Rattle.dc_outside.specs.Programs.{Program}
 use Rattle.dc_conf.specs.declared.faults.ConfError.{ConfError}
 use Rattle.dc_conf.specs.declared.faults.ConfError.TheVariants as conf
 use Rattle.dc_layer.specs.State.{LayerState}
@@ -16,13 +16,14 @@ use Rattle.dc_layer.specs.declared.pattern.PatternError.TheVariants as pattern
 use Rattle.dc_save.specs.declared.loading.LoadError.{LoadError}
 use Rattle.dc_save.specs.declared.loading.LoadError.TheVariants as load
 use Rattle.dc_serve.specs.Execution.{Transition, state_after, IsExecution}
-use Rattle.dc_serve.specs.Ends.{LinkFaults, LinkRefusals}
+use Rattle.dc_serve.specs.Ends.{LinkCounts}
 use Rattle.dc_serve.specs.LinkRun.{Answered}
 use Rattle.dc_serve.specs.declared.outcome.LinkEnd.{LinkEnd}
 use Rattle.dc_serve.specs.declared.outcome.LinkEnd.TheVariants as link
 use Rattle.dc_session.specs.Machine.{Handles, Aborts}
 use Rattle.dc_session.specs.Serving.{IsServed}
-use Rattle.dc_session.specs.SessionState.{FilesState, SessionState}
+use Rattle.dc_outside.specs.State.{FilesState, LinkState}
+use Rattle.dc_session.specs.SessionState.{SessionState}
 use Rattle.dc_session.specs.declared.stepped.StepError.{StepError}
 use Rattle.dc_session.specs.declared.stepped.StepError.TheVariants as step
 use Rattle.dc_session.proofs.TerminalLaws.{CountsBreak, AsksNobody, breaks_count, course_counts, course_nobody, never_fails}
@@ -40,10 +41,11 @@ use Rattle.dc_run.specs.Ends.{tool_end_of, end_of_conf, end_of_pattern, end_of_l
 use Rattle.dc_run.specs.Finishing.{Finishes}
 use Rattle.dc_run.specs.Headline.{HasRunTool}
 use Rattle.dc_run.specs.Jobs.{HasCommunicated, Uses}
+use Rattle.dc_run.specs.Saves.{Save}
 use Rattle.dc_run.specs.Running.{IsNotStarted, IsStarted, end_unstarted, Awaits}
 use Rattle.dc_run.specs.Starting.{EndsBefore, begun}
 use Rattle.dc_run.specs.TemplateLoading.{EndsAt}
-use Rattle.dc_run.specs.World.{LinkState, Links, ChildState, Stock, World}
+use Rattle.dc_run.specs.World.{Links, Stock, World}
 use Rattle.dc_run.proofs.CrashLemmas.{state_left, broken_off}
 use Rattle.dc_run.proofs.RoundLemmas.{as_used}
 use Rattle.dc_run.proofs.RunLemmas.{ends_so}
@@ -111,17 +113,14 @@ ServedCounts tool.OutOfMemory before now = MayRise before now
 ServedCounts ended before now = Stays before now
 
 module _ (before now : Counts) where
-  same_counts : now.faults ≡ before.faults → now.refusals ≡ before.refusals → now ≡ before
-  same_counts one other = λ i. record { faults = one i; refusals = other i }
-
-  by_link : (served : LinkEnd StepError) → LinkFaults served before.faults now.faults → LinkRefusals served before.refusals now.refusals → ServedCounts (tool_end_of served) before now
-  by_link link.Done one other = same_counts one other
-  by_link link.TooLong one other = same_counts one other
-  by_link link.LinkFault one other = record { faults = one; refusals = other }
-  by_link link.OutOfMemory one (inl rose) = inr (inr (record { faults = one; refusals = rose }))
-  by_link link.OutOfMemory one (inr same) = inl (same_counts one same)
-  by_link (link.Broken step.Term) one other = same_counts one other
-  by_link (link.Broken step.OutOfMemory) one other = inl (same_counts one other)
+  by_link : (served : LinkEnd StepError) → LinkCounts served before now → ServedCounts (tool_end_of served) before now
+  by_link link.Done same = same
+  by_link link.TooLong same = same
+  by_link link.LinkFault rose = rose
+  by_link link.OutOfMemory (inl rose) = inr (inr rose)
+  by_link link.OutOfMemory (inr same) = inl same
+  by_link (link.Broken step.Term) same = same
+  by_link (link.Broken step.OutOfMemory) same = inl same
 
   -- where memory ran out as the session was finished
   may_rise : (ended : ToolEnd) → ServedCounts ended before now → MayRise before now
@@ -133,15 +132,14 @@ module _ (before now : Counts) where
   may_rise tool.OutOfMemory may = may
   may_rise (tool.FilesFault path) same = inl same
 
-  by_session : (served ended : LinkEnd StepError) → (ended ≡ served) ⊎ (ended ≡ link.OutOfMemory) → LinkFaults served before.faults now.faults → LinkRefusals served before.refusals now.refusals
-      → ServedCounts (tool_end_of ended) before now
-  by_session served ended (inl same) one other = rw same (by_link served one other)
-  by_session served ended (inr none) one other = rw none (may_rise (tool_end_of served) (by_link served one other))
+  by_session : (served ended : LinkEnd StepError) → (ended ≡ served) ⊎ (ended ≡ link.OutOfMemory) → LinkCounts served before now → ServedCounts (tool_end_of ended) before now
+  by_session served ended (inl same) counts = rw same (by_link served counts)
+  by_session served ended (inr none) counts = rw none (may_rise (tool_end_of served) (by_link served counts))
 
 served_counts : (start : SessionState) (layers : List LayerState) (files : FilesState) (terminal old new : LinkState) (ended : LinkEnd StepError) (code : ℕ) → IsServed start layers files terminal old new ended code
     → ServedCounts (tool_end_of ended) old.counts new.counts
 served_counts start layers files terminal old new ended code is =
-    by_session old.counts new.counts is.served ended (ends_so is.served is.state layers ended is.finishes) is.faults is.refusals
+    by_session old.counts new.counts is.served ended (ends_so is.served is.state layers ended is.finishes) is.counts
 
 -- ---- its terminal
 
@@ -181,8 +179,8 @@ ToolLinks tool.OutOfMemory before now = Both MayRise MayRise before now
 ToolLinks ended before now = Both Stays Stays before now
 
 module _ (before now : Links) (child : now.child ≡ before.child) where
-  unserved : now.child.link.counts ≡ before.child.link.counts
-  unserved = ap (λ (c : ChildState). c.link.counts) child
+  unserved : now.child.counts ≡ before.child.counts
+  unserved = ap (λ (c : LinkState). c.counts) child
 
   -- the program's own link was served
   own_links : (ended : ToolEnd) → (ended ≡ tool.TermFault → ⊥) → ServedCounts ended before.io.counts now.io.counts → ToolLinks ended before now
@@ -226,7 +224,7 @@ silent_links tool.ChildFault state rest new links ends = absurd ends
 
 -- the program was served, and the user asked on the program's own link
 module _ (before now : Links) where
-  both_links : (served : LinkEnd StepError) → ServedCounts (tool_end_of served) before.child.link.counts now.child.link.counts → TerminalCounts served before.io.counts now.io.counts → ToolLinks (tool_end_of served) before now
+  both_links : (served : LinkEnd StepError) → ServedCounts (tool_end_of served) before.child.counts now.child.counts → TerminalCounts served before.io.counts now.io.counts → ToolLinks (tool_end_of served) before now
   both_links link.Done child io = record { on_io = io; on_child = child }
   both_links link.TooLong child io = record { on_io = io; on_child = child }
   both_links link.LinkFault child io = inr (record { on_io = io; on_child = child })
@@ -244,33 +242,34 @@ module _ (before now : Links) where
   any_io (link.Broken step.OutOfMemory) (inl same) = inl same
   any_io (link.Broken step.OutOfMemory) (inr rose) = inr (inr rose)
 
-  program_links : (served ended : LinkEnd StepError) → (ended ≡ served) ⊎ (ended ≡ link.OutOfMemory) → ServedCounts (tool_end_of ended) before.child.link.counts now.child.link.counts
+  program_links : (served ended : LinkEnd StepError) → (ended ≡ served) ⊎ (ended ≡ link.OutOfMemory) → ServedCounts (tool_end_of ended) before.child.counts now.child.counts
       → TerminalCounts served before.io.counts now.io.counts → ToolLinks (tool_end_of ended) before now
   program_links served ended (inl same) child io = both_links ended child (subst (λ (e : LinkEnd StepError). TerminalCounts e before.io.counts now.io.counts) (sym same) io)
   program_links served ended (inr none) child io =
-      rw none (record { on_io = any_io served io; on_child = subst (λ (e : LinkEnd StepError). ServedCounts (tool_end_of e) before.child.link.counts now.child.link.counts) none child })
+      rw none (record { on_io = any_io served io; on_child = subst (λ (e : LinkEnd StepError). ServedCounts (tool_end_of e) before.child.counts now.child.counts) none child })
 
 started_links : (command : List (List ℕ)) (start : SessionState) (before now : Links) (answer : ToolAnswer) (layers : List LayerState) (files : FilesState) → start.terminal.link ≡ before.io
     → IsStarted command start before now answer layers files → ToolLinks answer.ended before now
 started_links command start before now answer layers files asks is =
     let served = is.served in
     let ran = served.ran in
-    let shown = terminal_counts start served.state ran.transitions ran.rest ran.pieces before.child.link.input answer.last_code ran.course served.served ran.answered in
+    let shown = terminal_counts start served.state ran.transitions ran.rest ran.pieces is.mid.input answer.last_code ran.course served.served ran.answered in
     rw is.ended_is
     (program_links before now served.served is.ended (ends_so served.served served.state layers is.ended served.finishes)
-    (served_counts start layers files now.io before.child.link now.child.link is.ended answer.last_code served)
+    (subst (λ (c : Counts). ServedCounts (tool_end_of is.ended) c now.child.counts) (ap (λ (l : LinkState). l.counts) is.starts.state)
+    (served_counts start layers files now.io is.mid now.child is.ended answer.last_code served))
     (subst (λ (c : Counts). TerminalCounts served.served c now.io.counts) (ap (λ (l : LinkState). l.counts) asks)
     (subst (λ (c : Counts). TerminalCounts served.served start.terminal.link.counts c) (ap (λ (l : LinkState). l.counts) (sym served.terminal_is)) shown)))
 
 unstarted_links : (command : List (List ℕ)) (start : SessionState) (before now : Links) (answer : ToolAnswer) (layers : List LayerState) (files : FilesState)
     → IsNotStarted command start before now answer layers files → ToolLinks answer.ended before now
-unstarted_links command start before now answer layers files is = rw is.ended_is (by_error is.error is.refusals) where
+unstarted_links command start before now answer layers files is = rw is.ended_is (by_error is.error is.starts) where
   io : now.io.counts ≡ before.io.counts
   io = ap (λ (l : LinkState). l.counts) is.io
 
-  by_error : (error : LinkError) → CountsRefusals {T = Unit {0}} before.child.link.counts.refusals now.child.link.counts.refusals (Err error) → ToolLinks (end_unstarted error) before now
-  by_error Failed same = record { on_io = io; on_child = same_counts before.child.link.counts now.child.link.counts is.faults same }
-  by_error OutOfMemory rose = record { on_io = inl io; on_child = inr (inr (record { faults = is.faults; refusals = rose })) }
+  by_error : (error : LinkError) → Starts {T = Unit {0}} command before.child now.child (Err error) → ToolLinks (end_unstarted error) before now
+  by_error Failed failed = record { on_io = io; on_child = ap (λ (l : LinkState). l.counts) failed.state }
+  by_error OutOfMemory refused = record { on_io = inl io; on_child = inr (inr refused.rose) }
 
 tool_links : (used : Tool) (stock : Stock) (roots : Roots) (settings : Settings) (before now : Links) (answer : ToolAnswer) (said : List ℕ) (layers : List LayerState) (files : FilesState)
     → Uses used (begun used stock roots settings before.io) before now answer said layers files → ToolLinks answer.ended before now
@@ -318,29 +317,32 @@ unwaited_links end.ChildFault before now links = links
 unwaited_links end.TooLong before now links = links
 
 module _ (before mid now : Links) (io : now.io ≡ mid.io) where
-  same_links : (how : End) → now.child.link ≡ mid.child.link → LinksCount how before mid → LinksCount how before now
-  same_links how child links =
-      subst (λ (l : LinkState). LinksCount how before (record { io = now.io; child = record { link = l; program = now.child.program } })) (sym child)
-      (subst (λ (l : LinkState). LinksCount how before (record { io = l; child = record { link = mid.child.link; program = now.child.program } })) (sym io) (other_program how links)) where
-        other_program : (e : End) → LinksCount e before mid → LinksCount e before (record { io = mid.io; child = record { link = mid.child.link; program = now.child.program } })
-        other_program end.Done links = record { on_io = links.on_io; on_child = links.on_child }
-        other_program (end.Usage word) links = record { on_io = links.on_io; on_child = links.on_child }
-        other_program (end.ConfRefused line kind) links = record { on_io = links.on_io; on_child = links.on_child }
-        other_program (end.BadPattern place) links = record { on_io = links.on_io; on_child = links.on_child }
-        other_program (end.PatternTooLarge place) links = record { on_io = links.on_io; on_child = links.on_child }
-        other_program (end.Damaged path line) links = record { on_io = links.on_io; on_child = links.on_child }
-        other_program end.OutOfMemory links = record { on_io = links.on_io; on_child = links.on_child }
-        other_program (end.FilesFault path) links = record { on_io = links.on_io; on_child = links.on_child }
-        other_program end.LinkFault (inl links) = inl (record { on_io = links.on_io; on_child = links.on_child })
-        other_program end.LinkFault (inr links) = inr (record { on_io = links.on_io; on_child = links.on_child })
-        other_program end.TermFault links = record { on_io = links.on_io; on_child = links.on_child }
-        other_program end.ChildFault links = record { on_io = links.on_io; on_child = links.on_child }
-        other_program end.TooLong links = record { on_io = links.on_io; on_child = links.on_child }
+  module _ (child : now.child.counts ≡ mid.child.counts) where
+    both : (one other : Counts → Counts → Type 0) → Both one other before mid → Both one other before now
+    both one other counts = record {
+      on_io = subst (λ (c : Counts). one before.io.counts c) (sym (ap (λ (l : LinkState). l.counts) io)) counts.on_io;
+      on_child = subst (λ (c : Counts). other before.child.counts c) (sym child) counts.on_child;
+    }
+
+    same_links : (how : End) → LinksCount how before mid → LinksCount how before now
+    same_links end.Done counts = both Stays Stays counts
+    same_links (end.Usage word) counts = both Stays Stays counts
+    same_links (end.ConfRefused line kind) counts = both Stays Stays counts
+    same_links (end.BadPattern place) counts = both Stays Stays counts
+    same_links (end.PatternTooLarge place) counts = both Stays Stays counts
+    same_links (end.Damaged path line) counts = both Stays Stays counts
+    same_links end.OutOfMemory counts = both MayRise MayRise counts
+    same_links (end.FilesFault path) counts = both Stays Stays counts
+    same_links end.LinkFault (inl counts) = inl (both FaultRose Stays counts)
+    same_links end.LinkFault (inr counts) = inr (both Stays FaultRose counts)
+    same_links end.TermFault counts = both FaultRose Stays counts
+    same_links end.ChildFault counts = both Stays Stays counts
+    same_links end.TooLong counts = both Stays Stays counts
 
   awaited_links : (started : Bool) (how ended : End) (status left : ℕ) → Awaits started mid.child now.child how ended status left → LinksCount how before mid → LinksCount ended before now
-  awaited_links true how ended status left (inl done) links = rw done.end_is (same_links how done.link links)
-  awaited_links true how ended status left (inr failed) links = rw failed.end_is (unwaited_links how before now (same_links how failed.link links))
-  awaited_links false how ended status left none links = rw none.end_is (same_links how (ap (λ (c : ChildState). c.link) none.child) links)
+  awaited_links true how ended status left (inl done) counts = rw done.end_is (same_links (ap (λ (l : LinkState). l.counts) done.waits) how counts)
+  awaited_links true how ended status left (inr failed) counts = rw failed.end_is (unwaited_links how before now (same_links (ap (λ (l : LinkState). l.counts) failed.waits.state) how counts))
+  awaited_links false how ended status left none counts = rw none.end_is (same_links (ap (λ (l : LinkState). l.counts) none.child) how counts)
 
 -- ---- the program
 
@@ -366,18 +368,18 @@ silent_start tool.TooLong state rest new count ends = absurd ends
 silent_start tool.TermFault state rest new count ends = absurd ends
 silent_start tool.ChildFault state rest new count ends = absurd ends
 
-unstarted_program : (command : List (List ℕ)) (error : LinkError) (before now : Program) → Starts {T = Unit {0}} command before now (Err error) → StartCounts (end_unstarted error) before.failures now.failures
-unstarted_program command Failed before now failed = failed.failures
-unstarted_program command OutOfMemory before now same = ap (λ (p : Program). p.failures) same
+unstarted_program : (command : List (List ℕ)) (error : LinkError) (before now : LinkState) → Starts {T = Unit {0}} command before now (Err error) → StartCounts (end_unstarted error) before.program.failures now.program.failures
+unstarted_program command Failed before now failed = failed.rose.failures
+unstarted_program command OutOfMemory before now refused = ap (λ (l : LinkState). l.program.failures) refused.state
 
 tool_program : (used : Tool) (start : SessionState) (before now : Links) (answer : ToolAnswer) (said : List ℕ) (layers : List LayerState) (files : FilesState)
     → Uses used start before now answer said layers files → StartCounts answer.ended before.child.program.failures now.child.program.failures
-tool_program (Communicate owner) start before now answer said layers files uses = rw uses.0.ended_is (served_start uses.0.ended _ _ (ap (λ (c : ChildState). c.program.failures) uses.1))
+tool_program (Communicate owner) start before now answer said layers files uses = rw uses.0.ended_is (served_start uses.0.ended _ _ (ap (λ (c : LinkState). c.program.failures) uses.1))
 tool_program (LoadTemplate owner paths) start before now answer said layers files uses =
     rw uses.links_are (silent_start answer.ended _ uses.loaded.rest uses.state before.child.program.failures uses.loaded.ends)
 tool_program (Run owner frontend priority command) start before now answer said layers files uses = elim uses.0 [
-  | inl none ↦ rw none.ended_is (unstarted_program command none.error before.child.program now.child.program none.starts)
-  | inr started ↦ rw started.ended_is (served_start started.ended before.child.program.failures now.child.program.failures started.began.failures)
+  | inl none ↦ rw none.ended_is (unstarted_program command none.error before.child now.child none.starts)
+  | inr started ↦ rw started.ended_is (served_start started.ended before.child.program.failures now.child.program.failures (ap (λ (p : Program). p.failures) started.served.program ∙ started.starts.began.failures))
 ]
 
 module _ (layers used : List LayerState) (files new : FilesState) (before now : ℕ) where
@@ -418,28 +420,28 @@ unwaited_program end.TermFault before mid now counts rose = inr (rose_after befo
 unwaited_program end.ChildFault before mid now first rose = later_rose before mid now first rose
 unwaited_program end.TooLong before mid now counts rose = inr (rose_after before mid now counts rose)
 
-awaited_program : (started : Bool) (before : ℕ) (mid now : ChildState) (how ended : End) (status left : ℕ) → Awaits started mid now how ended status left → ProgramCounts how before mid.program.failures
+awaited_program : (started : Bool) (before : ℕ) (mid now : LinkState) (how ended : End) (status left : ℕ) → Awaits started mid now how ended status left → ProgramCounts how before mid.program.failures
     → ProgramCounts ended before now.program.failures
-awaited_program true before mid now how ended status left (inl done) counts = rw done.end_is (subst (λ (n : ℕ). ProgramCounts how before n) (ap (λ (p : Program). p.failures) (sym done.waits)) counts)
-awaited_program true before mid now how ended status left (inr failed) counts = rw failed.end_is (unwaited_program how before mid.program.failures now.program.failures counts failed.waits.failures)
-awaited_program false before mid now how ended status left none counts = rw none.end_is (subst (λ (c : ChildState). ProgramCounts how before c.program.failures) (sym none.child) counts)
+awaited_program true before mid now how ended status left (inl done) counts = rw done.end_is (subst (λ (n : ℕ). ProgramCounts how before n) (ap (λ (l : LinkState). l.program.failures) (sym done.waits)) counts)
+awaited_program true before mid now how ended status left (inr failed) counts = rw failed.end_is (unwaited_program how before mid.program.failures now.program.failures counts failed.waits.rose.failures)
+awaited_program false before mid now how ended status left none counts = rw none.end_is (subst (λ (c : LinkState). ProgramCounts how before c.program.failures) (sym none.child) counts)
 
 -- ---- the whole run
 
 module _ (used : Tool) (settings : Settings) (old new : World) (outcome : Outcome) where
-  pub links_counted : HasRunTool used settings old new outcome → LinksCount outcome.end old.links new.links
-  links_counted (inl before) = subst (λ (l : Links). LinksCount outcome.end old.links l) (sym before.1.links_are) (before_links old.links settings.conf_path old.stock.files new.stock outcome.end before.0)
-  links_counted (inr worked) =
-      let run = as_used used settings old new outcome worked in
+  pub links_counted : (saves : List Save) → HasRunTool used settings old new outcome saves → LinksCount outcome.end old.links new.links
+  links_counted saves (inl before) = subst (λ (l : Links). LinksCount outcome.end old.links l) (sym before.1.links_are) (before_links old.links settings.conf_path old.stock.files new.stock outcome.end before.0)
+  links_counted saves (inr worked) =
+      let run = as_used used settings old new outcome saves worked in
       awaited_links old.links run.links new.links run.io_is run.answer.is_started run.how outcome.end run.answer.status run.status run.awaits
       (run_links run.layers new.stock.used run.files new.stock.files old.links run.links run.answer.ended run.how run.finishes
       (tool_links used run.mid run.roots settings old.links run.links run.answer run.told run.layers run.files run.uses))
 
-  pub program_counted : HasRunTool used settings old new outcome → ProgramCounts outcome.end old.links.child.program.failures new.links.child.program.failures
-  program_counted (inl before) = subst (λ (l : Links). ProgramCounts outcome.end old.links.child.program.failures l.child.program.failures) (sym before.1.links_are)
+  pub program_counted : (saves : List Save) → HasRunTool used settings old new outcome saves → ProgramCounts outcome.end old.links.child.program.failures new.links.child.program.failures
+  program_counted saves (inl before) = subst (λ (l : Links). ProgramCounts outcome.end old.links.child.program.failures l.child.program.failures) (sym before.1.links_are)
       (before_program old.links.child.program.failures settings.conf_path old.stock.files new.stock outcome.end before.0)
-  program_counted (inr worked) =
-      let run = as_used used settings old new outcome worked in
+  program_counted saves (inr worked) =
+      let run = as_used used settings old new outcome saves worked in
       awaited_program run.answer.is_started old.links.child.program.failures run.links.child new.links.child run.how outcome.end run.answer.status run.status run.awaits
       (run_program run.layers new.stock.used run.files new.stock.files old.links.child.program.failures run.links.child.program.failures run.answer.ended run.how run.finishes
       (tool_program used (begun used run.mid run.roots settings old.links.io) old.links run.links run.answer run.told run.layers run.files run.uses))

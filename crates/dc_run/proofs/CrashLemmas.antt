@@ -1,13 +1,14 @@
 -- What the parts of a run do to the disk, and to the databases that its layers are of.
 use Rattle.std.proofs.Common.{◌≡◌, ◌⊎◌, ℕ, Bool, true, false, List, [], ◌∷◌, ◌++◌, Option, Some, None, refl, sym, ap, subst, ◌∙◌, inl, inr, map as each}
+use Rattle.std.specs.List.{AllByRecursion}
 use Rattle.std.specs.Prelude.{codes, fold, Result, Ok, Err}
 use Rattle.std.specs.Result.{result_unwrap_or}
 use Rattle.dc_words.specs.declared.stream.Line.{Line}
 use Rattle.dc_words.specs.declared.stream.Line.TheVariants.{Whole, TooLong}
 use Rattle.dc_outside.specs.Disk.{Disk, IsDurable}
-use Rattle.dc_outside.specs.Told.{Told, Counts}
+use Rattle.dc_outside.specs.Counts.{Counts}
+use Rattle.dc_outside.specs.State.{FilesView, LinkState}
 use Rattle.dc_outside.specs.declared.link.Piece.{Piece}
-use Rattle.dc_outside.proofs.Moments.{none_more}
 use Rattle.dc_proto.specs.Commands.{heard}
 use Rattle.dc_proto.specs.declared.command.Command.{Command}
 use Rattle.dc_proto.specs.declared.command.Command.TheVariants.{LoadTemplateFile}
@@ -33,14 +34,14 @@ use Rattle.dc_save.specs.Places.{AreSetUpFor}
 use Rattle.dc_save.proofs.FileTurnLemmas.{reads_disk}
 use Rattle.dc_conf.specs.declared.spec.LayerSort.{LayerSort}
 use Rattle.dc_conf.specs.declared.spec.LayerSort.TheVariants.{File, Tree, Pack}
-use Rattle.dc_save.specs.Saving.{Saves, Ends, MayAddAny, AreApart, StandSaved, all_saved}
+use Rattle.dc_save.specs.Saving.{Ends, AreApart, StandSaved}
 use Rattle.dc_save.specs.declared.loading.Loaded.{Loaded}
 use Rattle.dc_save.specs.declared.loading.Loaded.TheVariants.{Here, LeftOut}
 use Rattle.dc_save.specs.declared.loading.LoadError.{LoadError}
 use Rattle.dc_save.specs.declared.loading.LoadError.TheVariants as load
 use Rattle.dc_save.specs.declared.saving.SaveError.{SaveError}
 use Rattle.dc_save.specs.declared.saving.SaveError.TheVariants as save
-use Rattle.dc_save.proofs.DiskState.{same_some, every_moment}
+use Rattle.dc_save.proofs.DiskState.{every_moment}
 use Rattle.dc_save.proofs.Ends.{ends, keeps_paths, stand_saved}
 use Rattle.dc_save.proofs.PlaceLemmas.{places_apart, layers_of}
 use Rattle.dc_shelf.specs.Shelves.{all_set_up, GoesOn, LoadsAll}
@@ -55,7 +56,8 @@ use Rattle.dc_session.specs.Asking.{with_seen}
 use Rattle.dc_session.specs.Machine.{Handles, Steps, StepsHeard, Aborts, HasDone, GivesInPart, IsDoneInPart}
 use Rattle.dc_session.specs.declared.stepped.StepError.TheVariants as step
 use Rattle.dc_session.specs.Serving.{IsFinished, Finishes as FinishesSession, IsServed}
-use Rattle.dc_session.specs.SessionState.{FilesState, SessionState}
+use Rattle.dc_outside.specs.State.{FilesState}
+use Rattle.dc_session.specs.SessionState.{SessionState}
 use Rattle.dc_session.specs.TemplateFiles.{Finds, FindsNoMemory}
 use Rattle.dc_session.specs.declared.stepped.StepError.{StepError}
 use Rattle.dc_session.specs.declared.stepped.Stepped.{Stepped}
@@ -63,15 +65,15 @@ use Rattle.dc_session.specs.declared.template_files.Found.{Found}
 use Rattle.dc_session.specs.declared.template_files.Found.TheVariants.{Unreadable, Missing, Faulty, Templates}
 use Rattle.dc_session.proofs.DiskLaws.{breaks_reads, course_reads}
 use Rattle.dc_session.proofs.FrameLaws.{row_keeps, others_stay}
-use Rattle.dc_run.specs.Ends.{IsEnded, tool_end_of, end_unsaved, end_unwaited}
+use Rattle.dc_run.specs.Ends.{IsEnded, tool_end_of, comes_to_save, end_by, end_unwaited}
 use Rattle.dc_run.specs.Running.{Awaits}
-use Rattle.dc_run.specs.Finishing.{images_of, IsSaved, IsUnsaved, IsWithoutMemory, Finishes}
-use Rattle.dc_run.specs.Headline.{HasRunTool}
+use Rattle.dc_run.specs.Finishing.{images_of}
 use Rattle.dc_run.specs.Jobs.{Uses}
-use Rattle.dc_run.specs.OneRound.{HasUsed}
+use Rattle.dc_run.specs.Kills.{AllDone}
+use Rattle.dc_run.specs.Saves.{Save, AreSaves, Commits}
 use Rattle.dc_run.specs.Starting.{IsConfiguration, EndsBefore, begun, databases_of, roots}
 use Rattle.dc_run.specs.TemplateLoading.{FileTurn, IsFileTurn, IsFileCourse, state_after as file_state, EndsAt}
-use Rattle.dc_run.specs.World.{LinkState, ChildState, Links, Stock, World}
+use Rattle.dc_run.specs.World.{Links, Stock, World}
 use Rattle.dc_run.specs.declared.outcome.End.{End}
 use Rattle.dc_run.specs.declared.outcome.End.TheVariants as end
 use Rattle.dc_run.specs.declared.outcome.Outcome.{Outcome}
@@ -81,64 +83,63 @@ use Rattle.dc_run.specs.declared.outcome.ToolEnd.TheVariants as tool
 use Rattle.dc_run.specs.declared.settings.Settings.{Settings}
 use Rattle.dc_cli.specs.declared.tool.Tool.{Tool}
 use Rattle.dc_cli.specs.declared.tool.Tool.TheVariants.{Communicate, LoadTemplate, Run}
-use Rattle.dc_run.proofs.RoundLemmas.{as_used}
 use Rattle.dc_run.proofs.RunLemmas.{ends_so}
-use Rattle.dc_run.specs.Crashes.{KeepsDatabases}
+use Rattle.dc_run.specs.Crashes.{AreOfConfiguration, KeepsEachPath}
 
 -- ---- reads change nothing on the disk
 
-file_reads : (old new : Told) (path : List ℕ) (first : Result Loaded LoadError) → LoadsOneFile old new path first → new.disk ≡ old.disk
-file_reads old new path (Ok Here) is = ap (λ (t : Told). t.disk) is
-file_reads old new path (Ok LeftOut) is = ap (λ (t : Told). t.disk) is
-file_reads old new path (Err (load.Failed failed)) is = ap (λ (t : Told). t.disk) is
-file_reads old new path (Err (load.Damaged damaged line)) is = ap (λ (t : Told). t.disk) is
-file_reads old new path (Err load.OutOfMemory) (inl is) = ap (λ (t : Told). t.disk) is
-file_reads old new path (Err load.OutOfMemory) (inr is) = ap (λ (t : Told). t.disk) is
+file_reads : (old new : FilesView) (path : List ℕ) (first : Result Loaded LoadError) → LoadsOneFile old new path first → new.disk ≡ old.disk
+file_reads old new path (Ok Here) is = ap (λ (t : FilesView). t.disk) is
+file_reads old new path (Ok LeftOut) is = ap (λ (t : FilesView). t.disk) is
+file_reads old new path (Err (load.Failed failed)) is = ap (λ (t : FilesView). t.disk) is
+file_reads old new path (Err (load.Damaged damaged line)) is = ap (λ (t : FilesView). t.disk) is
+file_reads old new path (Err load.OutOfMemory) (inl is) = ap (λ (t : FilesView). t.disk) is
+file_reads old new path (Err load.OutOfMemory) (inr is) = ap (λ (t : FilesView). t.disk) is
 
-after_reads_same : (told : Told) (spec : LayerSpec) (files : List (List ℕ)) → (after_reads told spec files).disk ≡ told.disk
+after_reads_same : (told : FilesView) (spec : LayerSpec) (files : List (List ℕ)) → (after_reads told spec files).disk ≡ told.disk
 after_reads_same told spec files = reads_disk _ spec files
 
-failed_reads : (spec : LayerSpec) (path : List ℕ) (old new : Told) → FailsOn spec path old new → new.disk ≡ old.disk
-failed_reads spec path old new (inl is) = ap (λ (t : Told). t.disk) is.1
-failed_reads spec path old new (inr is) = ap (λ (t : Told). t.disk) is.told_is ∙ after_reads_same old spec is.before
+failed_reads : (spec : LayerSpec) (path : List ℕ) (old new : FilesView) → FailsOn spec path old new → new.disk ≡ old.disk
+failed_reads spec path old new (inl is) = ap (λ (t : FilesView). t.disk) is.1
+failed_reads spec path old new (inr is) = ap (λ (t : FilesView). t.disk) is.told_is ∙ after_reads_same old spec is.before
 
-folder_reads : (old new : Told) (spec : LayerSpec) (first : Result Loaded LoadError) → LoadsFolderFiles old new spec first → new.disk ≡ old.disk
-folder_reads old new spec (Ok Here) is = ap (λ (t : Told). t.disk) is.2 ∙ after_reads_same old spec (its_files spec is.0)
+folder_reads : (old new : FilesView) (spec : LayerSpec) (first : Result Loaded LoadError) → LoadsFolderFiles old new spec first → new.disk ≡ old.disk
+folder_reads old new spec (Ok Here) is = ap (λ (t : FilesView). t.disk) is.2 ∙ after_reads_same old spec (its_files spec is.0)
 folder_reads old new spec (Ok LeftOut) is = failed_reads spec is.0 old new is.1
 folder_reads old new spec (Err (load.Failed failed)) is = failed_reads spec failed old new is
-folder_reads old new spec (Err (load.Damaged damaged line)) is = ap (λ (t : Told). t.disk) is.3.told_is ∙ after_reads_same old spec (is.0 ++ is.1 ∷ [])
-folder_reads old new spec (Err load.OutOfMemory) (inl is) = ap (λ (t : Told). t.disk) is
-folder_reads old new spec (Err load.OutOfMemory) (inr is) = ap (λ (t : Told). t.disk) is.1.told_is ∙ after_reads_same old spec is.0
+folder_reads old new spec (Err (load.Damaged damaged line)) is = ap (λ (t : FilesView). t.disk) is.3.told_is ∙ after_reads_same old spec (is.0 ++ is.1 ∷ [])
+folder_reads old new spec (Err load.OutOfMemory) (inl is) = ap (λ (t : FilesView). t.disk) is
+folder_reads old new spec (Err load.OutOfMemory) (inr is) = ap (λ (t : FilesView). t.disk) is.1.told_is ∙ after_reads_same old spec is.0
 
-reads_by : (sort : LayerSort) (old new : Told) (spec : LayerSpec) (first : Result Loaded LoadError) → LoadsFilesBy sort old new spec first → new.disk ≡ old.disk
+reads_by : (sort : LayerSort) (old new : FilesView) (spec : LayerSpec) (first : Result Loaded LoadError) → LoadsFilesBy sort old new spec first → new.disk ≡ old.disk
 reads_by File old new spec first is = file_reads old new spec.place first is
 reads_by Tree old new spec first is = folder_reads old new spec first is
 reads_by Pack old new spec first is = folder_reads old new spec first is
 
-pub load_reads : (old new : Told) (spec : LayerSpec) (first : Result Loaded LoadError) → LoadsFiles old new spec first → new.disk ≡ old.disk
+pub load_reads : (old new : FilesView) (spec : LayerSpec) (first : Result Loaded LoadError) → LoadsFiles old new spec first → new.disk ≡ old.disk
 load_reads old new spec first is = reads_by spec.sort old new spec first is
 
 goes_on : (P : Type 0) (first : Result Loaded LoadError) (result : Result (Unit {0}) LoadError) (more last : Type 0) → (more → P) → (last → P) → GoesOn first result more last → P
 goes_on P (Ok loaded) result more last on at is = on is
 goes_on P (Err error) result more last on at is = at is.1
 
-pub all_read : (specs : List LayerSpec) (old new : List LayerState) (files files_new : Told) (before now : Counts) (result : Result (Unit {0}) LoadError) → LoadsAll specs old new files files_new before now result → files_new.disk ≡ files.disk
-all_read [] old new files files_new before now result is = ap (λ (t : Told). t.disk) is.2
+pub all_read : (specs : List LayerSpec) (old new : List LayerState) (files files_new : FilesView) (before now : Counts) (result : Result (Unit {0}) LoadError) → LoadsAll specs old new files files_new before now result → files_new.disk ≡ files.disk
+all_read [] old new files files_new before now result is = ap (λ (t : FilesView). t.disk) is.2
 all_read (spec ∷ specs) [] new files files_new before now result is = absurd is
 all_read (spec ∷ specs) (layer ∷ old) [] files files_new before now result is = absurd is
 all_read (spec ∷ specs) (layer ∷ old) (made ∷ new) files files_new before now result is =
     goes_on (files_new.disk ≡ is.1.disk) is.0 result (LoadsAll specs old new is.1 files_new is.2 now result) ((new ≡ old) × (files_new ≡ is.1) × (now ≡ is.2))
-    (all_read specs old new is.1 files_new is.2 now result) (λ last. ap (λ (t : Told). t.disk) last.1) is.6
+    (all_read specs old new is.1 files_new is.2 now result) (λ last. ap (λ (t : FilesView). t.disk) last.1) is.6
     ∙ load_reads files is.1 spec is.0 is.4
 
-before_reads : (path : List ℕ) (old : FilesState) (new : Stock) (how : End) → EndsBefore path old new how → new.files.told.disk ≡ old.told.disk
+pub before_reads : (path : List ℕ) (old : FilesState) (new : Stock) (how : End) → EndsBefore path old new how → new.files.view.disk ≡ old.view.disk
 before_reads path old new how (inl memory) = elim memory.begun [
-  | inl none ↦ ap (λ (t : Told). t.disk) none.files_are
-  | inr read ↦ ap (λ (t : Told). t.disk) read.files_are
+  | inl none ↦ ap (λ (t : FilesView). t.disk) none.files_are
+  | inr read ↦ ap (λ (t : FilesView). t.disk) read.files_are
 ]
-before_reads path old new how (inr (inl unread)) = ap (λ (t : Told). t.disk) unread.files_are
-before_reads path old new how (inr (inr (inl refused))) = ap (λ (t : Told). t.disk) refused.read.files_are
-before_reads path old new how (inr (inr (inr (inl unset)))) = ap (λ (t : Told). t.disk) unset.read.files_are
+before_reads path old new how (inr (inl unread)) = ap (λ (t : FilesView). t.disk) unread.files_are
+before_reads path old new how (inr (inr (inl refused))) = ap (λ (t : FilesView). t.disk) refused.read.files_are
+before_reads path old new how (inr (inr (inr (inl unset)))) = ap (λ (t : FilesView). t.disk) unset.read.files_are
 before_reads path old new how (inr (inr (inr (inr unloaded)))) = all_read _ _ _ _ _ _ _ _ unloaded.loaded.loads
 
 -- ---- each layer stays one of its database
@@ -149,11 +150,11 @@ Kind = LayerSort × Option LayerSpec
 abbrev kind_of : LayerState → Kind
 kind_of layer = (layer.sort, layer.spec)
 
-abbrev specs_in : List LayerState → List Kind
+abbrev pub specs_in : List LayerState → List Kind
 specs_in layers = each kind_of layers
 
 -- those of layers that were set up for these databases
-abbrev set_for : List LayerSpec → List Kind
+abbrev pub set_for : List LayerSpec → List Kind
 set_for specs = each (λ (spec : LayerSpec). (spec.sort, Some spec)) specs
 
 loaded_kind : (spec : LayerSpec) (layer : LayerState) (table : Table) (found : Option (List ℕ)) → kind_of (with_loaded spec layer table found) ≡ kind_of layer
@@ -182,7 +183,7 @@ keeps_by Pack disk spec layer made first is = folder_keeps disk spec layer made 
 load_keeps : (disk : Option Disk) (spec : LayerSpec) (layer made : LayerState) (first : Result Loaded LoadError) → LoadsLayer disk spec layer made first → kind_of made ≡ kind_of layer
 load_keeps disk spec layer made first is = keeps_by spec.sort disk spec layer made first is
 
-loads_keep : (specs : List LayerSpec) (old new : List LayerState) (files files_new : Told) (before now : Counts) (result : Result (Unit {0}) LoadError) → LoadsAll specs old new files files_new before now result → specs_in new ≡ specs_in old
+pub loads_keep : (specs : List LayerSpec) (old new : List LayerState) (files files_new : FilesView) (before now : Counts) (result : Result (Unit {0}) LoadError) → LoadsAll specs old new files files_new before now result → specs_in new ≡ specs_in old
 loads_keep [] old new files files_new before now result is = ap specs_in is.1
 loads_keep (spec ∷ specs) [] new files files_new before now result is = absurd is
 loads_keep (spec ∷ specs) (layer ∷ old) [] files files_new before now result is = absurd is
@@ -191,7 +192,7 @@ loads_keep (spec ∷ specs) (layer ∷ old) (made ∷ new) files files_new befor
     (loads_keep specs old new is.1 files_new is.2 now result) (λ last. ap specs_in last.0) is.6 in
     λ i. load_keeps files.disk spec layer made is.0 is.3 i ∷ later i
 
-set_up_specs : (specs : List LayerSpec) → specs_in (all_set_up specs) ≡ set_for specs
+pub set_up_specs : (specs : List LayerSpec) → specs_in (all_set_up specs) ≡ set_for specs
 set_up_specs [] = refl
 set_up_specs (spec ∷ specs) = ap (λ (l : List Kind). (spec.sort, Some spec) ∷ l) (set_up_specs specs)
 
@@ -259,11 +260,11 @@ module _ (start new : SessionState) (turns : List (Transition SessionState)) (re
   state_left (link.Broken step.Term) is answered = absurd is
   state_left (link.Broken step.OutOfMemory) is answered = absurd is
 
-  reads_to : IsExecution Handles start turns → new ≡ state_after start turns → new.files.told.disk ≡ start.files.told.disk
-  reads_to course is = ap (λ (s : SessionState). s.files.told.disk) is ∙ course_reads start turns course
+  reads_to : IsExecution Handles start turns → new ≡ state_after start turns → new.files.view.disk ≡ start.files.view.disk
+  reads_to course is = ap (λ (s : SessionState). s.files.view.disk) is ∙ course_reads start turns course
 
   -- at each end the session has only read files
-  session_reads : IsExecution Handles start turns → (ended : LinkEnd StepError) → Answered Aborts ended start turns rest talk input new code → new.files.told.disk ≡ start.files.told.disk
+  session_reads : IsExecution Handles start turns → (ended : LinkEnd StepError) → Answered Aborts ended start turns rest talk input new code → new.files.view.disk ≡ start.files.view.disk
   session_reads course link.Done answered = reads_to course (state_left link.Done tt answered)
   session_reads course link.LinkFault answered = reads_to course (state_left link.LinkFault tt answered)
   session_reads course link.TooLong answered = reads_to course (state_left link.TooLong tt answered)
@@ -313,36 +314,36 @@ was_served served ended (inr none) done = absurd (no_memory_left ended none done
 
 -- ---- template files
 
-finds_reads : (path : List ℕ) (old new : FilesState) (found : Found) → Finds path old found new → new.told.disk ≡ old.told.disk
-finds_reads path old new Unreadable finds = ap (λ (t : Told). t.disk) finds.0
-finds_reads path old new Missing finds = ap (λ (t : Told). t.disk) finds.told_is
-finds_reads path old new (Faulty line) finds = ap (λ (t : Told). t.disk) finds.2.told_is
-finds_reads path old new (Templates templates) finds = ap (λ (t : Told). t.disk) finds.1.told_is
+finds_reads : (path : List ℕ) (old new : FilesState) (found : Found) → Finds path old found new → new.view.disk ≡ old.view.disk
+finds_reads path old new Unreadable finds = ap (λ (t : FilesView). t.disk) finds.0
+finds_reads path old new Missing finds = ap (λ (t : FilesView). t.disk) finds.told_is
+finds_reads path old new (Faulty line) finds = ap (λ (t : FilesView). t.disk) finds.2.told_is
+finds_reads path old new (Templates templates) finds = ap (λ (t : FilesView). t.disk) finds.1.told_is
 
-none_reads : (path : List ℕ) (old new : FilesState) → FindsNoMemory path old new → new.told.disk ≡ old.told.disk
-none_reads path old new (inl refused) = ap (λ (t : Told). t.disk) refused.0
-none_reads path old new (inr read) = ap (λ (t : Told). t.disk) read.0
+none_reads : (path : List ℕ) (old new : FilesState) → FindsNoMemory path old new → new.view.disk ≡ old.view.disk
+none_reads path old new (inl refused) = ap (λ (t : FilesView). t.disk) refused.0
+none_reads path old new (inr read) = ap (λ (t : FilesView). t.disk) read.0
 
-part_reads : (path : List ℕ) (old new : SessionState) → IsDoneInPart (LoadTemplateFile path None) old new → new.files.told.disk ≡ old.files.told.disk
+part_reads : (path : List ℕ) (old new : SessionState) → IsDoneInPart (LoadTemplateFile path None) old new → new.files.view.disk ≡ old.files.view.disk
 part_reads path old new done = elim done.part [
   | inl given ↦ given_reads given
   | inr left ↦ finds_reads path old.files new.files left.given.found left.gives.looks
 ] where
-  given_reads : GivesInPart (LoadTemplateFile path None) old new → new.files.told.disk ≡ old.files.told.disk
+  given_reads : GivesInPart (LoadTemplateFile path None) old new → new.files.view.disk ≡ old.files.view.disk
   given_reads given = elim given.gives [
     | inl vain ↦ none_reads path old.files new.files vain.0
-    | inr shown ↦ ap (λ (f : FilesState). f.told.disk) shown.1
+    | inr shown ↦ ap (λ (f : FilesState). f.view.disk) shown.1
   ]
 
-files_read : (start : SessionState) (turns : List FileTurn) → IsFileCourse start turns → (file_state start turns).files.told.disk ≡ start.files.told.disk
+files_read : (start : SessionState) (turns : List FileTurn) → IsFileCourse start turns → (file_state start turns).files.view.disk ≡ start.files.view.disk
 files_read start [] is = refl
 files_read start (turn ∷ turns) is = files_read turn.new turns is.1 ∙ finds_reads turn.path start.files turn.new.files turn.found is.0.finds
 
-end_reads : (ended : ToolEnd) (state : SessionState) (rest : List (List ℕ)) (new : SessionState) → EndsAt ended state rest new → new.files.told.disk ≡ state.files.told.disk
-end_reads tool.Done state rest new ends = ap (λ (s : SessionState). s.files.told.disk) ends.1
+end_reads : (ended : ToolEnd) (state : SessionState) (rest : List (List ℕ)) (new : SessionState) → EndsAt ended state rest new → new.files.view.disk ≡ state.files.view.disk
+end_reads tool.Done state rest new ends = ap (λ (s : SessionState). s.files.view.disk) ends.1
 end_reads (tool.FilesFault path) state rest new ends = finds_reads path state.files new.files Unreadable ends.2
 end_reads tool.OutOfMemory state rest new ends = elim ends.3 [
-  | inl same ↦ ap (λ (s : SessionState). s.files.told.disk) same
+  | inl same ↦ ap (λ (s : SessionState). s.files.view.disk) same
   | inr part ↦ part_reads ends.0 state new part
 ]
 end_reads tool.LinkFault state rest new ends = absurd ends
@@ -375,7 +376,7 @@ end_keeps tool.ChildFault is state rest new ends = absurd is
 
 -- A tool only reads files, and its layers stay those of their databases.
 pub record KeepsAll (start : SessionState) (ended : ToolEnd) (layers : List LayerState) (files : FilesState) : Type 0 where
-  pub disk : files.told.disk ≡ start.files.told.disk
+  pub disk : files.view.disk ≡ start.files.view.disk
   pub specs : IsEnded ended → specs_in layers ≡ specs_of start
 
 served_keeps : (start : SessionState) (old new terminal : LinkState) (given : ToolAnswer) (layers : List LayerState) (files : FilesState) (ended : LinkEnd StepError) → given.ended ≡ tool_end_of ended
@@ -383,7 +384,7 @@ served_keeps : (start : SessionState) (old new terminal : LinkState) (given : To
 served_keeps start old new terminal given layers files ended ended_is served =
     let ran = served.ran in
     record {
-      disk = ap (λ (f : FilesState). f.told.disk) served.files_are ∙ session_reads start served.state ran.transitions ran.rest ran.pieces old.input given.last_code ran.course served.served ran.answered;
+      disk = ap (λ (f : FilesState). f.view.disk) served.files_are ∙ session_reads start served.state ran.transitions ran.rest ran.pieces old.input given.last_code ran.course served.served ran.answered;
       specs = λ is.
           let done : IsEnded (tool_end_of served.served) = was_served served.served ended (ends_so served.served served.state layers ended served.finishes) (subst IsEnded ended_is is) in
           session_keeps served.state layers served.served ended served.finishes
@@ -396,39 +397,52 @@ tool_keeps (Communicate owner) start old new given told layers files uses = serv
 tool_keeps (LoadTemplate owner paths) start old new given told layers files uses =
     let loads = uses.loaded in
     record {
-      disk = ap (λ (f : FilesState). f.told.disk) uses.files_are ∙ end_reads given.ended (file_state start loads.turns) loads.rest uses.state loads.ends ∙ files_read start loads.turns loads.course;
+      disk = ap (λ (f : FilesState). f.view.disk) uses.files_are ∙ end_reads given.ended (file_state start loads.turns) loads.rest uses.state loads.ends ∙ files_read start loads.turns loads.course;
       specs = λ is. ap specs_in uses.layers_are ∙ end_keeps given.ended is (file_state start loads.turns) loads.rest uses.state loads.ends ∙ files_keep start loads.turns loads.course;
     }
 tool_keeps (Run owner frontend priority command) start old new given told layers files uses = elim uses.0 [
-  | inl none ↦ record { disk = ap (λ (f : FilesState). f.told.disk) none.files_are; specs = λ is. ap specs_in none.layers_are }
-  | inr started ↦ served_keeps start old.child.link new.child.link new.io given layers files started.ended started.ended_is started.served
+  | inl none ↦ record { disk = ap (λ (f : FilesState). f.view.disk) none.files_are; specs = λ is. ap specs_in none.layers_are }
+  | inr started ↦ served_keeps start started.mid new.child new.io given layers files started.ended started.ended_is started.served
 ]
 
--- ---- the save
+-- ---- the save of a round
 
--- what the save did, and with which answer
-pub record HasSaved (images : List Image) (files new : Told) (how : End) : Type 0 where
-  pub saves : Result (Unit {0}) SaveError
-  pub did : Saves images files new saves
-  pub all_done : how ≡ end.Done → saves ≡ Ok tt
+pub ended_then : (ended : ToolEnd) → comes_to_save ended ≡ true → IsEnded ended
+ended_then tool.Done is = tt
+ended_then tool.LinkFault is = tt
+ended_then tool.TooLong is = tt
+ended_then tool.TermFault is = cc
+ended_then tool.ChildFault is = cc
+ended_then tool.OutOfMemory is = cc
+ended_then (tool.FilesFault path) is = cc
 
-not_done : (ended : ToolEnd) (path : List ℕ) (how : End) (saves : Result (Unit {0}) SaveError) → how ≡ end_unsaved ended (save.Failed path) → how ≡ end.Done → saves ≡ Ok tt
-not_done tool.Done path how saves is done = cc
-not_done tool.LinkFault path how saves is done = cc
-not_done tool.TooLong path how saves is done = cc
-not_done tool.TermFault path how saves is done = cc
-not_done tool.ChildFault path how saves is done = cc
-not_done tool.OutOfMemory path how saves is done = cc
-not_done (tool.FilesFault fault) path how saves is done = cc
+saved_then : (ended : ToolEnd) (given : Result (Unit {0}) SaveError) → end_by ended given ≡ end.Done → given ≡ Ok tt
+saved_then ended (Ok done) is = refl
+saved_then tool.Done (Err (save.Failed path)) is = cc
+saved_then tool.LinkFault (Err (save.Failed path)) is = cc
+saved_then tool.TooLong (Err (save.Failed path)) is = cc
+saved_then tool.TermFault (Err (save.Failed path)) is = cc
+saved_then tool.ChildFault (Err (save.Failed path)) is = cc
+saved_then tool.OutOfMemory (Err (save.Failed path)) is = cc
+saved_then (tool.FilesFault fault) (Err (save.Failed path)) is = cc
+saved_then tool.Done (Err save.OutOfMemory) is = cc
+saved_then tool.LinkFault (Err save.OutOfMemory) is = cc
+saved_then tool.TooLong (Err save.OutOfMemory) is = cc
+saved_then tool.TermFault (Err save.OutOfMemory) is = cc
+saved_then tool.ChildFault (Err save.OutOfMemory) is = cc
+saved_then tool.OutOfMemory (Err save.OutOfMemory) is = cc
+saved_then (tool.FilesFault fault) (Err save.OutOfMemory) is = cc
 
-no_memory : (how : End) (saves : Result (Unit {0}) SaveError) → how ≡ end.OutOfMemory → how ≡ end.Done → saves ≡ Ok tt
-no_memory how saves is done = cc
+module _ (left new : Stock) (last : List Save) (how : End) (ended : ToolEnd) where
+  -- what is said of the layers that are saved is said of each save
+  pub each_save : (Of : List LayerState → Type 0) (saves : Bool) → Commits saves ended left new last how → (saves ≡ true → Of left.used) → AllByRecursion (λ save. Of save.layers) last
+  each_save Of true has of = subst (AllByRecursion (λ (save : Save). Of save.layers)) (sym has.saves_are) (of refl, tt)
+  each_save Of false has of = subst (AllByRecursion (λ (save : Save). Of save.layers)) (sym has.saves_are) tt
 
-module _ (layers used : List LayerState) (files new : FilesState) (ended : ToolEnd) (how : End) where
-  saved_by : IsSaved layers used files new ended how ⊎ IsUnsaved layers used files new ended how ⊎ IsWithoutMemory layers used files new how → HasSaved (images_of layers) files.told new.told how
-  saved_by (inl all) = record { saves = Ok tt; did = all.files_are; all_done = λ done. refl }
-  saved_by (inr (inl failed)) = record { saves = Err (save.Failed failed.path); did = failed.failed; all_done = not_done ended failed.path how (Err (save.Failed failed.path)) failed.end_is }
-  saved_by (inr (inr memory)) = record { saves = Err save.OutOfMemory; did = memory.ran_out; all_done = no_memory how (Err save.OutOfMemory) memory.end_is }
+  -- where the round did all, its save is done
+  pub all_saved_then : (saves : Bool) → Commits saves ended left new last how → how ≡ end.Done → AllDone last
+  all_saved_then true has done = subst AllDone (sym has.saves_are) (saved_then ended has.answer (sym has.end_is ∙ done), tt)
+  all_saved_then false has done = subst AllDone (sym has.saves_are) tt
 
 -- ---- the program is waited for
 
@@ -447,100 +461,32 @@ waited_done end.TermFault is = is
 waited_done end.ChildFault is = is
 waited_done end.TooLong is = is
 
-done_before : (started : Bool) (mid now : ChildState) (how ended : End) (status left : ℕ) → Awaits started mid now how ended status left → ended ≡ end.Done → how ≡ end.Done
+pub done_before : (started : Bool) (mid now : LinkState) (how ended : End) (status left : ℕ) → Awaits started mid now how ended status left → ended ≡ end.Done → how ≡ end.Done
 done_before true mid now how ended status left (inl done) is = sym done.end_is ∙ is
 done_before true mid now how ended status left (inr failed) is = waited_done how (sym failed.end_is ∙ is)
 done_before false mid now how ended status left none is = sym none.end_is ∙ is
 
-saved_before : (images : List Image) (files new : Told) (how ended : End) → (ended ≡ end.Done → how ≡ end.Done) → HasSaved images files new how → HasSaved images files new ended
-saved_before images files new how ended before save = record { saves = save.saves; did = save.did; all_done = λ done. save.all_done (before done) }
+-- ---- the layers that are saved are of the configuration
 
--- ---- the whole run
-
-module _ (path : List ℕ) (how : End) (before after : Disk) (durable : IsDurable before.current) where
-  none_saved : after ≡ before → KeepsDatabases path before after how
-  none_saved same = subst (λ (disk : Disk). KeepsDatabases path before disk how) (sym same) (record {
-    images = [];
-    are_of = inl refl;
-    keeps = keeps_paths [] before before tt durable (none_more (MayAddAny []) before);
-    saves = Ok tt;
-    ends = refl;
-    all_done = λ done. refl;
-    stands = λ ok. stand_saved [] before.current tt;
-  })
-
-  module _ (conf : Configuration) (is : IsConfiguration (Some before) path conf) (layers : List LayerState) (specs : specs_in layers ≡ set_for (databases_of conf)) where
-    apart : AreApart (images_of layers)
+module _ (disk : Option Disk) (path : List ℕ) (conf : Configuration) (is : IsConfiguration disk path conf) (layers : List LayerState) (specs : specs_in layers ≡ set_for (databases_of conf)) where
+  pub of_configuration : AreOfConfiguration disk path layers
+  of_configuration = record {
+    conf = conf;
+    conf_is = is;
+    are_of = layers_of layers (databases_of conf) (set_up_for layers (databases_of conf) specs);
     apart = places_apart (databases_of conf) (images_of layers) (fit_kept conf (roots conf) (sound_answer is.text conf is.reads))
-        (places_kept_apart conf (roots conf) (sound_answer is.text conf is.reads)) (layers_of layers (databases_of conf) (set_up_for layers (databases_of conf) specs))
+        (places_kept_apart conf (roots conf) (sound_answer is.text conf is.reads)) (layers_of layers (databases_of conf) (set_up_for layers (databases_of conf) specs));
+  }
 
-    all_stand : after.current ≡ all_saved before.current (images_of layers) → StandSaved (images_of layers) before.current after.current
-    all_stand same = subst (StandSaved (images_of layers) before.current) (sym same) (stand_saved (images_of layers) before.current apart)
+-- ---- one save
 
-    some_saved : (files new : Told) → files.disk ≡ Some before → new.disk ≡ Some after → HasSaved (images_of layers) files new how → KeepsDatabases path before after how
-    some_saved files new at to save = record {
-      images = images_of layers;
-      are_of = inr (record { conf = conf; conf_is = is; are_of = layers_of layers (databases_of conf) (set_up_for layers (databases_of conf) specs) });
-      keeps = keeps_paths (images_of layers) before after apart durable (every_moment (images_of layers) files new save.saves save.did before after at to durable);
-      saves = save.saves;
-      ends = ends (images_of layers) files new save.saves save.did before after at to durable;
-      all_done = save.all_done;
-      stands = λ ok. all_stand (subst (λ (saves : Result (Unit {0}) SaveError). Ends (images_of layers) before.current after.current saves) ok (ends (images_of layers) files new save.saves save.did before after at to durable));
+-- where its images are apart, today's sentence follows
+pub kept_by_one : (save : Save) (before after : Disk) → AreSaves (Some before) (save ∷ []) (Some after) → AreApart (images_of save.layers) → IsDurable before.current → KeepsEachPath (images_of save.layers) before after save.answer
+kept_by_one save before after are apart durable =
+    let images = images_of save.layers in
+    let finish : Ends images before.current after.current save.answer = ends images save.before.view save.after.view save.answer are.1.saves before after are.0 (sym are.3) durable in
+    record {
+      keeps = keeps_paths images before after apart durable (every_moment images save.before.view save.after.view save.answer are.1.saves before after are.0 (sym are.3) durable);
+      ends = finish;
+      stands = λ ok. subst (StandSaved images before.current) (sym (subst (Ends images before.current after.current) ok finish)) (stand_saved images before.current apart);
     }
-
-module _ (settings : Settings) (old new : World) (outcome : Outcome) (before after : Disk) (at : old.stock.files.told.disk ≡ Some before) (to : new.stock.files.told.disk ≡ Some after) (durable : IsDurable before.current) where
-  nothing_done : new.stock.files.told.disk ≡ old.stock.files.told.disk → KeepsDatabases settings.conf_path before after outcome.end
-  nothing_done same = none_saved settings.conf_path outcome.end before after durable (same_some after before (sym to ∙ same ∙ at))
-
-  module _ (used : Tool) (run : HasUsed used settings old new outcome) where
-    keeps : KeepsAll (begun used run.mid run.roots settings old.links.io) run.answer.ended run.layers run.files
-    keeps = tool_keeps used (begun used run.mid run.roots settings old.links.io) old.links run.links run.answer run.told run.layers run.files run.uses
-
-    files_at : run.files.told.disk ≡ Some before
-    files_at = keeps.disk ∙ all_read _ _ _ _ _ _ _ _ run.started.loaded.loads ∙ at
-
-    mid_specs : specs_in run.mid.used ≡ set_for (databases_of run.started.conf)
-    mid_specs = loads_keep _ _ _ _ _ _ _ _ run.started.loaded.loads ∙ set_up_specs (databases_of run.started.conf)
-
-    specs_left : IsEnded run.answer.ended → specs_in run.layers ≡ set_for (databases_of run.started.conf)
-    specs_left is = keeps.specs is ∙ mid_specs
-
-    kept_by : HasSaved (images_of run.layers) run.files.told new.stock.files.told outcome.end → specs_in run.layers ≡ set_for (databases_of run.started.conf) → KeepsDatabases settings.conf_path before after outcome.end
-    kept_by save specs =
-        some_saved settings.conf_path outcome.end before after durable run.started.conf (subst (λ (disk : Option Disk). IsConfiguration disk settings.conf_path run.started.conf) at run.started.loaded.conf_is)
-        run.layers specs run.files.told new.stock.files.told files_at to save
-
-    none_by : new.stock.files ≡ run.files → KeepsDatabases settings.conf_path before after outcome.end
-    none_by same = none_saved settings.conf_path outcome.end before after durable (same_some after before (sym to ∙ ap (λ (files : FilesState). files.told.disk) same ∙ files_at))
-
-    saved_at : (ended : ToolEnd) → IsSaved run.layers new.stock.used run.files new.stock.files ended run.how ⊎ IsUnsaved run.layers new.stock.used run.files new.stock.files ended run.how ⊎ IsWithoutMemory run.layers new.stock.used run.files new.stock.files run.how
-        → HasSaved (images_of run.layers) run.files.told new.stock.files.told outcome.end
-    saved_at ended does =
-        saved_before (images_of run.layers) run.files.told new.stock.files.told run.how outcome.end
-        (done_before run.answer.is_started run.links.child new.links.child run.how outcome.end run.answer.status run.status run.awaits)
-        (saved_by run.layers new.stock.used run.files new.stock.files ended run.how does)
-
-    finished : (ended : ToolEnd) → (IsEnded ended → specs_in run.layers ≡ set_for (databases_of run.started.conf)) → Finishes run.layers new.stock.used ended run.files new.stock.files run.how
-        → KeepsDatabases settings.conf_path before after outcome.end
-    finished tool.Done specs does = kept_by (saved_at tool.Done does) (specs tt)
-    finished tool.LinkFault specs does = kept_by (saved_at tool.LinkFault does) (specs tt)
-    finished tool.TooLong specs does = kept_by (saved_at tool.TooLong does) (specs tt)
-    finished tool.TermFault specs does = none_by does.files_are
-    finished tool.ChildFault specs does = none_by does.files_are
-    finished tool.OutOfMemory specs does = none_by does.files_are
-    finished (tool.FilesFault fault) specs does = none_by does.files_are
-
-  tool_by : (used : Tool) → HasRunTool used settings old new outcome → KeepsDatabases settings.conf_path before after outcome.end
-  tool_by used (inl ends) = nothing_done (before_reads settings.conf_path old.stock.files new.stock outcome.end ends.0)
-  tool_by used (inr worked) =
-      let run = as_used used settings old new outcome worked in
-      finished used run run.answer.ended (specs_left used run) run.finishes
-
--- a run of a tool
-pub run_keeps : (used : Tool) (settings : Settings) (old new : World) (outcome : Outcome) (before after : Disk) → HasRunTool used settings old new outcome → old.stock.files.told.disk ≡ Some before
-    → new.stock.files.told.disk ≡ Some after → IsDurable before.current → KeepsDatabases settings.conf_path before after outcome.end
-run_keeps used settings old new outcome before after run at to durable = tool_by settings old new outcome before after at to durable used run
-
--- a run that did nothing on the files
-pub nothing_kept : (path : List ℕ) (how : End) (before after : Disk) (disk : Option Disk) → disk ≡ Some before → disk ≡ Some after → IsDurable before.current → KeepsDatabases path before after how
-nothing_kept path how before after disk at to durable = none_saved path how before after durable (same_some after before (sym to ∙ at))

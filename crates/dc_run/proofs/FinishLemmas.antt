@@ -5,7 +5,7 @@ use Rattle.dc_layer.specs.State.{LayerState, saved}
 use Rattle.dc_save.specs.Saving.{Saves, SaveCounts}
 use Rattle.dc_save.specs.declared.saving.SaveError.{SaveError}
 use Rattle.dc_save.specs.declared.saving.SaveError.TheVariants as save
-use Rattle.dc_session.specs.SessionState.{FilesState}
+use Rattle.dc_outside.specs.State.{FilesState}
 use Rattle.dc_run.specs.declared.outcome.ToolEnd.{ToolEnd}
 use Rattle.dc_run.specs.declared.outcome.ToolEnd.TheVariants as tool
 use Rattle.dc_run.specs.Ends.{end_by, IsEnded}
@@ -13,7 +13,7 @@ use Rattle.dc_run.specs.Finishing.{IsSaved, IsUnsaved, IsWithoutMemory, Finishes
 
 module _ (layers used : List LayerState) (files new : FilesState) where
   -- what the save did is one of three
-  save_ends : (ended : ToolEnd) → IsEnded ended → (result : Result (Unit {0}) SaveError) → Saves (images_of layers) files.told new.told result → SaveCounts files.told new.told result files.counts new.counts
+  save_ends : (ended : ToolEnd) → IsEnded ended → (result : Result (Unit {0}) SaveError) → Saves (images_of layers) files.view new.view result → SaveCounts files.view new.view result files.counts new.counts
       → MatchResult result (λ _. used ≡ each saved layers) (λ _. used ≡ layers)
       → IsSaved layers used files new ended (end_by ended result) ⊎ IsUnsaved layers used files new ended (end_by ended result) ⊎ IsWithoutMemory layers used files new (end_by ended result)
   save_ends ended at (Ok done) saves counts are = inl (record { end_is = refl; files_are = saves; counts = counts; used_are = are })
@@ -27,7 +27,7 @@ module _ (layers used : List LayerState) (files new : FilesState) where
   save_ends (tool.FilesFault path) at (Err save.OutOfMemory) saves counts are = absurd at
 
   -- the tool had ended, and the images were saved or not
-  pub finished : (ended : ToolEnd) → IsEnded ended → (result : Result (Unit {0}) SaveError) → Saves (images_of layers) files.told new.told result → SaveCounts files.told new.told result files.counts new.counts
+  pub finished : (ended : ToolEnd) → IsEnded ended → (result : Result (Unit {0}) SaveError) → Saves (images_of layers) files.view new.view result → SaveCounts files.view new.view result files.counts new.counts
       → MatchResult result (λ _. used ≡ each saved layers) (λ _. used ≡ layers) → Finishes layers used ended files new (end_by ended result)
   finished tool.Done at result saves counts are = save_ends tool.Done at result saves counts are
   finished tool.LinkFault at result saves counts are = save_ends tool.LinkFault at result saves counts are

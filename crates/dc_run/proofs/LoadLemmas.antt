@@ -6,16 +6,16 @@ use Rattle.dc_store.specs.Plans.{StoreState}
 use Rattle.dc_question.specs.Ownership.{loaded}
 use Rattle.dc_question.specs.declared.errors.QuestionError.{QuestionError}
 use Rattle.dc_session.specs.FileLoading.{LoadsFile, file_end, end_by}
-use Rattle.dc_session.specs.SessionState.{FilesState, SessionState}
+use Rattle.dc_outside.specs.State.{FilesState, LinkState}
+use Rattle.dc_session.specs.SessionState.{SessionState}
 use Rattle.dc_session.specs.TemplateFiles.{Finds}
 use Rattle.dc_session.specs.declared.template_files.Found.{Found}
 use Rattle.dc_session.specs.declared.template_files.Found.TheVariants.{Unreadable, Missing, Faulty, Templates}
 use Rattle.dc_session.specs.declared.template_loading.FileEnd.{FileEnd}
 use Rattle.dc_session.specs.declared.template_loading.FileEnd.TheVariants as file
-use Rattle.dc_run.specs.EndLines.{HasSaidOn}
+use Rattle.dc_run.specs.EndLines.{HasSaid}
 use Rattle.dc_run.specs.Inside.{end_text, is_unread, told_line, GoesThrough, LoadsOne, LoadsFiles, HasLoadedOver, status_by}
 use Rattle.dc_run.specs.TemplateLoading.{refused_by, refusal_of, FileTurn, IsFileCourse, state_after, lines_of, refuses, EndsAt, HasLoadedFiles}
-use Rattle.dc_run.specs.World.{LinkState}
 use Rattle.dc_run.specs.declared.loading_templates.FilesLoaded.{FilesLoaded}
 use Rattle.dc_run.specs.declared.outcome.ToolAnswer.{ToolAnswer}
 use Rattle.dc_run.specs.declared.outcome.ToolEnd.{ToolEnd}
@@ -60,14 +60,14 @@ module _ (start left : SessionState) (path : List ℕ) (ended : FileEnd) (does :
   text_is : end_text path ended ≡ refusal_of start path does.found
   text_is = ap (end_text path) does.ended_is ∙ text_same start path does.found
 
-  pub gone_through : (old new : LinkState) (refused : Bool) → is_unread ended ≡ false → refused ≡ is_some (end_text [] ended) → HasSaidOn (told_line (end_text path ended)) old new → GoesThrough start path old new refused left
+  pub gone_through : (old new : LinkState) (refused : Bool) → is_unread ended ≡ false → refused ≡ is_some (end_text [] ended) → HasSaid (told_line (end_text path ended)) old new → GoesThrough start path old new refused left
   gone_through old new refused here is told = record {
     turn = record { path = path; found = does.found; new = left };
     path_is = refl;
     left_is = refl;
     taken = record { finds = does.finds; readable = readable here; new_is = does.new_is };
     refused_is = is ∙ refused_same path ended ∙ ap is_some text_is;
-    said = subst (λ (text : Option (List ℕ)). HasSaidOn (told_line text) old new) text_is told;
+    said = subst (λ (text : Option (List ℕ)). HasSaid (told_line text) old new) text_is told;
   }
 
   -- the tool ends at a file that can't be read
@@ -87,7 +87,7 @@ module _ (start : SessionState) where
   none_loaded [] old short = record {
     said = [];
     loads = record { turns = []; rest = []; paths_are = refl; course = tt; ends = (refl, refl); said_is = refl; status_is = refl };
-    telling = none_said old.talk old.counts;
+    telling = none_said old;
   }
   none_loaded (path ∷ paths) old short = absurd (omega arith)
 
@@ -105,7 +105,7 @@ module _ (start : SessionState) where
       said_is = refl;
       status_is = refl;
     };
-    telling = subst (λ (l : LinkState). HasSaidOn [] old l) (sym one.1) (none_said old.talk old.counts);
+    telling = subst (λ (l : LinkState). HasSaid [] old l) (sym one.1) (none_said old);
   }
 
   joined : (a b d : Bool) → status_by b ≡ cond d 1 0 → status_by (a || b) ≡ cond (a || d) 1 0
@@ -132,7 +132,7 @@ module _ (start : SessionState) where
               ap status_by joins ∙ joined refused later.refused (refuses turn.new turns) (more.loads.status_is ∙ ap (λ (s : SessionState). cond (refuses s turns) 1 0) gone.left_is)
               ∙ ap (λ (r : Bool). cond (r || refuses turn.new turns) 1 0) (gone.refused_is ∙ ap (λ (p : List ℕ). is_some (refusal_of start p turn.found)) (sym gone.path_is));
         };
-        telling = said_then (told_line (refusal_of start path turn.found)) more.said old.talk mid.talk new.talk old.counts mid.counts new.counts gone.said more.telling;
+        telling = said_then (told_line (refusal_of start path turn.found)) more.said old mid new gone.said more.telling;
       }
 
 -- ---- the files so far, and those that are left

@@ -1,11 +1,11 @@
 -- A run of one job is one round, and what is said of it at once.
-use Rattle.std.proofs.Common.{◌≡◌, ℕ, Bool, true, false, List, [], ◌∷◌, ◌++◌, refl, sym, ap, subst, ◌∙◌, max, arith, map as each}
+use Rattle.std.proofs.Common.{◌≡◌, ◌≢◌, ℕ, Bool, true, false, List, [], ◌∷◌, ◌++◌, refl, sym, ap, subst, ◌∙◌, max, arith, map as each}
 use Rattle.std.specs.Prelude.{Result, Ok, Err, MatchResult}
 use Rattle.std.proofs.lemmas.List.{append-nil}
 use Rattle.dc_layer.specs.State.{LayerState, saved}
 use Rattle.dc_save.specs.Saving.{Saves, SaveCounts}
 use Rattle.dc_save.specs.declared.saving.SaveError.{SaveError}
-use Rattle.dc_session.specs.SessionState.{FilesState}
+use Rattle.dc_outside.specs.State.{FilesState, LinkState}
 use Rattle.dc_run.specs.declared.outcome.End.{End}
 use Rattle.dc_run.specs.declared.outcome.End.TheVariants.{Done}
 use Rattle.dc_run.specs.declared.outcome.Outcome.{Outcome}
@@ -15,12 +15,12 @@ use Rattle.dc_run.specs.declared.outcome.ToolEnd.TheVariants as tool
 use Rattle.dc_run.specs.declared.settings.Settings.{Settings}
 use Rattle.dc_run.specs.declared.starting.Roots.{Roots}
 use Rattle.dc_cli.specs.declared.tool.Tool.{Tool}
-use Rattle.dc_run.specs.EndLines.{end_line, HasSaidOn}
+use Rattle.dc_run.specs.EndLines.{end_line, HasSaid}
 use Rattle.dc_run.specs.Ends.{status_of, end_by, comes_to_save}
 use Rattle.dc_run.specs.Finishing.{Finishes}
 use Rattle.dc_run.specs.Headline.{HasWorked}
 use Rattle.dc_run.specs.OneRound.{HasUsed}
-use Rattle.dc_run.specs.Rounds.{Job, Whole, RunState, Round, HasDone, Works, IsRound, AreRounds, HaveRounds, is_saved_at, report, status_by, jobs_done, state_after, end_after, status_in, saves_of}
+use Rattle.dc_run.specs.Rounds.{Job, Whole, RunState, Round, HasDone, Works, IsRound, AreRounds, HaveRounds, IsOneRound, is_saved_at, report, status_by, jobs_done, state_after, end_after, status_in, saves_of}
 use Rattle.dc_run.specs.Running.{Awaits}
 use Rattle.dc_run.specs.Saves.{Save, HasSaved, HasNotSaved, Commits, kept_by}
 use Rattle.dc_run.specs.Starting.{HasStarted}
@@ -33,8 +33,8 @@ most_none n = omega arith
 
 -- ---- the save
 
-pub committed : (saves : Bool) (ended : ToolEnd) (how : End) (left new : Stock) (given : Result (Unit {0}) SaveError) → saves ≡ true → Saves (Rattle.dc_run.specs.Finishing.images_of left.used) left.files.told new.files.told given
-    → SaveCounts left.files.told new.files.told given left.files.counts new.files.counts → MatchResult given (λ _. new.used ≡ each saved left.used) (λ _. new.used ≡ left.used) → how ≡ end_by ended given
+pub committed : (saves : Bool) (ended : ToolEnd) (how : End) (left new : Stock) (given : Result (Unit {0}) SaveError) → saves ≡ true → Saves (Rattle.dc_run.specs.Finishing.images_of left.used) left.files.view new.files.view given
+    → SaveCounts left.files.view new.files.view given left.files.counts new.files.counts → MatchResult given (λ _. new.used ≡ each saved left.used) (λ _. new.used ≡ left.used) → how ≡ end_by ended given
     → (last : List Save) × Commits saves ended left new last how
 committed false ended how left new given is saves counts marked end_is = absurd (cc)
 committed true ended how left new given is saves counts marked end_is = (
@@ -65,15 +65,6 @@ module _ (left new : Stock) (last : List Save) (how : End) where
   finishes (tool.FilesFault path) has = record { end_is = has.end_is; files_are = ap (λ (s : Stock). s.files) has.stays; used_are = ap (λ (s : Stock). s.used) has.stays }
 
 -- ---- one job has one round
-
-pub record IsOneRound (roots : Roots) (settings : Settings) (job : Job) (old new : RunState) (how : End) (status : ℕ) (saves : List Save) : Type 0 where
-  pub round : Round
-  pub job_is : round.job ≡ job
-  pub is : IsRound roots settings old round
-  pub new_is : new ≡ round.new
-  pub how_is : how ≡ round.how
-  pub status_is : status ≡ status_by job round.status
-  pub saves_are : saves ≡ round.inner ++ round.last
 
 no_job : (job : Job) (jobs : List Job) → job ∷ jobs ≡ [] → ⊥
 no_job job jobs e = absurd (cc)
@@ -120,13 +111,13 @@ module _ (used : Tool) (settings : Settings) (roots : Roots) (old : World) (mid 
     commits : Commits (comes_to_save given.ended) given.ended left.world.stock after.world.stock last finish
     commits = subst (λ (j : Job). Commits (is_saved_at j given.ended) given.ended left.world.stock after.world.stock last finish) job_is is.commits
 
-    told : HasSaidOn [] left.world.err after.world.err
-    told = subst (λ (j : Job). HasSaidOn (report j how status) left.world.err after.world.err) job_is is.told
+    told : HasSaid [] left.world.err after.world.err
+    told = subst (λ (j : Job). HasSaid (report j how status) left.world.err after.world.err) job_is is.told
 
-    pub used_once : (outcome : Outcome) (new : World) → HasStarted settings.conf_path old.stock.files mid roots → outcome.end ≡ how → HasSaidOn (end_line outcome.end) after.world.err new.err → new ≡ record after.world { err = new.err }
+    pub used_once : (outcome : Outcome) (new : World) → HasStarted settings.conf_path old.stock.files mid roots → outcome.end ≡ how → HasSaid (end_line outcome.end) after.world.err new.err → new ≡ record after.world { err = new.err }
         → outcome.last_code ≡ after.code → outcome.status ≡ status_of outcome.end status → HasUsed used settings old new outcome
     used_once outcome new started end_is said rest code_is status_is =
-        let behind = said_then [] (end_line outcome.end) left.world.err.talk after.world.err.talk new.err.talk left.world.err.counts after.world.err.counts new.err.counts told said in
+        let behind = said_then [] (end_line outcome.end) left.world.err after.world.err new.err told said in
         record {
           mid = mid;
           roots = roots;
@@ -142,21 +133,35 @@ module _ (used : Tool) (settings : Settings) (roots : Roots) (old : World) (mid 
           io_is = ap (λ (w : World). w.links.io) rest ∙ is.io_is;
           status = status;
           awaits = subst (λ (h : End). Awaits given.is_started left.world.links.child new.links.child finish h given.status status) (sym end_is)
-              (subst (λ (l : Rattle.dc_run.specs.World.ChildState). Awaits given.is_started left.world.links.child l finish how given.status status) (sym (ap (λ (w : World). w.links.child) rest)) is.awaits);
-          said = said_then works.told (end_line outcome.end) old.err.talk left.world.err.talk new.err.talk old.err.counts left.world.err.counts new.err.counts works.said behind;
+              (subst (λ (l : LinkState). Awaits given.is_started left.world.links.child l finish how given.status status) (sym (ap (λ (w : World). w.links.child) rest)) is.awaits);
+          said = said_then works.told (end_line outcome.end) old.err left.world.err new.err works.said behind;
           code_is = code_is ∙ is.code_is ∙ works.code_is;
           status_is = status_is;
         }
 
 -- a run of a tool is one round
-pub as_used : (used : Tool) (settings : Settings) (old new : World) (outcome : Outcome) → HasWorked used settings old new outcome → HasUsed used settings old new outcome
-as_used used settings old new outcome worked =
+pub as_used : (used : Tool) (settings : Settings) (old new : World) (outcome : Outcome) (saves : List Save) → HasWorked used settings old new outcome saves → HasUsed used settings old new outcome
+as_used used settings old new outcome saves worked =
     let start : RunState = record { world = worked.mid; code = 0 } in
-    let one = one_round worked.roots settings (Whole used) start worked.left outcome.end worked.status worked.saves worked.rounds in
+    let one = one_round worked.roots settings (Whole used) start worked.left outcome.end worked.status saves worked.rounds in
     let r = one.round in
     used_once used settings worked.roots old worked.mid.stock r.job r.answer r.left r.inner r.last r.finish r.status r.how r.new one.job_is
     (subst (λ (w : World). IsRound worked.roots settings (record { world = w; code = 0 }) r) worked.mid_is one.is) outcome new worked.started one.how_is
-    (subst (λ (s : RunState). HasSaidOn (end_line outcome.end) s.world.err new.err) one.new_is worked.said)
+    (subst (λ (s : RunState). HasSaid (end_line outcome.end) s.world.err new.err) one.new_is worked.said)
     (worked.rest_is ∙ ap (λ (s : RunState). record s.world { err = new.err }) one.new_is)
     (worked.code_is ∙ ap (λ (s : RunState). s.code) one.new_is)
     (worked.status_is ∙ ap (status_of outcome.end) one.status_is)
+
+-- ---- a round that didn't do all
+
+module _ (roots : Roots) (settings : Settings) (round : Round) (later : List Round) where
+  none_later : (before : List Round) (old : RunState) → AreRounds roots settings old (before ++ round ∷ later) → round.how ≢ Done → later ≡ []
+  none_later [] old are broken = are.1 broken
+  none_later (other ∷ before) old are broken = none_later before other.new are.2 broken
+
+  end_there : (before : List Round) (how : End) → later ≡ [] → end_after how (before ++ round ∷ later) ≡ round.how
+  end_there [] how none = ap (λ (l : List Round). end_after round.how l) none
+  end_there (other ∷ before) how none = end_there before other.how none
+
+  pub broken_last : (old : RunState) (before : List Round) → AreRounds roots settings old (before ++ round ∷ later) → round.how ≢ Done → (later ≡ []) × (end_after Done (before ++ round ∷ later) ≡ round.how)
+  broken_last old before are broken = (none_later before old are broken, end_there before Done (none_later before old are broken))

@@ -1,40 +1,106 @@
--- Nothing changes on the disk in a run but what its saves do.
-use Rattle.std.proofs.Common.{◌≡◌, Bool, true, false, List, ◌++◌, Option, refl, sym, ap, subst, ◌∙◌}
+-- Nothing changes on the disk in a run but what its saves do, and these save layers of its databases.
+use Rattle.std.proofs.Common.{◌≡◌, ◌⊎◌, inl, inr, ⊎_elim, Bool, true, false, List, [], ◌++◌, ℕ, Option, Some, refl, sym, ap, subst, ◌∙◌}
+use Rattle.std.specs.List.{AllByRecursion}
 use Rattle.dc_outside.specs.Disk.{Disk}
+use Rattle.dc_cli.specs.declared.tool.Tool.{Tool}
+use Rattle.dc_layer.specs.State.{LayerState}
+use Rattle.dc_outside.specs.State.{FilesState}
+use Rattle.dc_run.specs.Crashes.{AreOfConfiguration, KeepsDatabases}
+use Rattle.dc_run.specs.Ends.{comes_to_save}
+use Rattle.dc_run.specs.Headline.{HasWorked, HasRunTool, HasRunWords}
+use Rattle.dc_run.specs.Kills.{AllDone}
+use Rattle.dc_run.specs.Rounds.{Job, Whole, RunState, HasDone, IsOneRound, Works, is_saved_at}
+use Rattle.dc_run.specs.Saves.{Save, AreSaves, Commits}
+use Rattle.dc_run.specs.Starting.{begun, databases_of}
+use Rattle.dc_run.specs.World.{Stock, World}
 use Rattle.dc_run.specs.declared.outcome.End.{End}
+use Rattle.dc_run.specs.declared.outcome.End.TheVariants as end
 use Rattle.dc_run.specs.declared.outcome.Outcome.{Outcome}
 use Rattle.dc_run.specs.declared.outcome.ToolEnd.{ToolEnd}
 use Rattle.dc_run.specs.declared.settings.Settings.{Settings}
-use Rattle.dc_run.specs.declared.starting.Roots.{Roots}
-use Rattle.dc_cli.specs.declared.tool.Tool.{Tool}
-use Rattle.dc_run.specs.Headline.{HasWorked}
-use Rattle.dc_run.specs.Rounds.{Job, Whole, RunState, Round, HasDone, Works, IsRound, is_saved_at}
-use Rattle.dc_run.specs.Saves.{Save, AreSaves, Commits}
-use Rattle.dc_run.specs.Starting.{begun}
-use Rattle.dc_run.specs.World.{Stock, World}
-use Rattle.dc_run.proofs.CrashLemmas.{all_read, tool_keeps}
+use Rattle.dc_run.proofs.CrashLemmas.{KeepsAll, all_read, before_reads, loads_keep, set_up_specs, set_for, specs_in, tool_keeps, ended_then, each_save, all_saved_then, done_before, of_configuration}
+use Rattle.dc_run.proofs.Kills.{keeps_saves}
 use Rattle.dc_run.proofs.RoundLemmas.{one_round}
 
-saved_between : (saves : Bool) (ended : ToolEnd) (left new : Stock) (last : List Save) (how : End) → Commits saves ended left new last how → AreSaves left.files.told.disk last new.files.told.disk
-saved_between true ended left new last how has = subst (λ (l : List Save). AreSaves left.files.told.disk l new.files.told.disk) (sym has.saves_are) (refl, has.is, (λ failed. refl), refl)
-saved_between false ended left new last how has = subst (λ (l : List Save). AreSaves left.files.told.disk l new.files.told.disk) (sym has.saves_are) (ap (λ (s : Stock). s.files.told.disk) has.stays)
+saved_between : (saves : Bool) (ended : ToolEnd) (left new : Stock) (last : List Save) (how : End) → Commits saves ended left new last how → AreSaves left.files.view.disk last new.files.view.disk
+saved_between true ended left new last how has = subst (λ (l : List Save). AreSaves left.files.view.disk l new.files.view.disk) (sym has.saves_are) (refl, has.is, (λ failed. refl), refl)
+saved_between false ended left new last how has = subst (λ (l : List Save). AreSaves left.files.view.disk l new.files.view.disk) (sym has.saves_are) (ap (λ (s : Stock). s.files.view.disk) has.stays)
 
--- what the tool did in its round, and its save
-round_saves : (used : Tool) (settings : Settings) (roots : Roots) (start : RunState) (round : Round) → round.job ≡ Whole used → IsRound roots settings start round
-    → AreSaves start.world.stock.files.told.disk (round.inner ++ round.last) round.new.world.stock.files.told.disk
-round_saves used settings roots start round job_is is =
-    let works : HasDone used roots settings start round.left round.answer round.inner = subst (λ (j : Job). Works j roots settings start round.left round.answer round.inner) job_is is.works in
-    let kept = tool_keeps used (begun used start.world.stock roots settings start.world.links.io) start.world.links round.left.world.links round.answer works.told round.left.world.stock.used round.left.world.stock.files works.uses in
-    subst (λ (l : List Save). AreSaves start.world.stock.files.told.disk (l ++ round.last) round.new.world.stock.files.told.disk) (sym works.saves_are)
-    (subst (λ (d : Option Disk). AreSaves d round.last round.new.world.stock.files.told.disk) kept.disk
-    (saved_between (is_saved_at round.job round.answer.ended) round.answer.ended round.left.world.stock round.new.world.stock round.last round.finish is.commits))
+-- what is killed is said by the saves
+keeps_by : (path : List ℕ) (old new : FilesState) (how : End) (saves : List Save) → AreSaves old.view.disk saves new.view.disk → AllByRecursion (λ save. AreOfConfiguration old.view.disk path save.layers) saves
+    → (how ≡ end.Done → AllDone saves) → KeepsDatabases path old new how saves
+keeps_by path old new how saves are of done = record {
+  are_saves = are;
+  are_of = of;
+  killed = λ before after at to durable.
+      keeps_saves saves before after (subst (λ (d : Option Disk). AreSaves (Some before) saves d) to (subst (λ (d : Option Disk). AreSaves d saves new.view.disk) at are)) durable;
+  all_done = done;
+}
 
--- nothing changed on the disk but what the saves of the run did
-pub run_saves : (used : Tool) (settings : Settings) (old new : World) (outcome : Outcome) (worked : HasWorked used settings old new outcome) → AreSaves old.stock.files.told.disk worked.saves new.stock.files.told.disk
-run_saves used settings old new outcome worked =
-    let start : RunState = record { world = worked.mid; code = 0 } in
-    let one = one_round worked.roots settings (Whole used) start worked.left outcome.end worked.status worked.saves worked.rounds in
-    subst (λ (d : Option Disk). AreSaves d worked.saves new.stock.files.told.disk) (all_read _ _ _ _ _ _ _ _ worked.started.loaded.loads)
-    (subst (λ (l : List Save). AreSaves worked.mid.stock.files.told.disk l new.stock.files.told.disk) (sym one.saves_are)
-    (subst (λ (w : World). AreSaves worked.mid.stock.files.told.disk (one.round.inner ++ one.round.last) w.stock.files.told.disk) (sym (worked.rest_is ∙ ap (λ (s : RunState). record s.world { err = new.err }) one.new_is))
-    (round_saves used settings worked.roots start one.round one.job_is one.is)))
+-- no save was begun, and the disk is as it was
+none_kept : (path : List ℕ) (old new : FilesState) (how : End) (saves : List Save) → saves ≡ [] → new.view.disk ≡ old.view.disk → KeepsDatabases path old new how saves
+none_kept path old new how saves none same = subst (KeepsDatabases path old new how) (sym none) (keeps_by path old new how [] same tt (λ done. tt))
+
+-- ---- the tool's one round
+
+module _ (used : Tool) (settings : Settings) (old new : World) (outcome : Outcome) (saves : List Save) (worked : HasWorked used settings old new outcome saves) where
+  abbrev start : RunState
+  start = record { world = worked.mid; code = 0 }
+
+  one : IsOneRound worked.roots settings (Whole used) start worked.left outcome.end worked.status saves
+  one = one_round worked.roots settings (Whole used) start worked.left outcome.end worked.status saves worked.rounds
+
+  works : HasDone used worked.roots settings start one.round.left one.round.answer one.round.inner
+  works = subst (λ (j : Job). Works j worked.roots settings start one.round.left one.round.answer one.round.inner) one.job_is one.is.works
+
+  commits : Commits (comes_to_save one.round.answer.ended) one.round.answer.ended one.round.left.world.stock one.round.new.world.stock one.round.last one.round.finish
+  commits = subst (λ (j : Job). Commits (is_saved_at j one.round.answer.ended) one.round.answer.ended one.round.left.world.stock one.round.new.world.stock one.round.last one.round.finish) one.job_is one.is.commits
+
+  saves_are : saves ≡ one.round.last
+  saves_are = one.saves_are ∙ ap (λ (l : List Save). l ++ one.round.last) works.saves_are
+
+  keeps : KeepsAll (begun used worked.mid.stock worked.roots settings worked.mid.links.io) one.round.answer.ended one.round.left.world.stock.used one.round.left.world.stock.files
+  keeps = tool_keeps used (begun used worked.mid.stock worked.roots settings worked.mid.links.io) worked.mid.links one.round.left.world.links one.round.answer works.told one.round.left.world.stock.used one.round.left.world.stock.files works.uses
+
+  stock_is : new.stock ≡ one.round.new.world.stock
+  stock_is = ap (λ (w : World). w.stock) (worked.rest_is ∙ ap (λ (s : RunState). record s.world { err = new.err }) one.new_is)
+
+  pub run_saves : AreSaves old.stock.files.view.disk saves new.stock.files.view.disk
+  run_saves =
+      subst (λ (d : Option Disk). AreSaves d saves new.stock.files.view.disk) (all_read _ _ _ _ _ _ _ _ worked.started.loaded.loads)
+      (subst (λ (l : List Save). AreSaves worked.mid.stock.files.view.disk l new.stock.files.view.disk) (sym saves_are)
+      (subst (λ (s : Stock). AreSaves worked.mid.stock.files.view.disk one.round.last s.files.view.disk) (sym stock_is)
+      (subst (λ (d : Option Disk). AreSaves d one.round.last one.round.new.world.stock.files.view.disk) keeps.disk
+      (saved_between (comes_to_save one.round.answer.ended) one.round.answer.ended one.round.left.world.stock one.round.new.world.stock one.round.last one.round.finish commits))))
+
+  specs : comes_to_save one.round.answer.ended ≡ true → specs_in one.round.left.world.stock.used ≡ set_for (databases_of worked.started.conf)
+  specs is = keeps.specs (ended_then one.round.answer.ended is) ∙ loads_keep _ _ _ _ _ _ _ _ worked.started.loaded.loads ∙ set_up_specs (databases_of worked.started.conf)
+
+  saves_of_databases : AllByRecursion (λ save. AreOfConfiguration old.stock.files.view.disk settings.conf_path save.layers) saves
+  saves_of_databases = subst (AllByRecursion (λ (save : Save). AreOfConfiguration old.stock.files.view.disk settings.conf_path save.layers)) (sym saves_are)
+      (each_save one.round.left.world.stock one.round.new.world.stock one.round.last one.round.finish one.round.answer.ended (AreOfConfiguration old.stock.files.view.disk settings.conf_path) (comes_to_save one.round.answer.ended) commits
+      (λ is. of_configuration old.stock.files.view.disk settings.conf_path worked.started.conf worked.started.loaded.conf_is one.round.left.world.stock.used (specs is)))
+
+  saves_done : outcome.end ≡ end.Done → AllDone saves
+  saves_done done = subst AllDone (sym saves_are)
+      (all_saved_then one.round.left.world.stock one.round.new.world.stock one.round.last one.round.finish one.round.answer.ended (comes_to_save one.round.answer.ended) commits
+      (done_before one.round.answer.is_started one.round.left.world.links.child one.round.new.world.links.child one.round.finish one.round.how one.round.answer.status one.round.status one.is.awaits (sym one.how_is ∙ done)))
+
+  worked_keeps : KeepsDatabases settings.conf_path old.stock.files new.stock.files outcome.end saves
+  worked_keeps = keeps_by settings.conf_path old.stock.files new.stock.files outcome.end saves run_saves saves_of_databases saves_done
+
+-- ---- the whole run
+
+-- a run of a tool
+pub run_keeps : (used : Tool) (settings : Settings) (old new : World) (outcome : Outcome) (saves : List Save) → HasRunTool used settings old new outcome saves → KeepsDatabases settings.conf_path old.stock.files new.stock.files outcome.end saves
+run_keeps used settings old new outcome saves (inl ends) = none_kept settings.conf_path old.stock.files new.stock.files outcome.end saves ends.2 (before_reads settings.conf_path old.stock.files new.stock outcome.end ends.0)
+run_keeps used settings old new outcome saves (inr worked) = worked_keeps used settings old new outcome saves worked
+
+-- a run with these words
+pub words_keep : (words : List (List ℕ)) (settings : Settings) (old new : World) (outcome : Outcome) (saves : List Save) → HasRunWords words settings old new outcome saves → KeepsDatabases settings.conf_path old.stock.files new.stock.files outcome.end saves
+words_keep words settings old new outcome saves (inl refused) = none_kept settings.conf_path old.stock.files new.stock.files outcome.end saves refused.1 (ap (λ (s : Stock). s.files.view.disk) refused.0.untouched)
+words_keep words settings old new outcome saves (inr ran) = run_keeps ran.0 settings old new outcome saves ran.2
+
+-- the saves alone changed the disk
+pub tool_saves : (used : Tool) (settings : Settings) (old new : World) (outcome : Outcome) (saves : List Save) → HasRunTool used settings old new outcome saves → AreSaves old.stock.files.view.disk saves new.stock.files.view.disk
+tool_saves used settings old new outcome saves ran = (run_keeps used settings old new outcome saves ran).are_saves

@@ -1,41 +1,45 @@
 -- What is said in pieces, one after another.
 use Rattle.std.proofs.Common.{◌≡◌, ◌⊎◌, inl, inr, ℕ, ◌≤◌, List, [], ◌∷◌, ◌++◌, refl, ap, sym, subst, ◌∙◌, append_assoc, arith, Option, Result, Ok, Err}
+use Rattle.std.specs.List.{flat_map}
+use Rattle.std.proofs.lemmas.Grind.{flat_map-append}
 use Rattle.std.proofs.lemmas.List.{append-nil}
 use Rattle.dc_outside.proofs.Saying.{sent-append}
 use Rattle.dc_outside.specs.declared.link.LinkError.{LinkError}
 use Rattle.dc_outside.specs.declared.link.LinkError.TheVariants.{Failed, OutOfMemory}
 use Rattle.dc_outside.specs.declared.link.Piece.{Piece}
 use Rattle.dc_outside.specs.declared.link.Piece.TheVariants.{Sent, Cut}
-use Rattle.dc_outside.specs.Counts.{Rose, CountsFaults, CountsRefusals}
-use Rattle.dc_outside.specs.Talk.{then_pieces, got, sent, AddsWrite}
-use Rattle.dc_outside.specs.Told.{Counts}
+use Rattle.dc_outside.specs.Counts.{Counts, Rose}
+use Rattle.dc_outside.specs.LinkCalls.{Sends}
+use Rattle.dc_outside.specs.State.{LinkState}
+use Rattle.dc_outside.specs.Talk.{then_pieces, got, sent}
 use Rattle.dc_serve.proofs.Talks.{then_pieces-nil, then_pieces-then_pieces, got-append}
-use Rattle.dc_run.specs.EndLines.{HasRisen, HasSaid}
+use Rattle.dc_run.specs.EndLines.{HasRisen, IsSentInParts, HasSaid}
 
 rose_same : (count : ℕ) → count ≤ count
 rose_same count = omega arith
 
 -- what one write says
-pub written_said : (bytes : List ℕ) (old new : Option (List Piece)) (faults refusals faults_now refusals_now : ℕ) (result : Result (Unit {0}) LinkError)
-    → AddsWrite old new result bytes → CountsFaults faults faults_now result → CountsRefusals refusals refusals_now result
-    → HasSaid bytes old new (record { faults = faults; refusals = refusals }) (record { faults = faults_now; refusals = refusals_now })
-written_said bytes old new faults refusals faults_now refusals_now (Ok done) adds counted refused = record {
+pub written_said : (bytes : List ℕ) (old new : LinkState) (result : Result (Unit {0}) LinkError) → Sends bytes old new result → HasSaid bytes old new
+written_said bytes old new (Ok done) sends = record {
   pieces = Sent bytes ∷ [];
-  told_is = adds;
+  state = sends ∙ ap (λ (c : Counts). record old { talk = then_pieces old.talk (Sent bytes ∷ []); counts = c }) (sym (ap (λ (l : LinkState). l.counts) sends));
   none_got = refl;
-  whole = inl (ap (λ (f : ℕ). record { faults = f; refusals = refusals_now }) counted ∙ ap (λ (r : ℕ). record { faults = faults; refusals = r }) refused, append-nil bytes);
+  in_parts = record { parts = (bytes, []) ∷ []; text_is = sym (append-nil (bytes ++ []) ∙ append-nil bytes); bytes_are = refl };
+  whole = inl (ap (λ (l : LinkState). l.counts) sends, append-nil bytes);
 }
-written_said bytes old new faults refusals faults_now refusals_now (Err Failed) adds counted refused = record {
-  pieces = Cut adds.0 ∷ [];
-  told_is = adds.3;
+written_said bytes old new (Err Failed) cut = record {
+  pieces = Cut cut.front ∷ [];
+  state = cut.state;
   none_got = refl;
-  whole = inr (record { faults = counted.later; refusals = (let e : refusals_now ≡ refusals = refused in omega arith); one = inl counted });
+  in_parts = record { parts = (cut.front, cut.back) ∷ []; text_is = cut.bytes_are ∙ sym (append-nil (cut.front ++ cut.back)); bytes_are = refl };
+  whole = inr (record { faults = cut.rose.faults.later; refusals = (let e : new.counts.refusals ≡ old.counts.refusals = cut.rose.refusals in omega arith); one = inl cut.rose.faults });
 }
-written_said bytes old new faults refusals faults_now refusals_now (Err OutOfMemory) adds counted refused = record {
+written_said bytes old new (Err OutOfMemory) refused = record {
   pieces = [];
-  told_is = adds ∙ sym (then_pieces-nil old);
+  state = refused.state ∙ ap (λ (t : Option (List Piece)). record old { talk = t; counts = new.counts }) (sym (then_pieces-nil old.talk));
   none_got = refl;
-  whole = inr (record { faults = (let e : faults_now ≡ faults = counted in omega arith); refusals = refused.later; one = inr refused });
+  in_parts = record { parts = ([], bytes) ∷ []; text_is = sym (append-nil bytes); bytes_are = refl };
+  whole = inr (record { faults = (let e : new.counts.faults ≡ old.counts.faults = refused.rose.faults in omega arith); refusals = refused.rose.refusals.later; one = inr refused.rose.refusals });
 }
 
 rose_on : (before between now : ℕ) → before ≤ between → Rose between now → Rose before now
@@ -65,29 +69,43 @@ both_whole a b first second before between now (inl early) (inr late) = inr (sub
 both_whole a b first second before between now (inr early) (inl late) = inr (subst (λ (c : Counts). HasRisen before c) (sym late.0) early)
 both_whole a b first second before between now (inr early) (inr late) = inr (risen_both before between now early late)
 
+both_parts : (a b : List ℕ) (first second : List Piece) → IsSentInParts a (sent first) → IsSentInParts b (sent second) → IsSentInParts (a ++ b) (sent (first ++ second))
+both_parts a b first second early late = record {
+  parts = early.parts ++ late.parts;
+  text_is = ap (λ (l : List ℕ). l ++ b) early.text_is ∙ ap (λ (l : List ℕ). flat_map (λ (part : List ℕ × List ℕ). part.0 ++ part.1) early.parts ++ l) late.text_is
+      ∙ sym (flat_map-append (λ (part : List ℕ × List ℕ). part.0 ++ part.1) early.parts late.parts);
+  bytes_are = sent-append first second ∙ ap (λ (l : List ℕ). l ++ sent second) early.bytes_are ∙ ap (λ (l : List ℕ). flat_map (λ (part : List ℕ × List ℕ). part.0) early.parts ++ l) late.bytes_are
+      ∙ sym (flat_map-append (λ (part : List ℕ × List ℕ). part.0) early.parts late.parts);
+}
+
 -- one text and then another
-pub said_then : (a b : List ℕ) (old mid new : Option (List Piece)) (before between now : Counts) → HasSaid a old mid before between → HasSaid b mid new between now → HasSaid (a ++ b) old new before now
-said_then a b old mid new before between now first second = record {
+pub said_then : (a b : List ℕ) (old mid new : LinkState) → HasSaid a old mid → HasSaid b mid new → HasSaid (a ++ b) old new
+said_then a b old mid new first second = record {
   pieces = first.pieces ++ second.pieces;
-  told_is = second.told_is ∙ ap (λ (t : Option (List Piece)). then_pieces t second.pieces) first.told_is ∙ then_pieces-then_pieces old first.pieces second.pieces;
+  state = second.state ∙ ap (λ (l : LinkState). record l { talk = then_pieces l.talk second.pieces; counts = new.counts }) first.state
+      ∙ ap (λ (t : Option (List Piece)). record old { talk = t; counts = new.counts }) (then_pieces-then_pieces old.talk first.pieces second.pieces);
   none_got = got-append first.pieces second.pieces ∙ ap (λ (l : List ℕ). l ++ got second.pieces) first.none_got ∙ second.none_got;
-  whole = both_whole a b first.pieces second.pieces before between now first.whole second.whole;
+  in_parts = both_parts a b first.pieces second.pieces first.in_parts second.in_parts;
+  whole = both_whole a b first.pieces second.pieces old.counts mid.counts new.counts first.whole second.whole;
 }
 
 -- nothing
-pub none_said : (old : Option (List Piece)) (before : Counts) → HasSaid [] old old before before
-none_said old before = record { pieces = []; told_is = sym (then_pieces-nil old); none_got = refl; whole = inl (refl, refl) }
+pub none_said : (old : LinkState) → HasSaid [] old old
+none_said old = record {
+  pieces = [];
+  state = ap (λ (t : Option (List Piece)). record old { talk = t }) (sym (then_pieces-nil old.talk));
+  none_got = refl;
+  in_parts = record { parts = []; text_is = refl; bytes_are = refl };
+  whole = inl (refl, refl);
+}
 
 -- three texts, and more
-pub three_said : (a b c : List ℕ) (t0 t1 t2 t3 : Option (List Piece)) (c0 c1 c2 c3 : Counts) → HasSaid a t0 t1 c0 c1 → HasSaid b t1 t2 c1 c2 → HasSaid c t2 t3 c2 c3 → HasSaid (a ++ b ++ c) t0 t3 c0 c3
-three_said a b c t0 t1 t2 t3 c0 c1 c2 c3 first second third = said_then (a ++ b) c t0 t2 t3 c0 c2 c3 (said_then a b t0 t1 t2 c0 c1 c2 first second) third
+pub three_said : (a b c : List ℕ) (l0 l1 l2 l3 : LinkState) → HasSaid a l0 l1 → HasSaid b l1 l2 → HasSaid c l2 l3 → HasSaid (a ++ b ++ c) l0 l3
+three_said a b c l0 l1 l2 l3 first second third = said_then (a ++ b) c l0 l2 l3 (said_then a b l0 l1 l2 first second) third
 
-pub five_said : (a b c d e : List ℕ) (t0 t1 t2 t3 t4 t5 : Option (List Piece)) (c0 c1 c2 c3 c4 c5 : Counts) → HasSaid a t0 t1 c0 c1 → HasSaid b t1 t2 c1 c2 → HasSaid c t2 t3 c2 c3 → HasSaid d t3 t4 c3 c4 → HasSaid e t4 t5 c4 c5
-    → HasSaid (a ++ b ++ c ++ d ++ e) t0 t5 c0 c5
-five_said a b c d e t0 t1 t2 t3 t4 t5 c0 c1 c2 c3 c4 c5 first second third fourth fifth =
-    three_said (a ++ b ++ c) d e t0 t3 t4 t5 c0 c3 c4 c5 (three_said a b c t0 t1 t2 t3 c0 c1 c2 c3 first second third) fourth fifth
+pub five_said : (a b c d e : List ℕ) (l0 l1 l2 l3 l4 l5 : LinkState) → HasSaid a l0 l1 → HasSaid b l1 l2 → HasSaid c l2 l3 → HasSaid d l3 l4 → HasSaid e l4 l5 → HasSaid (a ++ b ++ c ++ d ++ e) l0 l5
+five_said a b c d e l0 l1 l2 l3 l4 l5 first second third fourth fifth = three_said (a ++ b ++ c) d e l0 l3 l4 l5 (three_said a b c l0 l1 l2 l3 first second third) fourth fifth
 
 -- three texts, the last of them with an end that stands apart
-pub three_said_joined : (a b c end : List ℕ) (t0 t1 t2 t3 : Option (List Piece)) (c0 c1 c2 c3 : Counts) → HasSaid a t0 t1 c0 c1 → HasSaid b t1 t2 c1 c2 → HasSaid (c ++ end) t2 t3 c2 c3 → HasSaid (a ++ b ++ c ++ end) t0 t3 c0 c3
-three_said_joined a b c end t0 t1 t2 t3 c0 c1 c2 c3 first second third =
-    subst (λ (l : List ℕ). HasSaid l t0 t3 c0 c3) (sym (append_assoc (a ++ b) c end)) (three_said a b (c ++ end) t0 t1 t2 t3 c0 c1 c2 c3 first second third)
+pub three_said_joined : (a b c end : List ℕ) (l0 l1 l2 l3 : LinkState) → HasSaid a l0 l1 → HasSaid b l1 l2 → HasSaid (c ++ end) l2 l3 → HasSaid (a ++ b ++ c ++ end) l0 l3
+three_said_joined a b c end l0 l1 l2 l3 first second third = subst (λ (l : List ℕ). HasSaid l l0 l3) (sym (append_assoc (a ++ b) c end)) (three_said a b (c ++ end) l0 l1 l2 l3 first second third)

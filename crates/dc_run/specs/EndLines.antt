@@ -1,16 +1,17 @@
 -- The line that tells of an end on standard error.
 use Rattle.std.specs.Prelude.{◌≡◌, ◌⊎◌, ℕ, ◌≤◌, List, [], ◌∷◌, ◌++◌, codes, decimal, Option}
+use Rattle.std.specs.List.{flat_map}
+use Rattle.dc_outside.specs.State.{LinkState}
 use Rattle.dc_text.specs.Ascii.{newline}
 use Rattle.dc_outside.specs.declared.link.Piece.{Piece}
 use Rattle.dc_outside.specs.Talk.{then_pieces, got, sent}
 use Rattle.dc_outside.specs.Counts.{Rose}
-use Rattle.dc_outside.specs.Told.{Counts}
+use Rattle.dc_outside.specs.Counts.{Counts}
 use Rattle.dc_run.specs.declared.outcome.End.{End}
 use Rattle.dc_run.specs.declared.outcome.End.TheVariants as end
 use Rattle.dc_run.specs.declared.outcome.PatternAt.{PatternAt}
 use Rattle.dc_run.specs.declared.outcome.PatternAt.TheVariants.{Database, Word}
 use Rattle.dc_run.specs.Kinds.{kind_word}
-use Rattle.dc_run.specs.World.{LinkState}
 
 -- where the refused pattern stands
 abbrev pub place_text : PatternAt → List ℕ
@@ -38,13 +39,17 @@ pub record HasRisen (before now : Counts) : Type 0 where
   pub refusals : before.refusals ≤ now.refusals
   pub one : Rose before.faults now.faults ⊎ Rose before.refusals now.refusals
 
--- A text was said on a link, in pieces: all of it, unless a call wasn't done. The pieces behind one that wasn't are said too.
-pub record HasSaid (text : List ℕ) (old new : Option (List Piece)) (before now : Counts) : Type 0 where
-  pub pieces : List Piece
-  pub told_is : new ≡ then_pieces old pieces
-  pub none_got : got pieces ≡ []
-  pub whole : ((now ≡ before) × (sent pieces ≡ text)) ⊎ HasRisen before now
+-- The text falls into parts, of each of which a front was sent: all of it, some or nothing.
+pub record IsSentInParts (text bytes : List ℕ) : Type 0 where
+  pub parts : List (List ℕ × List ℕ)
+  pub text_is : text ≡ flat_map (λ part. part.0 ++ part.1) parts
+  pub bytes_are : bytes ≡ flat_map (λ part. part.0) parts
 
--- a text was said on a link whose state is told
-abbrev pub HasSaidOn : List ℕ → LinkState → LinkState → Type 0
-HasSaidOn text old new = HasSaid text old.talk new.talk old.counts new.counts
+-- A text was said on a link, in pieces, and nothing was read: all of it, unless a call wasn't done. Then bytes of it are left out, and no other
+-- are sent; what stands behind them is said too.
+pub record HasSaid (text : List ℕ) (old new : LinkState) : Type 0 where
+  pub pieces : List Piece
+  pub state : new ≡ record old { talk = then_pieces old.talk pieces; counts = new.counts }
+  pub none_got : got pieces ≡ []
+  pub in_parts : IsSentInParts text (sent pieces)
+  pub whole : ((new.counts ≡ old.counts) × (sent pieces ≡ text)) ⊎ HasRisen old.counts new.counts

@@ -1,7 +1,7 @@
 -- The ends of a run, their statuses and the counts that go with them.
 use Rattle.std.specs.Prelude.{◌≡◌, ◌⊎◌, ℕ, Bool, true, false, Result, Ok, Err}
 use Rattle.dc_outside.specs.Counts.{Rose, FaultRose, RefusalRose}
-use Rattle.dc_outside.specs.Told.{Counts}
+use Rattle.dc_outside.specs.Counts.{Counts}
 use Rattle.dc_conf.specs.declared.faults.ConfError.{ConfError}
 use Rattle.dc_conf.specs.declared.faults.ConfError.TheVariants as conf
 use Rattle.dc_layer.specs.declared.pattern.PatternError.{PatternError}
@@ -118,7 +118,7 @@ end_unwaited how = how
 -- how both links counted their calls, of which none failed, or that of one end of the run
 pub record Both (io child : Counts → Counts → Type 0) (before now : Links) : Type 0 where
   pub on_io : io before.io.counts now.io.counts
-  pub on_child : child before.child.link.counts now.child.link.counts
+  pub on_child : child before.child.counts now.child.counts
 
 abbrev pub Stays : Counts → Counts → Type 0
 Stays before now = now ≡ before

@@ -10,7 +10,7 @@ use Rattle.dc_run.specs.declared.outcome.End.TheVariants as end
 use Rattle.dc_run.specs.declared.outcome.ToolEnd.{ToolEnd}
 use Rattle.dc_run.specs.declared.outcome.ToolEnd.TheVariants as tool
 use Rattle.dc_run.specs.Ends.{end_of, end_unsaved}
-use Rattle.dc_session.specs.SessionState.{FilesState}
+use Rattle.dc_outside.specs.State.{FilesState}
 
 -- the images that the layers ask for, in order
 abbrev pub images_of : List LayerState → List Image
@@ -19,7 +19,7 @@ images_of layers = all_images (each images layers)
 -- the images are saved, and no call failed
 pub record IsSaved (layers used : List LayerState) (files new : FilesState) (ended : ToolEnd) (how : End) : Type 0 where
   pub end_is : how ≡ end_of ended
-  pub files_are : new.told ≡ after_images files.told (images_of layers)
+  pub files_are : new.view ≡ after_images files.view (images_of layers)
   pub counts : new.counts ≡ files.counts
   pub used_are : used ≡ each saved layers
 
@@ -27,15 +27,15 @@ pub record IsSaved (layers used : List LayerState) (files new : FilesState) (end
 pub record IsUnsaved (layers used : List LayerState) (files new : FilesState) (ended : ToolEnd) (how : End) : Type 0 where
   pub path : List ℕ
   pub end_is : how ≡ end_unsaved ended (save.Failed path)
-  pub failed : FailsAmong (images_of layers) path files.told new.told
+  pub failed : FailsAmong (images_of layers) path files.view new.view
   pub counts : FaultRose files.counts new.counts
   pub used_are : used ≡ layers
 
 -- there was no memory for the save: the files refused a call, or none was made
 pub record IsWithoutMemory (layers used : List LayerState) (files new : FilesState) (how : End) : Type 0 where
   pub end_is : how ≡ end.OutOfMemory
-  pub ran_out : (new.told ≡ files.told) ⊎ StopsAmong (images_of layers) files.told new.told
-  pub counts : RefusalRose files.counts new.counts ⊎ ((new.counts ≡ files.counts) × (new.told ≡ files.told))
+  pub ran_out : (new.view ≡ files.view) ⊎ StopsAmong (images_of layers) files.view new.view
+  pub counts : RefusalRose files.counts new.counts ⊎ ((new.counts ≡ files.counts) × (new.view ≡ files.view))
   pub used_are : used ≡ layers
 
 -- the tool didn't end so that its layers are saved: no file was written

@@ -7,8 +7,9 @@ use Rattle.dc_run.specs.declared.settings.Settings.{Settings}
 use Rattle.dc_run.specs.declared.starting.Roots.{Roots}
 use Rattle.dc_cli.specs.Tools.{Names, AreRefusedAt}
 use Rattle.dc_cli.specs.declared.tool.Tool.{Tool}
-use Rattle.dc_run.specs.EndLines.{end_line, HasSaidOn}
-use Rattle.dc_run.specs.Ends.{status_of}
+use Rattle.dc_run.specs.Crashes.{KeepsDatabases}
+use Rattle.dc_run.specs.EndLines.{end_line, HasSaid}
+use Rattle.dc_run.specs.Ends.{status_of, LinksCount, ProgramCounts}
 use Rattle.dc_run.specs.Rounds.{RunState, HaveRounds, jobs_of}
 use Rattle.dc_run.specs.Saves.{Save}
 use Rattle.dc_run.specs.Starting.{HasStarted, EndsBefore}
@@ -19,28 +20,28 @@ use Rattle.dc_run.specs.World.{World}
 -- no link was used, and no tool told anything
 pub record IsSilent (old new : World) (outcome : Outcome) : Type 0 where
   pub links_are : new.links ≡ old.links
-  pub said : HasSaidOn (end_line outcome.end) old.err new.err
+  pub said : HasSaid (end_line outcome.end) old.err new.err
   pub code_is : outcome.last_code ≡ 0
   pub status_is : outcome.status ≡ status_of outcome.end 0
 
 -- The layers were loaded, the jobs of the tool had their rounds over them, and the end is told behind all else.
-pub record HasWorked (tool : Tool) (settings : Settings) (old new : World) (outcome : Outcome) : Type 0 where
+pub record HasWorked (tool : Tool) (settings : Settings) (old new : World) (outcome : Outcome) (saves : List Save) : Type 0 where
   pub mid : World
   pub roots : Roots
   pub started : HasStarted settings.conf_path old.stock.files mid.stock roots
   pub mid_is : mid ≡ record old { stock = mid.stock }
   pub left : RunState
   pub status : ℕ
-  pub saves : List Save
   pub rounds : HaveRounds roots settings (jobs_of tool) (record { world = mid; code = 0 }) left outcome.end status saves
-  pub said : HasSaidOn (end_line outcome.end) left.world.err new.err
+  pub said : HasSaid (end_line outcome.end) left.world.err new.err
   pub rest_is : new ≡ record left.world { err = new.err }
   pub code_is : outcome.last_code ≡ left.code
   pub status_is : outcome.status ≡ status_of outcome.end status
 
--- a run of a tool under these settings
-abbrev pub HasRunTool : Tool → Settings → World → World → Outcome → Type 0
-HasRunTool tool settings old new outcome = (EndsBefore settings.conf_path old.stock.files new.stock outcome.end × IsSilent old new outcome) ⊎ HasWorked tool settings old new outcome
+-- a run of a tool under these settings, with the saves that it began
+abbrev pub HasRunTool : Tool → Settings → World → World → Outcome → List Save → Type 0
+HasRunTool tool settings old new outcome saves =
+    (EndsBefore settings.conf_path old.stock.files new.stock outcome.end × IsSilent old new outcome × (saves ≡ [])) ⊎ HasWorked tool settings old new outcome saves
 
 -- ---- the program
 
@@ -52,7 +53,15 @@ pub record AreRefused (words : List (List ℕ)) (old new : World) (outcome : Out
   pub silent : IsSilent old new outcome
   pub untouched : new.stock ≡ old.stock
 
--- What the program does with its words, under these settings: they are refused, or the tool that they name ran.
-abbrev pub HasRunWords : List (List ℕ) → Settings → World → World → Outcome → Type 0
-HasRunWords words settings old new outcome =
-    AreRefused words old new outcome ⊎ ((tool : Tool) × Names words tool × HasRunTool tool settings old new outcome)
+-- What the program does with its words, under these settings: they are refused, or the tool that they name ran, and began these saves.
+abbrev pub HasRunWords : List (List ℕ) → Settings → World → World → Outcome → List Save → Type 0
+HasRunWords words settings old new outcome saves =
+    (AreRefused words old new outcome × (saves ≡ [])) ⊎ ((tool : Tool) × Names words tool × HasRunTool tool settings old new outcome saves)
+
+-- A run of the program: what it did, how its links counted their calls, and what a kill at any moment of it leaves.
+pub record IsRun (words : List (List ℕ)) (settings : Settings) (old new : World) (outcome : Outcome) : Type 0 where
+  pub saves : List Save
+  pub ran : HasRunWords words settings old new outcome saves
+  pub links_count : LinksCount outcome.end old.links new.links
+  pub program_counts : ProgramCounts outcome.end old.links.child.program.failures new.links.child.program.failures
+  pub keeps : KeepsDatabases settings.conf_path old.stock.files new.stock.files outcome.end saves

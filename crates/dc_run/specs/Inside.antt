@@ -6,7 +6,8 @@ use Rattle.dc_layer.specs.State.{LayerState}
 use Rattle.dc_session.specs.Refusals.{refusal}
 use Rattle.dc_serve.specs.declared.outcome.LinkEnd.{LinkEnd}
 use Rattle.dc_session.specs.Serving.{IsServed}
-use Rattle.dc_session.specs.SessionState.{FilesState, SessionState}
+use Rattle.dc_outside.specs.State.{FilesState, LinkState}
+use Rattle.dc_session.specs.SessionState.{SessionState}
 use Rattle.dc_session.specs.declared.stepped.StepError.{StepError}
 use Rattle.dc_session.specs.declared.template_loading.FileEnd.{FileEnd}
 use Rattle.dc_session.specs.declared.template_loading.FileEnd.TheVariants as file
@@ -17,12 +18,12 @@ use Rattle.dc_run.specs.declared.settings.Settings.{Settings}
 use Rattle.dc_run.specs.declared.starting.Roots.{Roots}
 use Rattle.dc_cli.specs.declared.tool.Tool.{Tool}
 use Rattle.dc_cli.specs.declared.tool.Tool.TheVariants.{Run}
-use Rattle.dc_run.specs.EndLines.{HasSaidOn}
+use Rattle.dc_run.specs.EndLines.{HasSaid}
 use Rattle.dc_run.specs.Ends.{tool_end_of}
 use Rattle.dc_run.specs.Jobs.{Uses}
 use Rattle.dc_run.specs.Starting.{begun}
 use Rattle.dc_run.specs.TemplateLoading.{FileTurn, IsFileTurn, refusal_of, EndsAt, HasLoadedFiles}
-use Rattle.dc_run.specs.World.{LinkState, Links, Stock}
+use Rattle.dc_run.specs.World.{Links, Stock}
 
 -- ---- one template file
 
@@ -50,7 +51,7 @@ pub record GoesThrough (start : SessionState) (path : List ℕ) (old new : LinkS
   pub left_is : left ≡ turn.new
   pub taken : IsFileTurn start turn
   pub refused_is : refused ≡ is_some (refusal_of start path turn.found)
-  pub said : HasSaidOn (told_line (refusal_of start path turn.found)) old new
+  pub said : HasSaid (told_line (refusal_of start path turn.found)) old new
 
 -- or the tool ended at it, and nothing was told
 abbrev pub LoadsOne : SessionState → List ℕ → LinkState → LinkState → Result Bool ToolEnd → SessionState → Type 0
@@ -65,7 +66,7 @@ status_by refused = if refused then 1 else 0
 pub record LoadsFiles (start : SessionState) (paths : List (List ℕ)) (old new : LinkState) (loaded : FilesLoaded) (left : SessionState) : Type 0 where
   pub said : List ℕ
   pub loads : HasLoadedFiles start paths loaded.ended said (status_by loaded.refused) left
-  pub telling : HasSaidOn said old new
+  pub telling : HasSaid said old new
 
 -- the same over layers and files
 pub record HasLoadedOver (start : SessionState) (paths : List (List ℕ)) (old new : LinkState) (answer : ToolAnswer) (layers : List LayerState) (files : FilesState) : Type 0 where
@@ -76,7 +77,7 @@ pub record HasLoadedOver (start : SessionState) (paths : List (List ℕ)) (old n
   pub loads : HasLoadedFiles start paths answer.ended said answer.status state
   pub last_code_is : answer.last_code ≡ 0
   pub waits : answer.is_started ≡ false
-  pub telling : HasSaidOn said old new
+  pub telling : HasSaid said old new
 
 -- ---- a tool
 
@@ -95,4 +96,4 @@ HasCommand used = Unit {0}
 -- what a tool does, and what it tells
 abbrev pub HasUsedTool : Tool → Stock → Roots → Settings → Links → Links → LinkState → LinkState → ToolAnswer → List LayerState → FilesState → Type 0
 HasUsedTool tool stock roots settings old new err err_new answer layers files =
-    (told : List ℕ) × Uses tool (begun tool stock roots settings old.io) old new answer told layers files × HasSaidOn told err err_new
+    (told : List ℕ) × Uses tool (begun tool stock roots settings old.io) old new answer told layers files × HasSaid told err err_new

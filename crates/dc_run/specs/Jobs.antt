@@ -3,7 +3,8 @@ use Rattle.std.specs.Prelude.{◌≡◌, ℕ, false, List, []}
 use Rattle.dc_layer.specs.State.{LayerState}
 use Rattle.dc_serve.specs.declared.outcome.LinkEnd.{LinkEnd}
 use Rattle.dc_session.specs.Serving.{IsServed}
-use Rattle.dc_session.specs.SessionState.{FilesState, SessionState}
+use Rattle.dc_outside.specs.State.{FilesState, LinkState}
+use Rattle.dc_session.specs.SessionState.{SessionState}
 use Rattle.dc_session.specs.declared.stepped.StepError.{StepError}
 use Rattle.dc_run.specs.declared.outcome.ToolAnswer.{ToolAnswer}
 use Rattle.dc_cli.specs.declared.tool.Tool.{Tool}
@@ -11,7 +12,7 @@ use Rattle.dc_cli.specs.declared.tool.Tool.TheVariants.{Communicate, LoadTemplat
 use Rattle.dc_run.specs.Ends.{tool_end_of}
 use Rattle.dc_run.specs.Running.{HasRunProgram}
 use Rattle.dc_run.specs.TemplateLoading.{HasLoadedFiles}
-use Rattle.dc_run.specs.World.{LinkState, Links}
+use Rattle.dc_run.specs.World.{Links}
 
 -- ---- the tools
 

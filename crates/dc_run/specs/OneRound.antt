@@ -1,14 +1,14 @@
 -- A run of one round, as it is said of it at once.
 use Rattle.std.specs.Prelude.{◌≡◌, ℕ, List, ◌++◌}
 use Rattle.dc_layer.specs.State.{LayerState}
-use Rattle.dc_session.specs.SessionState.{FilesState}
+use Rattle.dc_outside.specs.State.{FilesState}
 use Rattle.dc_run.specs.declared.outcome.End.{End}
 use Rattle.dc_run.specs.declared.outcome.Outcome.{Outcome}
 use Rattle.dc_run.specs.declared.outcome.ToolAnswer.{ToolAnswer}
 use Rattle.dc_run.specs.declared.settings.Settings.{Settings}
 use Rattle.dc_run.specs.declared.starting.Roots.{Roots}
 use Rattle.dc_cli.specs.declared.tool.Tool.{Tool}
-use Rattle.dc_run.specs.EndLines.{end_line, HasSaidOn}
+use Rattle.dc_run.specs.EndLines.{end_line, HasSaid}
 use Rattle.dc_run.specs.Ends.{status_of}
 use Rattle.dc_run.specs.Finishing.{Finishes}
 use Rattle.dc_run.specs.Jobs.{Uses}
@@ -33,6 +33,6 @@ pub record HasUsed (tool : Tool) (settings : Settings) (old new : World) (outcom
   pub io_is : new.links.io ≡ links.io
   pub status : ℕ
   pub awaits : Awaits answer.is_started links.child new.links.child how outcome.end answer.status status
-  pub said : HasSaidOn (told ++ end_line outcome.end) old.err new.err
+  pub said : HasSaid (told ++ end_line outcome.end) old.err new.err
   pub code_is : outcome.last_code ≡ answer.last_code
   pub status_is : outcome.status ≡ status_of outcome.end status

@@ -7,7 +7,7 @@ use Rattle.dc_run.specs.declared.outcome.ToolEnd.{ToolEnd}
 use Rattle.dc_run.specs.declared.settings.Settings.{Settings}
 use Rattle.dc_run.specs.declared.starting.Roots.{Roots}
 use Rattle.dc_cli.specs.declared.tool.Tool.{Tool}
-use Rattle.dc_run.specs.EndLines.{HasSaidOn}
+use Rattle.dc_run.specs.EndLines.{HasSaid}
 use Rattle.dc_run.specs.Ends.{comes_to_save}
 use Rattle.dc_run.specs.Jobs.{Uses}
 use Rattle.dc_run.specs.Running.{Awaits}
@@ -34,7 +34,7 @@ pub record RunState : Type 0 where
 pub record HasDone (used : Tool) (roots : Roots) (settings : Settings) (old new : RunState) (answer : ToolAnswer) (saves : List Save) : Type 0 where
   pub told : List ℕ
   pub uses : Uses used (begun used old.world.stock roots settings old.world.links.io) old.world.links new.world.links answer told new.world.stock.used new.world.stock.files
-  pub said : HasSaidOn told old.world.err new.world.err
+  pub said : HasSaid told old.world.err new.world.err
   pub saves_are : saves ≡ []
   pub code_is : new.code ≡ answer.last_code
 
@@ -73,7 +73,7 @@ pub record IsRound (roots : Roots) (settings : Settings) (old : RunState) (round
   pub works : Works round.job roots settings old round.left round.answer round.inner
   pub commits : Commits (is_saved_at round.job round.answer.ended) round.answer.ended round.left.world.stock round.new.world.stock round.last round.finish
   pub awaits : Awaits round.answer.is_started round.left.world.links.child round.new.world.links.child round.finish round.how round.answer.status round.status
-  pub told : HasSaidOn (report round.job round.how round.status) round.left.world.err round.new.world.err
+  pub told : HasSaid (report round.job round.how round.status) round.left.world.err round.new.world.err
   pub io_is : round.new.world.links.io ≡ round.left.world.links.io
   pub code_is : round.new.code ≡ round.left.code
 
@@ -119,3 +119,13 @@ pub record HaveRounds (roots : Roots) (settings : Settings) (jobs : List Job) (o
   pub how_is : how ≡ end_after Done rounds
   pub status_is : status ≡ status_in rounds
   pub saves_are : saves ≡ saves_of rounds
+
+-- A run of one job as its one round: what it left, how it ended and its saves are the run's.
+pub record IsOneRound (roots : Roots) (settings : Settings) (job : Job) (old new : RunState) (how : End) (status : ℕ) (saves : List Save) : Type 0 where
+  pub round : Round
+  pub job_is : round.job ≡ job
+  pub is : IsRound roots settings old round
+  pub new_is : new ≡ round.new
+  pub how_is : how ≡ round.how
+  pub status_is : status ≡ status_by job round.status
+  pub saves_are : saves ≡ round.inner ++ round.last

@@ -5,7 +5,7 @@ use Rattle.dc_layer.specs.State.{LayerState, saved}
 use Rattle.dc_layer.specs.declared.image.Image.{Image}
 use Rattle.dc_save.specs.Saving.{Saves, SaveCounts}
 use Rattle.dc_save.specs.declared.saving.SaveError.{SaveError}
-use Rattle.dc_session.specs.SessionState.{FilesState}
+use Rattle.dc_outside.specs.State.{FilesState}
 use Rattle.dc_run.specs.declared.outcome.End.{End}
 use Rattle.dc_run.specs.declared.outcome.ToolEnd.{ToolEnd}
 use Rattle.dc_run.specs.Ends.{end_of, end_by}
@@ -23,8 +23,8 @@ pub record Save : Type 0 where
 
 -- all images of the layers were made before the first call, and saved in order
 pub record IsSave (save : Save) : Type 0 where
-  pub saves : Saves (images_of save.layers) save.before.told save.after.told save.answer
-  pub counts : SaveCounts save.before.told save.after.told save.answer save.before.counts save.after.counts
+  pub saves : Saves (images_of save.layers) save.before.view save.after.view save.answer
+  pub counts : SaveCounts save.before.view save.after.view save.answer save.before.counts save.after.counts
 
 -- what a save makes of the layers, by its answer
 abbrev pub kept_by : Result (Unit {0}) SaveError → List LayerState → List LayerState
@@ -37,7 +37,7 @@ kept_by (Err error) layers = layers
 abbrev pub AreSaves : Option Disk → List Save → Option Disk → Type 0
 AreSaves old [] new = new ≡ old
 AreSaves old (save ∷ saves) new =
-    (save.before.told.disk ≡ old) × IsSave save × (save.answer ≢ Ok tt → saves ≡ []) × AreSaves save.after.told.disk saves new
+    (save.before.view.disk ≡ old) × IsSave save × (save.answer ≢ Ok tt → saves ≡ []) × AreSaves save.after.view.disk saves new
 
 abbrev pub images_in : List Save → List Image
 images_in [] = []

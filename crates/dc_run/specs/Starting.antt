@@ -5,7 +5,7 @@ use Rattle.std.specs.Option.{option_or}
 use Rattle.dc_outside.specs.Disk.{Disk}
 use Rattle.dc_outside.specs.Counts.{FaultRose, RefusalRose}
 use Rattle.dc_outside.specs.Steps.{after_look}
-use Rattle.dc_outside.specs.Told.{Told}
+use Rattle.dc_outside.specs.State.{FilesView, LinkState}
 use Rattle.dc_outside.specs.declared.files.FilesOp.TheVariants.{Read}
 use Rattle.dc_conf.specs.Configuration.{Configuration, IsAnswer, reached, plan_of}
 use Rattle.dc_conf.specs.declared.faults.ConfError.{ConfError}
@@ -28,7 +28,7 @@ use Rattle.dc_run.specs.declared.outcome.End.TheVariants as end
 use Rattle.dc_run.specs.declared.settings.Settings.{Settings}
 use Rattle.dc_run.specs.declared.starting.Roots.{Roots}
 use Rattle.dc_run.specs.Ends.{end_of_conf, end_of_patterns, end_of_load}
-use Rattle.dc_run.specs.World.{LinkState, Stock}
+use Rattle.dc_run.specs.World.{Stock}
 use Rattle.dc_cli.specs.Tools.{owner_of}
 use Rattle.dc_cli.specs.declared.tool.Tool.{Tool}
 use Rattle.dc_cli.specs.declared.tool.Tool.TheVariants.{Run}
@@ -50,7 +50,7 @@ abbrev pub databases_of : Configuration → List LayerSpec
 databases_of conf = reached conf (roots conf)
 
 -- the files once the configuration was read
-abbrev pub conf_read : Told → List ℕ → Told
+abbrev pub conf_read : FilesView → List ℕ → FilesView
 conf_read files path = after_look files Read path true
 
 -- ---- the start of a session
@@ -75,34 +75,42 @@ chosen_frontend (Run owner frontend priority command) settings roots =
     option_or frontend (option_or (option_and_then frontend_of settings.frontend) (option_and_then frontend_of roots.frontend))
 chosen_frontend used settings roots = Some Noninteractive
 
+-- a terminal on which nothing was typed ahead
+abbrev pub untyped : LinkState → TerminalState
+untyped link = record { link = link; ahead = nothing_typed }
+
 -- the terminal of a tool: `run` asks on the program's own link, and no other tool has one
 abbrev pub terminal_of : Tool → LinkState → TerminalState
-terminal_of (Run owner frontend priority command) io = record { link = io; ahead = nothing_typed }
+terminal_of (Run owner frontend priority command) io = untyped io
 terminal_of used io = no_terminal
 
--- the session of a tool over these layers and files, by the plans of questions and of templates, under these settings: nothing is asked for
--- yet
-abbrev pub begun : Tool → Stock → Roots → Settings → LinkState → SessionState
-begun used stock roots settings io = record {
+-- A session over these layers and files for an owner, by the plans of questions and of templates, under these settings, by the frontend and the
+-- least priority that were chosen, with the user at this terminal: nothing is asked for yet.
+abbrev pub session_at : Stock → TerminalState → Roots → Settings → List ℕ → Option Frontend → Option Priority → SessionState
+session_at stock terminal roots settings owner frontend threshold = record {
   store = stored stock.used [];
   files = stock.files;
-  terminal = terminal_of used io;
+  terminal = terminal;
   at = context_of roots settings;
-  owner = owner_of used;
-  policy = policy_by (chosen_frontend used settings roots) (chosen_priority used settings roots) settings.nonint_seen stock.used (context_of roots settings);
+  owner = owner;
+  policy = policy_by frontend threshold settings.nonint_seen stock.used (context_of roots settings);
   asking = nothing_asked;
 }
+
+-- the session of a tool
+abbrev pub begun : Tool → Stock → Roots → Settings → LinkState → SessionState
+begun used stock roots settings io = session_at stock (terminal_of used io) roots settings (owner_of used) (chosen_frontend used settings roots) (chosen_priority used settings roots)
 
 -- ---- the ends of a run before its tool: nothing is written
 
 -- nothing was done on the files but the read of the configuration
 pub record HasReadConf (path : List ℕ) (old new : FilesState) : Type 0 where
-  pub files_are : new.told ≡ conf_read old.told path
+  pub files_are : new.view ≡ conf_read old.view path
   pub counts : new.counts ≡ old.counts
 
 -- no call of the files was done, and they may have refused one for want of memory
 pub record HasNotBegun (old new : FilesState) : Type 0 where
-  pub files_are : new.told ≡ old.told
+  pub files_are : new.view ≡ old.view
   pub counts : (new.counts ≡ old.counts) ⊎ RefusalRose old.counts new.counts
 
 -- there was no memory before the first layer was set up
@@ -113,7 +121,7 @@ pub record IsOutOfMemory (path : List ℕ) (old new : FilesState) (how : End) : 
 -- the read of the configuration failed
 pub record IsUnread (path : List ℕ) (old new : FilesState) (how : End) : Type 0 where
   pub end_is : how ≡ end.FilesFault path
-  pub files_are : new.told ≡ after_look old.told Read path false
+  pub files_are : new.view ≡ after_look old.view Read path false
   pub counts : FaultRose old.counts new.counts
 
 -- the text at the path has this fault, which decides
@@ -121,7 +129,7 @@ pub record IsRefused (path : List ℕ) (old new : FilesState) (how : End) : Type
   pub error : ConfError
   pub end_is : how ≡ end_of_conf error
   pub text : List ℕ
-  pub text_is : IsTextAt old.told.disk path text
+  pub text_is : IsTextAt old.view.disk path text
   pub refused : IsAnswer text (Err error)
   pub read : HasReadConf path old new
 
@@ -130,15 +138,15 @@ pub record IsNotSetUp (path : List ℕ) (old new : FilesState) (how : End) : Typ
   pub refused : NotSetUp
   pub end_is : how ≡ end_of_patterns refused
   pub conf : Configuration
-  pub conf_is : IsConfiguration old.told.disk path conf
+  pub conf_is : IsConfiguration old.view.disk path conf
   pub refused_at : IsRefusedAt (databases_of conf) refused.place refused.error
   pub read : HasReadConf path old new
 
 -- A layer of each database of the configuration was set up, and the loads of these, which had this answer, left the layers and the
 -- files so.
 pub record HasLoaded (path : List ℕ) (conf : Configuration) (old : FilesState) (new : Stock) (result : Result (Unit {0}) LoadError) : Type 0 where
-  pub conf_is : IsConfiguration old.told.disk path conf
-  pub loads : LoadsAll (databases_of conf) (all_set_up (databases_of conf)) new.used (conf_read old.told path) new.files.told old.counts new.files.counts result
+  pub conf_is : IsConfiguration old.view.disk path conf
+  pub loads : LoadsAll (databases_of conf) (all_set_up (databases_of conf)) new.used (conf_read old.view path) new.files.view old.counts new.files.counts result
 
 -- a load was refused
 pub record IsNotLoaded (path : List ℕ) (old : FilesState) (new : Stock) (how : End) : Type 0 where
@@ -169,7 +177,7 @@ Starts path old new (Err how) = EndsBefore path old new how
 
 -- what reading the configuration does
 abbrev pub ReadsConf : List ℕ → FilesState → FilesState → Result Configuration End → Type 0
-ReadsConf path old new (Ok conf) = IsConfiguration old.told.disk path conf × HasReadConf path old new
+ReadsConf path old new (Ok conf) = IsConfiguration old.view.disk path conf × HasReadConf path old new
 ReadsConf path old new (Err how) = IsOutOfMemory path old new how ⊎ IsUnread path old new how ⊎ IsRefused path old new how
 
 -- some text is this configuration

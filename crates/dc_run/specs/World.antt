@@ -1,27 +1,47 @@
 -- What a run finds and leaves.
-use Rattle.std.specs.Prelude.{List}
-use Rattle.dc_outside.specs.Programs.{Program}
+use Rattle.std.specs.Prelude.{List, map as each}
 use Rattle.dc_layer.specs.State.{LayerState}
-use Rattle.dc_session.specs.SessionState.{FilesState}
-pub use Rattle.dc_session.specs.SessionState.{LinkState}
+use Rattle.dc_outside.specs.State.{LinkState, FilesState}
+use Rattle.dc_shelf.specs.declared.shelf.Shelf.{Shelf}
 
 -- the files, and the layers that are used
 pub record Stock : Type 0 where
   pub files : FilesState
   pub used : List LayerState
 
--- the link to a program, and the program
-pub record ChildState : Type 0 where
-  pub link : LinkState
-  pub program : Program
-
 -- the links that tools use: the program's own, and the one to the program that it starts
 pub record Links : Type 0 where
   pub io : LinkState
-  pub child : ChildState
+  pub child : LinkState
 
 -- the files and the layers, the links, and standard error
 pub record World : Type 0 where
   pub stock : Stock
   pub links : Links
   pub err : LinkState
+
+-- these files and layers
+abbrev pub stock_of : FilesState → List LayerState → Stock
+stock_of files used = record { files = files; used = used }
+
+-- these links
+abbrev pub links_of : LinkState → LinkState → Links
+links_of io child = record { io = io; child = child }
+
+-- ---- over a shelf: the states of its boxes
+
+abbrev pub files_in : {X : Type 0} {F : X → Type 0} → ((x : X) × F x → LayerState) → Shelf X F → List LayerState
+files_in state shelf = each (λ b. state (b.vtable, b.value)) shelf.files.items
+
+abbrev pub trees_in : {X : Type 0} {F : X → Type 0} → ((x : X) × F x → LayerState) → Shelf X F → List LayerState
+trees_in state shelf = each (λ b. state (b.vtable, b.value)) shelf.trees.items
+
+abbrev pub packs_in : {X : Type 0} {F : X → Type 0} → ((x : X) × F x → LayerState) → Shelf X F → List LayerState
+packs_in state shelf = each (λ b. state (b.vtable, b.value)) shelf.packs.items
+
+abbrev pub used_in : {X : Type 0} {F : X → Type 0} → ((x : X) × F x → LayerState) → Shelf X F → List LayerState
+used_in state shelf = each (λ b. state (b.vtable, b.value)) shelf.used.items
+
+-- what stands: the links, the files, and the used boxes
+abbrev pub world : {X : Type 0} {F : X → Type 0} → LinkState → LinkState → LinkState → FilesState → ((x : X) × F x → LayerState) → Shelf X F → World
+world io child err files state shelf = record { stock = stock_of files (used_in state shelf); links = links_of io child; err = err }

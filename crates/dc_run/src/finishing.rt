@@ -5,6 +5,7 @@ ghost use Rattle.dc_layer.specs.State.{saved};
 ghost use Rattle.dc_run.specs.Ends.{comes_to_save as comes_to_save_at};
 ghost use Rattle.dc_run.specs.Finishing.{images_of};
 ghost use Rattle.dc_run.specs.Saves.{Save, Commits};
+ghost use Rattle.dc_run.specs.World.{stock_of};
 
 use crate::outcome::{End, ToolEnd, comes_to_save, end_at_save, end_of};
 use dc_layer::Layer;
@@ -21,7 +22,8 @@ pub fn finish_used<F: Files>(
     files: &mut F,
     used: &mut Vec<Box<dyn Layer>>,
 ) -> End
-    ensures { (last : List Save) × Commits (comes_to_save_at ended) ended (record { files = record { told = F.told files.old; counts = F.counts files.old }; used = each state used.old.items }) (record { files = record { told = F.told files.new; counts = F.counts files.new }; used = each state used.new.items }) last result }
+    ensures { (last : List Save) × Commits (comes_to_save_at ended) ended (stock_of (F.files files.old) (each state used.old.items))
+        (stock_of (F.files files.new) (each state used.new.items)) last result }
 {
     finish(alloc, ended, files, used.as_mut_slice())
 }
@@ -32,7 +34,8 @@ fn finish<F: Files>(
     files: &mut F,
     layers: &mut [Box<dyn Layer>],
 ) -> End
-    ensures { (last : List Save) × Commits (comes_to_save_at ended) ended (record { files = record { told = F.told files.old; counts = F.counts files.old }; used = each state layers.old }) (record { files = record { told = F.told files.new; counts = F.counts files.new }; used = each state layers.new }) last result }
+    ensures { (last : List Save) × Commits (comes_to_save_at ended) ended (stock_of (F.files files.old) (each state layers.old))
+        (stock_of (F.files files.new) (each state layers.new)) last result }
 {
     if !comes_to_save(&ended) {
         return end_of(ended);
@@ -47,8 +50,8 @@ fn save_all<F: Files>(
     files: &mut F,
     layers: &mut [Box<dyn Layer>],
 ) -> Result<(), SaveError>
-    ensures saves { Saves (images_of (each state layers.old)) (F.told files.old) (F.told files.new) result }
-    ensures counts { SaveCounts (F.told files.old) (F.told files.new) result (F.counts files.old) (F.counts files.new) }
+    ensures saves { Saves (images_of (each state layers.old)) (F.files files.old).view (F.files files.new).view result }
+    ensures counts { SaveCounts (F.files files.old).view (F.files files.new).view result (F.files files.old).counts (F.files files.new).counts }
     ensures marked { MatchResult result (λ _. each state layers.new ≡ each saved (each state layers.old)) (λ _. each state layers.new ≡ each state layers.old) }
 {
     match images_of_all(alloc, layers) {

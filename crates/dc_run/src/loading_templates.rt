@@ -37,7 +37,8 @@ trait TakesTemplates {
 
     /// Loads the templates of the file at the path for the owner of the state (debconf-loadtemplate(1)): all of them, or none.
     fn load_file(&mut self, path: &Text) -> Mem<FileEnd>
-        ensures loads { (terminal : TerminalState) (policy : AskPolicy) (asking : Asking) → Loads path.now (state_at self.old terminal policy asking) (state_at self.new terminal policy asking) result }
+        ensures loads { (terminal : TerminalState) (policy : AskPolicy) (asking : Asking)
+            → Loads path.now (state_at self.old terminal policy asking) (state_at self.new terminal policy asking) result }
         ensures kept { kept self.new ≡ kept self.old };
 }
 
@@ -57,7 +58,7 @@ impl<'s, 'f, F: Files> TakesTemplates for Loader<'s, 'f, F> {
 
     ghost state_at = { λ s terminal policy asking. record {
       store = stored (each (λ b. (Layer-box b).state b.value) s.desk.questions.store.now.layers.items) s.desk.questions.store.now.told;
-      files = record { told = F.told s.files.now; counts = F.counts s.files.now };
+      files = F.files s.files.now;
       terminal = terminal;
       at = s.desk.questions.context;
       owner = s.desk.owner.now;
@@ -95,10 +96,16 @@ pub fn load_template_files<E: Link, F: Files>(
     requires templates { IsOver templates.now (length layers.old.items) }
     requires disjoint { are_disjoint config.now templates.now ≡ true }
     ensures { (terminal : TerminalState) (policy : AskPolicy) (asking : Asking) → HasLoadedOver
-        (record { store = stored (each state layers.old.items) []; files = record { told = F.told files.old; counts = F.counts files.old }; terminal = terminal; at = record { config = config.now; templates = templates.now; lang = lang.now }; owner = owner.now; policy = policy; asking = asking }) paths.now
-        (record { talk = E.talk err.old; input = E.left err.old; counts = record { faults = E.faults err.old; refusals = E.refusals err.old } })
-        (record { talk = E.talk err.new; input = E.left err.new; counts = record { faults = E.faults err.new; refusals = E.refusals err.new } })
-        result (each state layers.new.items) (record { told = F.told files.new; counts = F.counts files.new }) }
+        (record {
+          store = stored (each state layers.old.items) [];
+          files = F.files files.old;
+          terminal = terminal;
+          at = record { config = config.now; templates = templates.now; lang = lang.now };
+          owner = owner.now;
+          policy = policy;
+          asking = asking;
+        })
+        paths.now (E.link err.old) (E.link err.new) result (each state layers.new.items) (F.files files.new) }
 {
     let mut store = Store::new(alloc, std::mem::replace(layers, Vec::new(alloc)));
     let questions = Questions::new(alloc, &mut store, config, templates, lang);
@@ -136,9 +143,8 @@ fn load_files<S: TakesTemplates, E: Link>(
     err: &mut E,
     paths: &[Text],
 ) -> FilesLoaded
-    ensures loads { (terminal : TerminalState) (policy : AskPolicy) (asking : Asking) → LoadsFiles (S.state_at session.old terminal policy asking) paths.now
-        (record { talk = E.talk err.old; input = E.left err.old; counts = record { faults = E.faults err.old; refusals = E.refusals err.old } })
-        (record { talk = E.talk err.new; input = E.left err.new; counts = record { faults = E.faults err.new; refusals = E.refusals err.new } })
+    ensures loads { (terminal : TerminalState) (policy : AskPolicy) (asking : Asking) → LoadsFiles (S.state_at session.old terminal policy asking)
+        paths.now (E.link err.old) (E.link err.new)
         result (S.state_at session.new terminal policy asking) }
     ensures kept { S.kept session.new ≡ S.kept session.old }
 {
@@ -169,9 +175,8 @@ fn load_one<S: TakesTemplates, E: Link>(
     err: &mut E,
     path: &Text,
 ) -> Result<bool, ToolEnd>
-    ensures loads { (terminal : TerminalState) (policy : AskPolicy) (asking : Asking) → LoadsOne (S.state_at session.old terminal policy asking) path.now
-        (record { talk = E.talk err.old; input = E.left err.old; counts = record { faults = E.faults err.old; refusals = E.refusals err.old } })
-        (record { talk = E.talk err.new; input = E.left err.new; counts = record { faults = E.faults err.new; refusals = E.refusals err.new } })
+    ensures loads { (terminal : TerminalState) (policy : AskPolicy) (asking : Asking) → LoadsOne (S.state_at session.old terminal policy asking)
+        path.now (E.link err.old) (E.link err.new)
         result (S.state_at session.new terminal policy asking) }
     ensures kept { S.kept session.new ≡ S.kept session.old }
 {

@@ -1,16 +1,16 @@
 // The call that the program makes.
-ghost use Rattle.std.specs.Prelude.{◌≡◌, ◌≤◌, [], Some, length, map as each, true};
+ghost use Rattle.std.specs.Prelude.{◌≡◌, ◌≤◌, List, [], length, map as each, true};
 ghost use Rattle.dc_conf.specs.Plans.{IsOver, are_disjoint};
-ghost use Rattle.dc_outside.specs.Disk.{Disk, IsDurable};
-ghost use Rattle.dc_conf.specs.declared.spec.LayerSort.TheVariants.{File as OneFile, Tree, Pack};
-ghost use Rattle.dc_shelf.specs.Shelves.{AreBlank};
-ghost use Rattle.dc_run.specs.Crashes.{KeepsDatabases};
-ghost use Rattle.dc_run.specs.EndLines.{end_line, HasSaid};
+ghost use Rattle.dc_conf.specs.declared.spec.LayerSort.TheVariants.{File, Tree, Pack};
 ghost use Rattle.dc_outside.specs.Programs.{Unstarted, IsRunning};
-ghost use Rattle.dc_run.specs.Ends.{status_of, LinksCount, ProgramCounts};
-ghost use Rattle.dc_run.specs.Running.{Awaits};
-ghost use Rattle.dc_run.specs.Headline.{HasRunWords, HasRunTool};
+ghost use Rattle.dc_run.specs.EndLines.{end_line, HasSaid};
+ghost use Rattle.dc_run.specs.Ends.{status_of};
+ghost use Rattle.dc_run.specs.Headline.{HasRunTool, IsRun};
 ghost use Rattle.dc_run.specs.Inside.{HasCommand, HasUsedTool};
+ghost use Rattle.dc_run.specs.Running.{Awaits};
+ghost use Rattle.dc_run.specs.Saves.{Save};
+ghost use Rattle.dc_run.specs.World.{files_in, links_of, packs_in, stock_of, trees_in, world};
+ghost use Rattle.dc_shelf.specs.Shelves.{AreBlank};
 
 use crate::finishing::finish_used;
 use crate::loading_templates::load_template_files;
@@ -43,36 +43,20 @@ pub fn run_words<L: Link, E: Link, C: Child, F: Files>(
     files: &mut F,
     shelf: &mut Shelf,
 ) -> Outcome
-    requires files { AreBlank OneFile (each (λ b. state (b.vtable, b.value)) shelf.old.files.items) }
-    requires trees { AreBlank Tree (each (λ b. state (b.vtable, b.value)) shelf.old.trees.items) }
-    requires packs { AreBlank Pack (each (λ b. state (b.vtable, b.value)) shelf.old.packs.items) }
+    requires files { AreBlank File (files_in state shelf.old) }
+    requires trees { AreBlank Tree (trees_in state shelf.old) }
+    requires packs { AreBlank Pack (packs_in state shelf.old) }
     requires some_files { 16 ≤ length shelf.old.files.items }
     requires some_trees { 16 ≤ length shelf.old.trees.items }
     requires some_packs { 16 ≤ length shelf.old.packs.items }
     requires used { shelf.old.used.items ≡ [] }
-    requires unstarted { (C.program child.old).life ≡ Unstarted }
-    // What the tool does is what the plain machine does, what was saved and stands in `used` are its layers, by the end, and the end is
-    // told on `err`, but for what a write there that failed leaves out.
-    ensures ran { HasRunWords words.now settings.now
-        (record {
-          stock = record { files = record { told = F.told files.old; counts = F.counts files.old }; used = each (λ b. state (b.vtable, b.value)) shelf.old.used.items };
-          links = record { io = record { talk = L.talk io.old; input = L.left io.old; counts = record { faults = L.faults io.old; refusals = L.refusals io.old } }; child = record { link = record { talk = C.talk child.old; input = C.left child.old; counts = record { faults = C.faults child.old; refusals = C.refusals child.old } }; program = C.program child.old } };
-          err = record { talk = E.talk err.old; input = E.left err.old; counts = record { faults = E.faults err.old; refusals = E.refusals err.old } };
-        })
-        (record {
-          stock = record { files = record { told = F.told files.new; counts = F.counts files.new }; used = each (λ b. state (b.vtable, b.value)) shelf.new.used.items };
-          links = record { io = record { talk = L.talk io.new; input = L.left io.new; counts = record { faults = L.faults io.new; refusals = L.refusals io.new } }; child = record { link = record { talk = C.talk child.new; input = C.left child.new; counts = record { faults = C.faults child.new; refusals = C.refusals child.new } }; program = C.program child.new } };
-          err = record { talk = E.talk err.new; input = E.left err.new; counts = record { faults = E.faults err.new; refusals = E.refusals err.new } };
-        })
+    requires unstarted { (C.link child.old).program.life ≡ Unstarted }
+    // What the tool does is what the plain machine does; what was saved and stands in `used` are its layers, by the end; the end is told on
+    // `err`; and a kill at any moment leaves each database as its saves say.
+    ensures ran { IsRun words.now settings.now
+        (world (L.link io.old) (C.link child.old) (E.link err.old) (F.files files.old) state shelf.old)
+        (world (L.link io.new) (C.link child.new) (E.link err.new) (F.files files.new) state shelf.new)
         result }
-
-    // A fault of a link has its end, unless what came after it found no memory, and so has a start or a wait that failed, unless another end
-    // came first.
-    ensures link_counts { LinksCount result.end (record { io = record { talk = L.talk io.old; input = L.left io.old; counts = record { faults = L.faults io.old; refusals = L.refusals io.old } }; child = record { link = record { talk = C.talk child.old; input = C.left child.old; counts = record { faults = C.faults child.old; refusals = C.refusals child.old } }; program = C.program child.old } }) (record { io = record { talk = L.talk io.new; input = L.left io.new; counts = record { faults = L.faults io.new; refusals = L.refusals io.new } }; child = record { link = record { talk = C.talk child.new; input = C.left child.new; counts = record { faults = C.faults child.new; refusals = C.refusals child.new } }; program = C.program child.new } }) }
-    ensures program_counts { ProgramCounts result.end (C.program child.old).failures (C.program child.new).failures }
-
-    // Killed at any moment, it leaves each database as before or as it is saved, where nothing was pending on the disk when it began.
-    ensures killed { (before after : Disk) → (F.told files.old).disk ≡ Some before → (F.told files.new).disk ≡ Some after → IsDurable before.current → KeepsDatabases settings.now.conf_path before after result.end }
 {
     match read_tool(alloc, words) {
         Err(ToolError::Refused { word }) => end_run(err, End::Usage { word }, 0, 0),
@@ -92,27 +76,19 @@ fn run_tool<L: Link, E: Link, C: Child, F: Files>(
     files: &mut F,
     shelf: &mut Shelf,
 ) -> Outcome
-    requires files { AreBlank OneFile (each (λ b. state (b.vtable, b.value)) shelf.old.files.items) }
-    requires trees { AreBlank Tree (each (λ b. state (b.vtable, b.value)) shelf.old.trees.items) }
-    requires packs { AreBlank Pack (each (λ b. state (b.vtable, b.value)) shelf.old.packs.items) }
+    requires files { AreBlank File (files_in state shelf.old) }
+    requires trees { AreBlank Tree (trees_in state shelf.old) }
+    requires packs { AreBlank Pack (packs_in state shelf.old) }
     requires some_files { 16 ≤ length shelf.old.files.items }
     requires some_trees { 16 ≤ length shelf.old.trees.items }
     requires some_packs { 16 ≤ length shelf.old.packs.items }
     requires used { shelf.old.used.items ≡ [] }
-    requires unstarted { (C.program child.old).life ≡ Unstarted }
+    requires unstarted { (C.link child.old).program.life ≡ Unstarted }
     requires command { HasCommand tool.now }
-    ensures ran { HasRunTool tool.now settings.now
-        (record {
-          stock = record { files = record { told = F.told files.old; counts = F.counts files.old }; used = each (λ b. state (b.vtable, b.value)) shelf.old.used.items };
-          links = record { io = record { talk = L.talk io.old; input = L.left io.old; counts = record { faults = L.faults io.old; refusals = L.refusals io.old } }; child = record { link = record { talk = C.talk child.old; input = C.left child.old; counts = record { faults = C.faults child.old; refusals = C.refusals child.old } }; program = C.program child.old } };
-          err = record { talk = E.talk err.old; input = E.left err.old; counts = record { faults = E.faults err.old; refusals = E.refusals err.old } };
-        })
-        (record {
-          stock = record { files = record { told = F.told files.new; counts = F.counts files.new }; used = each (λ b. state (b.vtable, b.value)) shelf.new.used.items };
-          links = record { io = record { talk = L.talk io.new; input = L.left io.new; counts = record { faults = L.faults io.new; refusals = L.refusals io.new } }; child = record { link = record { talk = C.talk child.new; input = C.left child.new; counts = record { faults = C.faults child.new; refusals = C.refusals child.new } }; program = C.program child.new } };
-          err = record { talk = E.talk err.new; input = E.left err.new; counts = record { faults = E.faults err.new; refusals = E.refusals err.new } };
-        })
-        result }
+    ensures ran { (saves : List Save) × HasRunTool tool.now settings.now
+        (world (L.link io.old) (C.link child.old) (E.link err.old) (F.files files.old) state shelf.old)
+        (world (L.link io.new) (C.link child.new) (E.link err.new) (F.files files.new) state shelf.new)
+        result saves }
 {
     match start(alloc, &settings.conf_path, files, shelf) {
         Err(end) => end_run(err, end, 0, 0),
@@ -156,16 +132,13 @@ fn use_tool<L: Link, E: Link, C: Child, F: Files>(
     requires config { IsOver roots.now.config (length used.old.items) }
     requires templates { IsOver roots.now.templates (length used.old.items) }
     requires disjoint { are_disjoint roots.now.config roots.now.templates ≡ true }
-    requires unstarted { (C.program child.old).life ≡ Unstarted }
+    requires unstarted { (C.link child.old).program.life ≡ Unstarted }
     requires command { HasCommand tool.now }
     ensures uses { HasUsedTool tool.now
-        (record { files = record { told = F.told files.old; counts = F.counts files.old }; used = each state used.old.items }) roots.now settings.now
-        (record { io = record { talk = L.talk io.old; input = L.left io.old; counts = record { faults = L.faults io.old; refusals = L.refusals io.old } }; child = record { link = record { talk = C.talk child.old; input = C.left child.old; counts = record { faults = C.faults child.old; refusals = C.refusals child.old } }; program = C.program child.old } })
-        (record { io = record { talk = L.talk io.new; input = L.left io.new; counts = record { faults = L.faults io.new; refusals = L.refusals io.new } }; child = record { link = record { talk = C.talk child.new; input = C.left child.new; counts = record { faults = C.faults child.new; refusals = C.refusals child.new } }; program = C.program child.new } })
-        (record { talk = E.talk err.old; input = E.left err.old; counts = record { faults = E.faults err.old; refusals = E.refusals err.old } })
-        (record { talk = E.talk err.new; input = E.left err.new; counts = record { faults = E.faults err.new; refusals = E.refusals err.new } })
-        result (each state used.new.items) (record { told = F.told files.new; counts = F.counts files.new }) }
-    ensures running { result.is_started ≡ true → IsRunning (C.program child.new).life }
+        (stock_of (F.files files.old) (each state used.old.items)) roots.now settings.now
+        (links_of (L.link io.old) (C.link child.old)) (links_of (L.link io.new) (C.link child.new)) (E.link err.old) (E.link err.new)
+        result (each state used.new.items) (F.files files.new) }
+    ensures running { result.is_started ≡ true → IsRunning (C.link child.new).program.life }
 {
     match tool {
         Tool::Communicate { owner } => communicate(alloc, owner, roots, settings, io, files, used),
@@ -200,11 +173,8 @@ fn use_tool<L: Link, E: Link, C: Child, F: Files>(
 
 // Waits for the program, where one was started: when all else is done.
 fn await_program<C: Child>(child: &mut C, is_started: bool, how: End, status: u8) -> (End, u8)
-    requires running { is_started ≡ true → IsRunning (C.program child.old).life }
-    ensures { Awaits is_started
-        (record { link = record { talk = C.talk child.old; input = C.left child.old; counts = record { faults = C.faults child.old; refusals = C.refusals child.old } }; program = C.program child.old })
-        (record { link = record { talk = C.talk child.new; input = C.left child.new; counts = record { faults = C.faults child.new; refusals = C.refusals child.new } }; program = C.program child.new })
-        how result.0 status result.1 }
+    requires running { is_started ≡ true → IsRunning (C.link child.old).program.life }
+    ensures { Awaits is_started (C.link child.old) (C.link child.new) how result.0 status result.1 }
 {
     if !is_started {
         return (how, status);
@@ -218,7 +188,7 @@ fn await_program<C: Child>(child: &mut C, is_started: bool, how: End, status: u8
 // The outcome of a run, whose end is told.
 fn end_run<E: Link>(err: &mut E, end: End, last_code: u8, status: u8) -> Outcome
     ensures outcome { result ≡ record { status = status_of end status; end = end; last_code = last_code } }
-    ensures said { HasSaid (end_line end) (E.talk err.old) (E.talk err.new) (record { faults = E.faults err.old; refusals = E.refusals err.old }) (record { faults = E.faults err.new; refusals = E.refusals err.new }) }
+    ensures said { HasSaid (end_line end) (E.link err.old) (E.link err.new) }
 {
     tell_end(err, &end);
     outcome_at(end, last_code, status)

@@ -1,15 +1,13 @@
 // The tools that serve commands.
-ghost use Rattle.std.specs.Prelude.{◌≡◌, ◌<◌, List, ℕ, [], length, map as each, true};
+ghost use Rattle.std.specs.Prelude.{◌≡◌, ◌<◌, List, ℕ, length, map as each, true};
 ghost use Rattle.dc_conf.specs.Plans.{IsOver, are_disjoint};
 ghost use Rattle.dc_outside.specs.Programs.{Unstarted, IsRunning};
 ghost use Rattle.dc_run.specs.Jobs.{HasCommunicated};
 ghost use Rattle.dc_run.specs.Inside.{HasServedProgram};
 ghost use Rattle.dc_run.specs.Running.{HasRunProgram, end_unstarted as end_unstarted_of};
-ghost use Rattle.dc_run.specs.Starting.{begun, context_of};
-ghost use Rattle.dc_session.specs.Asking.{nothing_asked, policy_by};
+ghost use Rattle.dc_run.specs.Starting.{begun, session_at, untyped};
+ghost use Rattle.dc_run.specs.World.{links_of, stock_of};
 ghost use Rattle.dc_session.specs.Serving.{IsServed};
-ghost use Rattle.dc_session.specs.SessionState.{nothing_typed};
-ghost use Rattle.dc_store.specs.Plans.{stored};
 ghost use Rattle.dc_cli.specs.declared.tool.Tool.TheVariants.{Communicate, Run};
 
 use crate::outcome::{ToolAnswer, ToolEnd, tool_end};
@@ -46,11 +44,8 @@ pub fn communicate<L: Link, F: Files>(
     requires templates { IsOver roots.now.templates (length used.old.items) }
     requires disjoint { are_disjoint roots.now.config roots.now.templates ≡ true }
     ensures served { HasCommunicated
-        (begun (Communicate owner.now) (record { files = record { told = F.told files.old; counts = F.counts files.old }; used = each state used.old.items }) roots.now settings.now
-        (record { talk = L.talk io.old; input = L.left io.old; counts = record { faults = L.faults io.old; refusals = L.refusals io.old } }))
-        (record { talk = L.talk io.old; input = L.left io.old; counts = record { faults = L.faults io.old; refusals = L.refusals io.old } })
-        (record { talk = L.talk io.new; input = L.left io.new; counts = record { faults = L.faults io.new; refusals = L.refusals io.new } })
-        result (each state used.new.items) (record { told = F.told files.new; counts = F.counts files.new }) }
+        (begun (Communicate owner.now) (stock_of (F.files files.old) (each state used.old.items)) roots.now settings.now (L.link io.old))
+        (L.link io.old) (L.link io.new) result (each state used.new.items) (F.files files.new) }
 {
     let served = serve_for(
         alloc,
@@ -88,15 +83,13 @@ pub fn run_program<L: Link, C: Child, F: Files>(
     requires config { IsOver roots.now.config (length used.old.items) }
     requires templates { IsOver roots.now.templates (length used.old.items) }
     requires disjoint { are_disjoint roots.now.config roots.now.templates ≡ true }
-    requires unstarted { (C.program child.old).life ≡ Unstarted }
+    requires unstarted { (C.link child.old).program.life ≡ Unstarted }
     requires some { 0 < length command.now }
     ensures ran { HasRunProgram command.now
-        (begun (Run asking.now.owner.now asking.now.frontend asking.now.priority command.now) (record { files = record { told = F.told files.old; counts = F.counts files.old }; used = each state used.old.items }) roots.now settings.now
-        (record { talk = L.talk io.old; input = L.left io.old; counts = record { faults = L.faults io.old; refusals = L.refusals io.old } }))
-        (record { io = record { talk = L.talk io.old; input = L.left io.old; counts = record { faults = L.faults io.old; refusals = L.refusals io.old } }; child = record { link = record { talk = C.talk child.old; input = C.left child.old; counts = record { faults = C.faults child.old; refusals = C.refusals child.old } }; program = C.program child.old } })
-        (record { io = record { talk = L.talk io.new; input = L.left io.new; counts = record { faults = L.faults io.new; refusals = L.refusals io.new } }; child = record { link = record { talk = C.talk child.new; input = C.left child.new; counts = record { faults = C.faults child.new; refusals = C.refusals child.new } }; program = C.program child.new } })
-        result (each state used.new.items) (record { told = F.told files.new; counts = F.counts files.new }) }
-    ensures running { result.is_started ≡ true → IsRunning (C.program child.new).life }
+        (begun (Run asking.now.owner.now asking.now.frontend asking.now.priority command.now) (stock_of (F.files files.old) (each state used.old.items))
+        roots.now settings.now (L.link io.old))
+        (links_of (L.link io.old) (C.link child.old)) (links_of (L.link io.new) (C.link child.new)) result (each state used.new.items) (F.files files.new) }
+    ensures running { result.is_started ≡ true → IsRunning (C.link child.new).program.life }
 {
     match child.start(command) {
         Err(error) => ToolAnswer {
@@ -124,13 +117,9 @@ fn serve_program<L: Link, C: Child, F: Files>(
     requires templates { IsOver roots.now.templates (length used.old.items) }
     requires disjoint { are_disjoint roots.now.config roots.now.templates ≡ true }
     ensures served { (command : List (List ℕ)) → HasServedProgram
-        (begun (Run asking.now.owner.now asking.now.frontend asking.now.priority command) (record { files = record { told = F.told files.old; counts = F.counts files.old }; used = each state used.old.items }) roots.now settings.now
-        (record { talk = L.talk io.old; input = L.left io.old; counts = record { faults = L.faults io.old; refusals = L.refusals io.old } }))
-        (record { talk = L.talk io.new; input = L.left io.new; counts = record { faults = L.faults io.new; refusals = L.refusals io.new } })
-        (record { talk = C.talk child.old; input = C.left child.old; counts = record { faults = C.faults child.old; refusals = C.refusals child.old } })
-        (record { talk = C.talk child.new; input = C.left child.new; counts = record { faults = C.faults child.new; refusals = C.refusals child.new } })
-        result (each state used.new.items) (record { told = F.told files.new; counts = F.counts files.new }) }
-    ensures program { C.program child.new ≡ C.program child.old }
+        (begun (Run asking.now.owner.now asking.now.frontend asking.now.priority command) (stock_of (F.files files.old) (each state used.old.items))
+        roots.now settings.now (L.link io.old))
+        (L.link io.new) (C.link child.old) (C.link child.new) result (each state used.new.items) (F.files files.new) }
 {
     let served = serve_for(
         alloc,
@@ -168,22 +157,10 @@ fn serve_for<L: Link, T: Link, F: Files>(
     requires config { IsOver roots.now.config (length used.old.items) }
     requires templates { IsOver roots.now.templates (length used.old.items) }
     requires disjoint { are_disjoint roots.now.config roots.now.templates ≡ true }
-    ensures served { IsServed
-        (record {
-          store = stored (each state used.old.items) [];
-          files = record { told = F.told files.old; counts = F.counts files.old };
-          terminal = record { link = record { talk = T.talk terminal.old; input = T.left terminal.old; counts = record { faults = T.faults terminal.old; refusals = T.refusals terminal.old } }; ahead = nothing_typed };
-          at = context_of roots.now settings.now;
-          owner = owner.now;
-          policy = policy_by frontend threshold settings.now.nonint_seen (each state used.old.items) (context_of roots.now settings.now);
-          asking = nothing_asked;
-        })
-        (each state used.new.items) (record { told = F.told files.new; counts = F.counts files.new })
-        (record { talk = T.talk terminal.new; input = T.left terminal.new; counts = record { faults = T.faults terminal.new; refusals = T.refusals terminal.new } })
-        (record { talk = L.talk io.old; input = L.left io.old; counts = record { faults = L.faults io.old; refusals = L.refusals io.old } })
-        (record { talk = L.talk io.new; input = L.left io.new; counts = record { faults = L.faults io.new; refusals = L.refusals io.new } })
-        result.end result.last_code }
-    ensures program { L.program io.new ≡ L.program io.old }
+    ensures { IsServed
+        (session_at (stock_of (F.files files.old) (each state used.old.items)) (untyped (T.link terminal.old)) roots.now settings.now owner.now frontend
+        threshold)
+        (each state used.new.items) (F.files files.new) (T.link terminal.new) (L.link io.old) (L.link io.new) result.end result.last_code }
 {
     let setup = SessionSetup {
         owner,

@@ -6,11 +6,12 @@ ghost use Rattle.dc_frontend.specs.Frontends.{frontend_of};
 ghost use Rattle.dc_conf.specs.Configuration.{plan_of, IsAnswer, AreDisjoint};
 ghost use Rattle.dc_conf.specs.Plans.{IsOver, are_disjoint};
 ghost use Rattle.dc_proto.specs.Priorities.{priority_of};
-ghost use Rattle.dc_conf.specs.declared.spec.LayerSort.TheVariants.{File as OneFile, Tree, Pack};
+ghost use Rattle.dc_conf.specs.declared.spec.LayerSort.TheVariants.{File, Tree, Pack};
 ghost use Rattle.dc_shelf.specs.Shelves.{AreBlank, LoadsAll, all_set_up};
 ghost use Rattle.dc_save.specs.Loading.{text_in};
 ghost use Rattle.dc_run.specs.Ends.{end_of_conf as end_of_conf_by, end_of_patterns as end_of_patterns_by, end_of_load as end_of_load_by};
 ghost use Rattle.dc_run.specs.Starting.{Starts, ReadsConf, IsSomeConfiguration, databases_of, chosen as chosen_of};
+ghost use Rattle.dc_run.specs.World.{files_in, packs_in, stock_of, trees_in, used_in};
 
 use crate::outcome::{End, PatternAt};
 use crate::settings::Settings;
@@ -42,14 +43,14 @@ pub fn start<F: Files>(
     files: &mut F,
     shelf: &mut Shelf,
 ) -> Result<Roots, End>
-    requires files { AreBlank OneFile (each (λ b. state (b.vtable, b.value)) shelf.old.files.items) }
-    requires trees { AreBlank Tree (each (λ b. state (b.vtable, b.value)) shelf.old.trees.items) }
-    requires packs { AreBlank Pack (each (λ b. state (b.vtable, b.value)) shelf.old.packs.items) }
+    requires files { AreBlank File (files_in state shelf.old) }
+    requires trees { AreBlank Tree (trees_in state shelf.old) }
+    requires packs { AreBlank Pack (packs_in state shelf.old) }
     requires some_files { 16 ≤ length shelf.old.files.items }
     requires some_trees { 16 ≤ length shelf.old.trees.items }
     requires some_packs { 16 ≤ length shelf.old.packs.items }
     requires used { shelf.old.used.items ≡ [] }
-    ensures starts { Starts path.now (record { told = F.told files.old; counts = F.counts files.old }) (record { files = record { told = F.told files.new; counts = F.counts files.new }; used = each (λ b. state (b.vtable, b.value)) shelf.new.used.items }) result }
+    ensures starts { Starts path.now (F.files files.old) (stock_of (F.files files.new) (used_in state shelf.new)) result }
     ensures over { IfOk result (λ roots. IsOver roots.config (length shelf.new.used.items) × IsOver roots.templates (length shelf.new.used.items)) }
     ensures disjoint { IfOk result (λ roots. are_disjoint roots.config roots.templates ≡ true) }
 {
@@ -90,7 +91,8 @@ fn load_used<F: Files>(
     used: &mut Vec<Box<dyn Layer>>,
 ) -> Result<(), LoadError>
     requires { each state used.old.items ≡ all_set_up specs.now }
-    ensures loads { LoadsAll specs.now (each state used.old.items) (each state used.new.items) (F.told files.old) (F.told files.new) (F.counts files.old) (F.counts files.new) result }
+    ensures loads { LoadsAll specs.now (each state used.old.items) (each state used.new.items) (F.files files.old).view (F.files files.new).view
+        (F.files files.old).counts (F.files files.new).counts result }
     ensures count { length used.new.items ≡ length specs.now }
 {
     load_all(alloc, files, specs, used.as_mut_slice())
@@ -176,7 +178,7 @@ fn priority_in(word: &Option<Text>) -> Option<Priority>
 
 // The configuration at the path. A file that isn't there is the empty text.
 fn read_configuration<F: Files>(alloc: Global, path: &Text, files: &mut F) -> Result<Conf, End>
-    ensures { ReadsConf path.now (record { told = F.told files.old; counts = F.counts files.old }) (record { told = F.told files.new; counts = F.counts files.new }) result }
+    ensures { ReadsConf path.now (F.files files.old) (F.files files.new) result }
 {
     let kept = match path.copy() {
         Ok(kept) => kept,
@@ -207,7 +209,8 @@ fn configuration_in(alloc: Global, found: &Option<Text>) -> Result<Conf, ConfErr
 fn resolve(alloc: Global, conf: &Conf) -> Result<Resolved, ResolveError>
     requires { IsSomeConfiguration conf.now }
     ensures specs { IfOk result (λ resolved. resolved.specs ≡ databases_of conf.now) }
-    ensures plans { IfOk result (λ resolved. resolved.plans ≡ plan_of conf.now (databases_of conf.now) conf.now.config ∷ plan_of conf.now (databases_of conf.now) conf.now.templates ∷ []) }
+    ensures plans { IfOk result (λ resolved. resolved.plans ≡ plan_of conf.now (databases_of conf.now) conf.now.config ∷ plan_of conf.now
+        (databases_of conf.now) conf.now.templates ∷ []) }
     ensures over { IfOk result (λ resolved. AllByRecursion (λ plan. IsOver plan (length resolved.specs)) resolved.plans) }
     ensures disjoint { IfOk result (λ resolved. AreDisjoint resolved.plans) }
     ensures few { IfOk result (λ resolved. length resolved.specs ≤ 16) }

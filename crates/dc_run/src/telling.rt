@@ -17,20 +17,20 @@ use itoa::Buffer;
 // Says some bytes. A write that fails is passed over.
 #[tactic(auto, using(crate::proofs::Saying::written_said))]
 fn say<E: Link>(err: &mut E, bytes: &[u8])
-    ensures { HasSaid bytes.now (E.talk err.old) (E.talk err.new) (record { faults = E.faults err.old; refusals = E.refusals err.old }) (record { faults = E.faults err.new; refusals = E.refusals err.new }) }
+    ensures { HasSaid bytes.now (E.link err.old) (E.link err.new) }
 {
     let _ = err.write(bytes);
 }
 
 fn say_number<E: Link>(err: &mut E, number: u64)
-    ensures { HasSaid (decimal number) (E.talk err.old) (E.talk err.new) (record { faults = E.faults err.old; refusals = E.refusals err.old }) (record { faults = E.faults err.new; refusals = E.refusals err.new }) }
+    ensures { HasSaid (decimal number) (E.link err.old) (E.link err.new) }
 {
     let mut buffer = Buffer::new();
     say(err, buffer.format(number).as_bytes());
 }
 
 fn say_place<E: Link>(err: &mut E, at: PatternAt)
-    ensures { HasSaid (place_text at) (E.talk err.old) (E.talk err.new) (record { faults = E.faults err.old; refusals = E.refusals err.old }) (record { faults = E.faults err.new; refusals = E.refusals err.new }) }
+    ensures { HasSaid (place_text at) (E.link err.old) (E.link err.new) }
 {
     match at {
         PatternAt::Database(place) => {
@@ -47,7 +47,7 @@ fn say_place<E: Link>(err: &mut E, at: PatternAt)
 /// Tells of the end of a run on standard error, in one line, unless it did all that it was to do.
 #[tactic(auto, using(crate::proofs::Saying::none_said))]
 pub fn tell_end<E: Link>(err: &mut E, end: &End)
-    ensures { HasSaid (end_line end.now) (E.talk err.old) (E.talk err.new) (record { faults = E.faults err.old; refusals = E.refusals err.old }) (record { faults = E.faults err.new; refusals = E.refusals err.new }) }
+    ensures { HasSaid (end_line end.now) (E.link err.old) (E.link err.new) }
 {
     match end {
         End::Done => {}
@@ -96,7 +96,7 @@ pub fn tell_end<E: Link>(err: &mut E, end: &End)
 /// Tells of a template file that isn't loaded why, in one line.
 #[tactic(auto, using(crate::proofs::Saying::none_said))]
 pub fn tell_file<E: Link>(err: &mut E, path: &Text, ended: &FileEnd)
-    ensures { HasSaid (told_line (end_text path.now ended.now)) (E.talk err.old) (E.talk err.new) (record { faults = E.faults err.old; refusals = E.refusals err.old }) (record { faults = E.faults err.new; refusals = E.refusals err.new }) }
+    ensures { HasSaid (told_line (end_text path.now ended.now)) (E.link err.old) (E.link err.new) }
 {
     match ended {
         FileEnd::Loaded | FileEnd::Unreadable => {}
@@ -119,7 +119,7 @@ pub fn tell_file<E: Link>(err: &mut E, path: &Text, ended: &FileEnd)
 }
 
 fn say_refusal<E: Link>(err: &mut E, error: &QuestionError)
-    ensures { HasSaid (refusal [] error.now).text (E.talk err.old) (E.talk err.new) (record { faults = E.faults err.old; refusals = E.refusals err.old }) (record { faults = E.faults err.new; refusals = E.refusals err.new }) }
+    ensures { HasSaid (refusal [] error.now).text (E.link err.old) (E.link err.new) }
 {
     match error {
         QuestionError::NoQuestion { name } => {

@@ -2,7 +2,7 @@
 use Rattle.std.proofs.Common.{◌≡◌, ◌⊎◌, inl, inr, ⊎_elim, ℕ, ◌++◌, List, [], ◌∷◌, Option, None, Some, Result, Ok, Err, refl, sym, ap, subst, ◌∙◌}
 use Rattle.std.specs.Option.{option_map}
 use Rattle.dc_outside.specs.Disk.{Disk, DiskState, File, CrashOutcome, OneOf, Allows, MayLeave, MayLeaveMore, HasLeftMore, IsSound, then_stands, open_at, durable_at, moved_outcome, with_rename, with_removal, names_durable}
-use Rattle.dc_outside.specs.Told.{Told}
+use Rattle.dc_outside.specs.State.{FilesView}
 use Rattle.dc_outside.specs.Steps.{Step, Writing, Syncing, Renaming, SyncingNames, Removing, done, after_step, HalfDone, Leaves}
 use Rattle.dc_outside.proofs.Moments.{none_more, more_then, more_more, sound_open, sound_settled, sound_with, sound_renamed, sound_removed, sound_names, same_more, open_more, settled_more, rename_more, renamed_more, removal_more, removed_more, names_more, moved_written}
 use Rattle.dc_layer.specs.declared.image.Image.{Image}
@@ -38,8 +38,8 @@ module _ (more : List ℕ → Option File → Type 0) (Good : DiskState → Type
   failed_at step mid new told is so_far good half (inl same) = subst (λ (d : Disk). Runs more Good old d) (same_some mid new (sym same ∙ is)) (record { moments = so_far; now = good })
   failed_at step mid new told is so_far good half (inr left) = subst (λ (d : Disk). Runs more Good old d) (same_some (then_stands mid left.0) new (sym left.2 ∙ is)) (one_more mid left.0 so_far (half left.0 left.1))
 
-  module _ (new : Told) (after : Disk) (is : new.disk ≡ Some after) where
-    run_failed : (steps : List Step) (told : Told) (mid : Disk) → told.disk ≡ Some mid → HasLeftMore more old mid → Safe Good mid.current steps → FailsIn steps told new → Runs more Good old after
+  module _ (new : FilesView) (after : Disk) (is : new.disk ≡ Some after) where
+    run_failed : (steps : List Step) (told : FilesView) (mid : Disk) → told.disk ≡ Some mid → HasLeftMore more old mid → Safe Good mid.current steps → FailsIn steps told new → Runs more Good old after
     unfolding Safe
     run_failed [] told mid at so_far safe fails = absurd fails
     run_failed (step ∷ steps) told mid at so_far safe (inl fails) =
@@ -48,10 +48,10 @@ module _ (more : List ℕ → Option File → Type 0) (Good : DiskState → Type
         run_failed steps (after_step told step) (then_stands mid (done step mid.current)) (ap (λ (o : Option Disk). option_map (λ disk. then_stands disk (done step disk.current)) o) at)
         (more_then more old mid (done step mid.current) so_far (within _ (first_good steps _ safe.2))) safe.2 fails
 
-    run_stopped : (steps : List Step) (told : Told) (mid : Disk) → told.disk ≡ Some mid → HasLeftMore more old mid → Safe Good mid.current steps → StopsIn steps told new → Runs more Good old after
+    run_stopped : (steps : List Step) (told : FilesView) (mid : Disk) → told.disk ≡ Some mid → HasLeftMore more old mid → Safe Good mid.current steps → StopsIn steps told new → Runs more Good old after
     unfolding Safe
     run_stopped [] told mid at so_far safe stops = absurd stops
-    run_stopped (step ∷ steps) told mid at so_far safe (inl stops) = subst (λ (d : Disk). Runs more Good old d) (same_some mid after (sym at ∙ ap (λ (t : Told). t.disk) (sym stops) ∙ is)) (record { moments = so_far; now = safe.0 })
+    run_stopped (step ∷ steps) told mid at so_far safe (inl stops) = subst (λ (d : Disk). Runs more Good old d) (same_some mid after (sym at ∙ ap (λ (t : FilesView). t.disk) (sym stops) ∙ is)) (record { moments = so_far; now = safe.0 })
     run_stopped (step ∷ steps) told mid at so_far safe (inr stops) =
         run_stopped steps (after_step told step) (then_stands mid (done step mid.current)) (ap (λ (o : Option Disk). option_map (λ disk. then_stands disk (done step disk.current)) o) at)
         (more_then more old mid (done step mid.current) so_far (within _ (first_good steps _ safe.2))) safe.2 stops
@@ -140,7 +140,7 @@ pub record RunsTo (more : List ℕ → Option File → Type 0) (Good : DiskState
   pub runs : Runs more Good old after
 
 module _ (more : List ℕ → Option File → Type 0) (Good : DiskState → Type 0) (old : Disk) (within : (current : DiskState) → Good current → MayLeaveMore more old.current current) where
-  run_done : (steps : List Step) (told : Told) (mid : Disk) → told.disk ≡ Some mid → HasLeftMore more old mid → Safe Good mid.current steps → RunsTo more Good old steps mid (after_steps told steps).disk
+  run_done : (steps : List Step) (told : FilesView) (mid : Disk) → told.disk ≡ Some mid → HasLeftMore more old mid → Safe Good mid.current steps → RunsTo more Good old steps mid (after_steps told steps).disk
   unfolding Safe
   run_done [] told mid at so_far safe = record { after = mid; is = at; stands = refl; runs = record { moments = so_far; now = safe } }
   run_done (step ∷ steps) told mid at so_far safe =
@@ -149,17 +149,17 @@ module _ (more : List ℕ → Option File → Type 0) (Good : DiskState → Type
       (more_then more old mid (done step mid.current) so_far (within _ (first_good more Good old within steps _ safe.2))) safe.2 in
       record { after = rest.after; is = rest.is; stands = rest.stands; runs = rest.runs }
 
-module _ (image : Image) (told : Told) (old : Disk) (at : told.disk ≡ Some old) (sound : IsSound old.current) where
+module _ (image : Image) (told : FilesView) (old : Disk) (at : told.disk ≡ Some old) (sound : IsSound old.current) where
   safe : Safe (Good old.current image) old.current (image_steps image)
   safe = safe_image old.current image.path image.mode image.bytes image.old sound
 
   pub image_done : RunsTo (MayAdd image) (Good old.current image) old (image_steps image) old (after_image told image).disk
   image_done = run_done (MayAdd image) (Good old.current image) old (λ current good. good.within) (image_steps image) told old at (none_more (MayAdd image) old) safe
 
-  pub image_failed : (new : Told) (after : Disk) → new.disk ≡ Some after → HasFailed told new image → Runs (MayAdd image) (Good old.current image) old after
+  pub image_failed : (new : FilesView) (after : Disk) → new.disk ≡ Some after → HasFailed told new image → Runs (MayAdd image) (Good old.current image) old after
   image_failed new after is fails = run_failed (MayAdd image) (Good old.current image) old (λ current good. good.within) new after is (image_steps image) told old at (none_more (MayAdd image) old) safe fails
 
-  pub image_stopped : (new : Told) (after : Disk) → new.disk ≡ Some after → HasRunOut told new image → Runs (MayAdd image) (Good old.current image) old after
+  pub image_stopped : (new : FilesView) (after : Disk) → new.disk ≡ Some after → HasRunOut told new image → Runs (MayAdd image) (Good old.current image) old after
   image_stopped new after is stops = run_stopped (MayAdd image) (Good old.current image) old (λ current good. good.within) new after is (image_steps image) told old at (none_more (MayAdd image) old) safe stops
 
 first_added : (image : Image) (images : List Image) (path : List ℕ) (entry : Option File) → MayAdd image path entry → MayAddAny (image ∷ images) path entry
@@ -168,18 +168,18 @@ first_added image images path entry added = inl added
 later_added : (image : Image) (images : List Image) (path : List ℕ) (entry : Option File) → MayAddAny images path entry → MayAddAny (image ∷ images) path entry
 later_added image images path entry added = inr added
 
-pub same_disks : (old after : Disk) (told new : Told) → told.disk ≡ Some old → new.disk ≡ Some after → new ≡ told → old ≡ after
-same_disks old after told new at is same = same_some old after (sym at ∙ ap (λ (t : Told). t.disk) (sym same) ∙ is)
+pub same_disks : (old after : Disk) (told new : FilesView) → told.disk ≡ Some old → new.disk ≡ Some after → new ≡ told → old ≡ after
+same_disks old after told new at is same = same_some old after (sym at ∙ ap (λ (t : FilesView). t.disk) (sym same) ∙ is)
 
-module _ (new : Told) (after : Disk) (is : new.disk ≡ Some after) where
-  among_done : (images : List Image) (told : Told) (old : Disk) → told.disk ≡ Some old → IsSound old.current → new ≡ after_images told images → HasLeftMore (MayAddAny images) old after
+module _ (new : FilesView) (after : Disk) (is : new.disk ≡ Some after) where
+  among_done : (images : List Image) (told : FilesView) (old : Disk) → told.disk ≡ Some old → IsSound old.current → new ≡ after_images told images → HasLeftMore (MayAddAny images) old after
   among_done [] told old at sound same = subst (λ (d : Disk). HasLeftMore (MayAddAny []) old d) (same_disks old after told new at is same) (none_more (MayAddAny []) old)
   among_done (image ∷ images) told old at sound all =
       let first = image_done image told old at sound in
       more_more (MayAdd image) (MayAddAny images) (MayAddAny (image ∷ images)) (first_added image images) (later_added image images) old first.after after first.runs.moments
       (among_done images (after_image told image) first.after first.is first.runs.now.sound all)
 
-  among_failed : (images : List Image) (path : List ℕ) (told : Told) (old : Disk) → told.disk ≡ Some old → IsSound old.current → FailsAmong images path told new → HasLeftMore (MayAddAny images) old after
+  among_failed : (images : List Image) (path : List ℕ) (told : FilesView) (old : Disk) → told.disk ≡ Some old → IsSound old.current → FailsAmong images path told new → HasLeftMore (MayAddAny images) old after
   among_failed [] path told old at sound fails = absurd fails
   among_failed (image ∷ images) path told old at sound (inl fails) =
       weaker (MayAdd image) (MayAddAny (image ∷ images)) old after (first_added image images) (image_failed image told old at sound new after is fails.1).moments
@@ -188,7 +188,7 @@ module _ (new : Told) (after : Disk) (is : new.disk ≡ Some after) where
       more_more (MayAdd image) (MayAddAny images) (MayAddAny (image ∷ images)) (first_added image images) (later_added image images) old first.after after first.runs.moments
       (among_failed images path (after_image told image) first.after first.is first.runs.now.sound fails)
 
-  among_stopped : (images : List Image) (told : Told) (old : Disk) → told.disk ≡ Some old → IsSound old.current → StopsAmong images told new → HasLeftMore (MayAddAny images) old after
+  among_stopped : (images : List Image) (told : FilesView) (old : Disk) → told.disk ≡ Some old → IsSound old.current → StopsAmong images told new → HasLeftMore (MayAddAny images) old after
   among_stopped [] told old at sound stops = absurd stops
   among_stopped (image ∷ images) told old at sound (inl stops) =
       weaker (MayAdd image) (MayAddAny (image ∷ images)) old after (first_added image images) (image_stopped image told old at sound new after is stops).moments
@@ -198,7 +198,7 @@ module _ (new : Told) (after : Disk) (is : new.disk ≡ Some after) where
       (among_stopped images (after_image told image) first.after first.is first.runs.now.sound stops)
 
 -- a save of images, however it ends
-pub every_moment : (images : List Image) (old new : Told) (result : Result (Unit {0}) SaveError) → Saves images old new result → LeavesOldOrNew images old new
+pub every_moment : (images : List Image) (old new : FilesView) (result : Result (Unit {0}) SaveError) → Saves images old new result → LeavesOldOrNew images old new
 every_moment images old new (Ok value) all before after at is durable = among_done new after is images old before at durable.sound all
 every_moment images old new (Err (Failed path)) fails before after at is durable = among_failed new after is images path old before at durable.sound fails
 every_moment images old new (Err OutOfMemory) (inl same) before after at is durable = subst (λ (d : Disk). HasLeftMore (MayAddAny images) before d) (same_disks before after old new at is same) (none_more (MayAddAny images) before)

@@ -8,7 +8,7 @@ use Rattle.std.specs.FinMap as map
 use Rattle.std.specs.FinMap.{get-insert, get-remove}
 use Rattle.dc_text.specs.Maps.{Texts}
 use Rattle.dc_outside.specs.Disk.{Disk, DiskState, File, Among, HasLeftMore, IsDurable, moment, renamed, open_at, durable_at}
-use Rattle.dc_outside.specs.Told.{Told}
+use Rattle.dc_outside.specs.State.{FilesView}
 use Rattle.dc_outside.specs.Steps.{Renaming, Removing, done}
 use Rattle.dc_outside.proofs.DiskLemmas.{same, same_files, get-here, get-renamed, with_entry-apart}
 use Rattle.dc_outside.proofs.Moments.{at_rest, none_open, none_written, none_renamed, none_removed, none_pending, left_now}
@@ -54,7 +54,7 @@ image_saved start path mode (Some bytes) (Some old) durable =
 
 -- ---- images
 
-module _ (image : Image) (told : Told) (old : Disk) (at : told.disk ≡ Some old) (durable : IsDurable old.current) where
+module _ (image : Image) (told : FilesView) (old : Disk) (at : told.disk ≡ Some old) (durable : IsDurable old.current) where
   stands : (image_done image told old at durable.sound).after.current ≡ saved old.current image
   stands = (image_done image told old at durable.sound).stands ∙ image_saved old.current image.path image.mode image.bytes image.old durable
 
@@ -67,15 +67,15 @@ half_saved image old after runs = record { sound = runs.now.sound; at_most = run
 one_more : (path : List ℕ) (first : Image) (images : List Image) (old new : DiskState) → IsSavedTo path images (saved old first) new → IsSavedTo path (first ∷ images) old new
 one_more path first images old new to = record { before = first ∷ to.before; image = to.image; after = to.after; are = ap (λ l. first ∷ l) to.are; path_is = to.path_is; half = to.half }
 
-module _ (new : Told) (after : Disk) (is : new.disk ≡ Some after) where
-  ends_done : (images : List Image) (told : Told) (old : Disk) → told.disk ≡ Some old → IsDurable old.current → Saves images told new (Ok tt) → after.current ≡ all_saved old.current images
+module _ (new : FilesView) (after : Disk) (is : new.disk ≡ Some after) where
+  ends_done : (images : List Image) (told : FilesView) (old : Disk) → told.disk ≡ Some old → IsDurable old.current → Saves images told new (Ok tt) → after.current ≡ all_saved old.current images
   ends_done [] told old at durable all = sym (ap (λ (d : Disk). d.current) (same_disks old after told new at is all))
   ends_done (image ∷ images) told old at durable all =
       let first = image_done image told old at durable.sound in
       ends_done images (after_image told image) first.after first.is (rests image told old at durable) all
       ∙ ap (λ s. all_saved s images) (stands image told old at durable)
 
-  ends_failed : (images : List Image) (path : List ℕ) (told : Told) (old : Disk) → told.disk ≡ Some old → IsDurable old.current → FailsAmong images path told new → IsSavedTo path images old.current after.current
+  ends_failed : (images : List Image) (path : List ℕ) (told : FilesView) (old : Disk) → told.disk ≡ Some old → IsDurable old.current → FailsAmong images path told new → IsSavedTo path images old.current after.current
   ends_failed [] path told old at durable fails = absurd fails
   ends_failed (image ∷ images) path told old at durable (inl fails) = record {
     before = [];
@@ -90,7 +90,7 @@ module _ (new : Told) (after : Disk) (is : new.disk ≡ Some after) where
       one_more path image images old.current after.current (subst (λ s. IsSavedTo path images s after.current) (stands image told old at durable)
       (ends_failed images path (after_image told image) first.after first.is (rests image told old at durable) fails))
 
-  ends_stopped : (images : List Image) (told : Told) (old : Disk) → told.disk ≡ Some old → IsDurable old.current → StopsAmong images told new → (path : List ℕ) × IsSavedTo path images old.current after.current
+  ends_stopped : (images : List Image) (told : FilesView) (old : Disk) → told.disk ≡ Some old → IsDurable old.current → StopsAmong images told new → (path : List ℕ) × IsSavedTo path images old.current after.current
   ends_stopped [] told old at durable stops = absurd stops
   ends_stopped (image ∷ images) told old at durable (inl stops) = (
     image.path,
@@ -108,7 +108,7 @@ module _ (new : Told) (after : Disk) (is : new.disk ≡ Some after) where
       let to = ends_stopped images (after_image told image) first.after first.is (rests image told old at durable) stops in
       (to.0, one_more to.0 image images old.current after.current (subst (λ s. IsSavedTo to.0 images s after.current) (stands image told old at durable) to.1))
 
-pub ends : (images : List Image) (old new : Told) (result : Result (Unit {0}) SaveError) → Saves images old new result → EndsWith images old new result
+pub ends : (images : List Image) (old new : FilesView) (result : Result (Unit {0}) SaveError) → Saves images old new result → EndsWith images old new result
 ends images old new (Ok value) all before after at is durable = ends_done new after is images old before at durable all
 ends images old new (Err (Failed path)) fails before after at is durable = ends_failed new after is images path old before at durable fails
 ends images old new (Err OutOfMemory) (inl same) before after at is durable = inl (sym (ap (λ (d : Disk). d.current) (same_disks before after old new at is same)))

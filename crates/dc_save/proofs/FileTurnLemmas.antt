@@ -1,14 +1,14 @@
 -- The files of a folder, one after another.
-use Rattle.std.proofs.Common.{◌≡◌, ℕ, Bool, true, false, cond, List, [], ◌∷◌, ◌++◌, map as each, Option, Some, None, Result, Ok, Err, refl, sym, ap, ◌∙◌, subst, append_assoc, inl, inr}
-use Rattle.std.specs.Prelude.{◌||◌, is_some}
+use Rattle.std.proofs.Common.{◌≡◌, ℕ, Bool, true, false, cond, List, [], ◌∷◌, ◌++◌, map as each, Option, Some, None, refl, sym, ap, ◌∙◌, subst, append_assoc}
+use Rattle.std.specs.Prelude.{is_some}
 use Rattle.std.specs.Ordering.{eq_by_cmp}
 use Rattle.std.specs.Cmp.Lexicographic.{nat_list_cmp_total}
-use Rattle.std.specs.FinMap.{FinMap, get, insert, contains_key, empty, entries, from_entries, find, get-from_entries, get-entries, get-insert, same_map}
+use Rattle.std.specs.FinMap.{get, insert, contains_key, entries, find, get-from_entries, get-entries, get-insert, same_map}
 use Rattle.std.proofs.lemmas.List.{append-nil, map-append}
 use Rattle.dc_text.specs.Maps.{text_cmp, AreDistinct}
 use Rattle.dc_text.proofs.MapLemmas.{exact_texts}
 use Rattle.dc_outside.specs.Disk.{Disk}
-use Rattle.dc_outside.specs.Told.{Told}
+use Rattle.dc_outside.specs.State.{FilesView}
 use Rattle.dc_outside.specs.Steps.{after_look}
 use Rattle.dc_outside.specs.declared.files.FilesOp.TheVariants.{Read}
 use Rattle.dc_item.proofs.ItemLemmas.{same_key}
@@ -24,11 +24,11 @@ use Rattle.dc_save.proofs.TableLemmas.{is_new}
 
 -- ---- what was read
 
-pub reads_push : (told : Told) (spec : LayerSpec) (files : List (List ℕ)) (file : List ℕ) → reads_of told spec (files ++ file ∷ []) ≡ after_look (reads_of told spec files) Read (path_at spec file) true
+pub reads_push : (told : FilesView) (spec : LayerSpec) (files : List (List ℕ)) (file : List ℕ) → reads_of told spec (files ++ file ∷ []) ≡ after_look (reads_of told spec files) Read (path_at spec file) true
 reads_push told spec [] file = refl
 reads_push told spec (first ∷ files) file = reads_push (after_look told Read (path_at spec first) true) spec files file
 
-pub reads_disk : (told : Told) (spec : LayerSpec) (files : List (List ℕ)) → (reads_of told spec files).disk ≡ told.disk
+pub reads_disk : (told : FilesView) (spec : LayerSpec) (files : List (List ℕ)) → (reads_of told spec files).disk ≡ told.disk
 reads_disk told spec [] = refl
 reads_disk told spec (file ∷ files) = reads_disk (after_look told Read (path_at spec file) true) spec files
 

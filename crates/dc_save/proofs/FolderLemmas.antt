@@ -1,9 +1,10 @@
 -- The load of a folder, from those of its files.
-use Rattle.std.proofs.Common.{◌≡◌, ◌⊎◌, ℕ, Bool, true, false, List, [], ◌∷◌, ◌++◌, map as each, Option, Some, None, Result, Ok, Err, Vec, Global, refl, sym, ap, ◌∙◌, subst, append_assoc, inl, inr}
+use Rattle.std.proofs.Common.{◌≡◌, ℕ, Bool, true, false, List, [], ◌∷◌, ◌++◌, map as each, Option, Some, Result, Ok, Err, Vec, Global, refl, sym, ap, ◌∙◌, subst, append_assoc, inl, inr}
 use Rattle.std.specs.Prelude.{IfSome}
 use Rattle.std.specs.FinMap as map
 use Rattle.dc_outside.specs.Disk.{Disk, bytes_at}
-use Rattle.dc_outside.specs.Told.{Told, Counts}
+use Rattle.dc_outside.specs.State.{FilesView}
+use Rattle.dc_outside.specs.Counts.{Counts}
 use Rattle.dc_outside.specs.Steps.{after_look}
 use Rattle.dc_outside.specs.declared.files.FilesOp.TheVariants.{Read, List as ListOf}
 use Rattle.dc_item.specs.Table.{table_of}
@@ -11,8 +12,8 @@ use Rattle.dc_item.specs.declared.entry.Entry.{Entry}
 use Rattle.dc_conf.specs.declared.spec.LayerSpec.{LayerSpec}
 use Rattle.dc_layer.specs.State.{Table, LayerState}
 use Rattle.dc_save.specs.Found.{IsFoundAt, IsSameButTable}
-use Rattle.dc_save.specs.FolderLoading.{Holds, HoldAll, IsListedAt, IsFolderDamaged, HasRead, HasFailedAt, FailsOn, LoadsFolder, LoadsFolderFiles, FolderCounts, its_files, path_at, reads_of, after_reads}
-use Rattle.dc_save.specs.FileTurns.{FileTurn, FileTurnTold, FileTurnCounts, StopsAt, with_new}
+use Rattle.dc_save.specs.FolderLoading.{Holds, HoldAll, IsListedAt, HasRead, HasFailedAt, FailsOn, LoadsFolder, LoadsFolderFiles, its_files, path_at, reads_of, after_reads}
+use Rattle.dc_save.specs.FileTurns.{FileTurn, FileTurnTold, StopsAt, with_new}
 use Rattle.dc_save.specs.Loading.{PassesOver}
 use Rattle.dc_save.proofs.FileTurnLemmas.{reads_disk, reads_push, hold_push, table_push}
 use Rattle.dc_save.specs.declared.loading.Loaded.{Loaded}
@@ -44,20 +45,20 @@ nothing_yet layer e = ap (λ (table : Table). record layer { table = table }) e
 
 -- ---- one more file
 
-module _ (spec : LayerSpec) (first_told told : Told) (done : List (List ℕ)) (file : List ℕ) (told_is : told ≡ reads_of first_told spec done) where
+module _ (spec : LayerSpec) (first_told told : FilesView) (done : List (List ℕ)) (file : List ℕ) (told_is : told ≡ reads_of first_told spec done) where
   disk_kept : told.disk ≡ first_told.disk
-  disk_kept = ap (λ (t : Told). t.disk) told_is ∙ reads_disk first_told spec done
+  disk_kept = ap (λ (t : FilesView). t.disk) told_is ∙ reads_disk first_told spec done
 
   pub turn_at : (first layer new : LayerState) (entries : List Entry) → layer ≡ record first { table = table_of entries } → (result : Result (Unit {0}) LoadError) → FileTurn told.disk spec file layer new result
       → FileTurn first_told.disk spec file (record first { table = table_of entries }) new result
   turn_at first layer new entries layer_is result turn =
       subst (λ (l : LayerState). FileTurn first_told.disk spec file l new result) layer_is (subst (λ (d : Option Disk). FileTurn d spec file layer new result) disk_kept turn)
 
-  pub told_at : (told_new : Told) (result : Result (Unit {0}) LoadError) → FileTurnTold told told_new (path_at spec file) result → FileTurnTold (reads_of first_told spec done) told_new (path_at spec file) result
-  told_at told_new result turn = subst (λ (t : Told). FileTurnTold t told_new (path_at spec file) result) told_is turn
+  pub told_at : (told_new : FilesView) (result : Result (Unit {0}) LoadError) → FileTurnTold told told_new (path_at spec file) result → FileTurnTold (reads_of first_told spec done) told_new (path_at spec file) result
+  told_at told_new result turn = subst (λ (t : FilesView). FileTurnTold t told_new (path_at spec file) result) told_is turn
 
-  pub told_after : (told_new : Told) → told_new ≡ after_look told Read (path_at spec file) true → told_new ≡ reads_of first_told spec (done ++ file ∷ [])
-  told_after told_new is = is ∙ ap (λ (t : Told). after_look t Read (path_at spec file) true) told_is ∙ sym (reads_push first_told spec done file)
+  pub told_after : (told_new : FilesView) → told_new ≡ after_look told Read (path_at spec file) true → told_new ≡ reads_of first_told spec (done ++ file ∷ [])
+  told_after told_new is = is ∙ ap (λ (t : FilesView). after_look t Read (path_at spec file) true) told_is ∙ sym (reads_push first_told spec done file)
 
   pub held_after : (entries more : List Entry) (found : Option (List ℕ)) → HoldAll first_told.disk spec done entries → IsFoundAt told.disk (path_at spec file) found → Holds spec file found more
       → HoldAll first_told.disk spec (done ++ file ∷ []) (entries ++ more)
@@ -76,12 +77,12 @@ next_file done file value key rest all keys is steps are =
 same_but : (layer new : LayerState) (table : Table) → new ≡ record layer { table = table } → IsSameButTable layer new
 same_but layer new table is = is ∙ ap (λ (t : Table). record layer { table = t }) (sym (ap (λ (l : LayerState). l.table) is))
 
-module _ (spec : LayerSpec) (listed its : List (List ℕ)) (layer new : LayerState) (old mid told_new : Told) (counts counts_new : Counts) (is : mid ≡ after_look old ListOf spec.place true) (at : IsListedAt old.disk spec.place listed) (are : its ≡ its_files spec listed) where
+module _ (spec : LayerSpec) (listed its : List (List ℕ)) (layer new : LayerState) (old mid told_new : FilesView) (counts counts_new : Counts) (is : mid ≡ after_look old ListOf spec.place true) (at : IsListedAt old.disk spec.place listed) (are : its ≡ its_files spec listed) where
   reads_are : (files : List (List ℕ)) → reads_of mid spec files ≡ after_reads old spec files
-  reads_are files = ap (λ (t : Told). reads_of t spec files) is
+  reads_are files = ap (λ (t : FilesView). reads_of t spec files) is
 
   disk_is : mid.disk ≡ old.disk
-  disk_is = ap (λ (t : Told). t.disk) is
+  disk_is = ap (λ (t : FilesView). t.disk) is
 
   pub failed_at : (path : List ℕ) (error : LoadError) → error ≡ Failed path → StopsAt spec its layer new mid told_new counts counts_new (Err error) → HasFailedAt spec path old told_new
   failed_at path error e given = let stops = subst (λ (x : LoadError). StopsAt spec its layer new mid told_new counts counts_new (Err x)) e given in record {
@@ -136,7 +137,7 @@ module _ (spec : LayerSpec) (listed its : List (List ℕ)) (layer new : LayerSta
   ]
 
 -- a folder of which a call failed
-pub passes_files : (old new : Told) (spec : LayerSpec) (required : Bool) (path : List ℕ) (layer made : LayerState) (result : Result Loaded LoadError) → PassesOver required path layer made result → FailsOn spec path old new → LoadsFolderFiles old new spec result
+pub passes_files : (old new : FilesView) (spec : LayerSpec) (required : Bool) (path : List ℕ) (layer made : LayerState) (result : Result Loaded LoadError) → PassesOver required path layer made result → FailsOn spec path old new → LoadsFolderFiles old new spec result
 passes_files old new spec required path layer made (Ok Here) over fails = absurd over
 passes_files old new spec required path layer made (Ok LeftOut) over fails = (path, fails)
 passes_files old new spec required path layer made (Err (Failed failed)) over fails = subst (λ (p : List ℕ). FailsOn spec p old new) (sym over.0) fails

@@ -1,10 +1,10 @@
 -- One file of a folder after another. The proofs alone speak of it: what loading a folder does is said by `LoadsFolder` of
 -- FolderLoading.
-use Rattle.std.specs.Prelude.{◌≡◌, ◌⊎◌, ℕ, List, [], ◌∷◌, ◌++◌, map as each, Option, Some, None, true, false, Result, Ok, Err}
+use Rattle.std.specs.Prelude.{◌≡◌, ◌⊎◌, ℕ, List, ◌∷◌, ◌++◌, map as each, Option, Some, true, false, Result, Ok, Err}
 use Rattle.std.specs.FinMap as map
 use Rattle.dc_outside.specs.Disk.{Disk}
-use Rattle.dc_outside.specs.Told.{Told, Counts}
-use Rattle.dc_outside.specs.Counts.{FaultRose, RefusalRose}
+use Rattle.dc_outside.specs.State.{FilesView}
+use Rattle.dc_outside.specs.Counts.{Counts, FaultRose, RefusalRose}
 use Rattle.dc_outside.specs.Steps.{after_look}
 use Rattle.dc_outside.specs.declared.files.FilesOp.TheVariants.{Read}
 use Rattle.dc_item.specs.Table.{contents, table_of}
@@ -40,7 +40,7 @@ FileTurn disk spec file layer new (Err (Damaged path line)) =
 FileTurn disk spec file layer new (Err OutOfMemory) = IsSameButTable layer new
 
 -- what it does to the files
-abbrev pub FileTurnTold : Told → Told → List ℕ → Result (Unit {0}) LoadError → Type 0
+abbrev pub FileTurnTold : FilesView → FilesView → List ℕ → Result (Unit {0}) LoadError → Type 0
 FileTurnTold old new path (Ok value) = new ≡ after_look old Read path true
 FileTurnTold old new path (Err (Failed failed)) = new ≡ after_look old Read path false
 FileTurnTold old new path (Err (Damaged damaged line)) = new ≡ after_look old Read path true
@@ -53,7 +53,7 @@ FileTurnCounts (Err (Damaged damaged line)) before now = now ≡ before
 FileTurnCounts (Err OutOfMemory) before now = (now ≡ before) ⊎ RefusalRose before now
 
 -- the first of these files were loaded, and then one wasn't
-pub record StopsAt (spec : LayerSpec) (files : List (List ℕ)) (layer new : LayerState) (told told_new : Told) (counts counts_new : Counts) (result : Result (Unit {0}) LoadError) : Type 0 where
+pub record StopsAt (spec : LayerSpec) (files : List (List ℕ)) (layer new : LayerState) (told told_new : FilesView) (counts counts_new : Counts) (result : Result (Unit {0}) LoadError) : Type 0 where
   pub before : List (List ℕ)
   pub file : List ℕ
   pub after : List (List ℕ)
@@ -65,7 +65,7 @@ pub record StopsAt (spec : LayerSpec) (files : List (List ℕ)) (layer new : Lay
   pub counted : FileTurnCounts result counts counts_new
 
 -- what loading these files does, by its answer
-abbrev pub FileTurns : LayerSpec → List (List ℕ) → LayerState → LayerState → Told → Told → Counts → Counts → Result (Unit {0}) LoadError → Type 0
+abbrev pub FileTurns : LayerSpec → List (List ℕ) → LayerState → LayerState → FilesView → FilesView → Counts → Counts → Result (Unit {0}) LoadError → Type 0
 FileTurns spec files layer new told told_new counts counts_new (Ok value) =
     (entries : List Entry) × HoldAll told.disk spec files entries × (new ≡ record layer { table = table_of entries }) × (told_new ≡ reads_of told spec files) × (counts_new ≡ counts)
 FileTurns spec files layer new told told_new counts counts_new (Err error) = StopsAt spec files layer new told told_new counts counts_new (Err error)

@@ -1,5 +1,5 @@
 -- Loading a layer in a folder (debconf.conf(5), DirTree and PackageDir): which files there are its own, and what each must hold.
-use Rattle.std.specs.Prelude.{◌≡◌, ◌⊎◌, ℕ, ◌-◌, Bool, true, false, not, ◌&&◌, nat_eq, List, [], ◌∷◌, ◌++◌, length, take, find, filter, map as each, Option, Some, None, Result, Ok, Err, IfSome, ◌==◌, if◌then◌else◌}
+use Rattle.std.specs.Prelude.{◌≡◌, ◌⊎◌, ℕ, ◌-◌, Bool, true, false, not, ◌&&◌, nat_eq, List, [], ◌∷◌, ◌++◌, length, take, find, filter, Option, Some, None, Result, Ok, Err, IfSome, ◌==◌, if◌then◌else◌}
 use Rattle.std.specs.List.{list_any, ends_with}
 use Rattle.std.specs.Option.{option_map_or}
 use Rattle.std.specs.Str.{bytes_eq}
@@ -9,8 +9,8 @@ use Rattle.dc_text.specs.Bytes.{is_nil}
 use Rattle.dc_text.specs.Maps.{set_of}
 use Rattle.dc_text.specs.Names.{is_name}
 use Rattle.dc_outside.specs.Disk.{Disk, paths_below}
-use Rattle.dc_outside.specs.Told.{Told, Counts}
-use Rattle.dc_outside.specs.Counts.{FaultRose, RefusalRose}
+use Rattle.dc_outside.specs.State.{FilesView}
+use Rattle.dc_outside.specs.Counts.{Counts, FaultRose, RefusalRose}
 use Rattle.dc_outside.specs.Steps.{after_look}
 use Rattle.dc_outside.specs.declared.files.FilesOp.TheVariants.{Read, List as ListOf}
 use Rattle.dc_item.specs.Records.{Reads, IsBad}
@@ -127,16 +127,16 @@ LoadsFolder disk spec layer new (Err OutOfMemory) = IsSameButTable layer new
 -- ---- the calls
 
 -- after reads of these files, all answered
-abbrev pub reads_of : Told → LayerSpec → List (List ℕ) → Told
+abbrev pub reads_of : FilesView → LayerSpec → List (List ℕ) → FilesView
 reads_of told spec [] = told
 reads_of told spec (file ∷ files) = reads_of (after_look told Read (path_at spec file) true) spec files
 
 -- after the list of the folder, too
-abbrev pub after_reads : Told → LayerSpec → List (List ℕ) → Told
+abbrev pub after_reads : FilesView → LayerSpec → List (List ℕ) → FilesView
 after_reads told spec files = reads_of (after_look told ListOf spec.place true) spec files
 
 -- the list was answered, and reads of these files after it, which are the first of its files
-pub record HasRead (spec : LayerSpec) (before : List (List ℕ)) (old new : Told) : Type 0 where
+pub record HasRead (spec : LayerSpec) (before : List (List ℕ)) (old new : FilesView) : Type 0 where
   pub listed : List (List ℕ)
   pub listed_is : IsListedAt old.disk spec.place listed
   pub after : List (List ℕ)
@@ -144,7 +144,7 @@ pub record HasRead (spec : LayerSpec) (before : List (List ℕ)) (old new : Told
   pub told_is : new ≡ after_reads old spec before
 
 -- the read of one of its files failed, after the list and the reads of those before it
-pub record HasFailedAt (spec : LayerSpec) (path : List ℕ) (old new : Told) : Type 0 where
+pub record HasFailedAt (spec : LayerSpec) (path : List ℕ) (old new : FilesView) : Type 0 where
   pub listed : List (List ℕ)
   pub listed_is : IsListedAt old.disk spec.place listed
   pub before : List (List ℕ)
@@ -155,11 +155,11 @@ pub record HasFailedAt (spec : LayerSpec) (path : List ℕ) (old new : Told) : T
   pub told_is : new ≡ after_look (after_reads old spec before) Read path false
 
 -- the call on this path failed: the list of the folder, or the read of one of its files
-abbrev pub FailsOn : LayerSpec → List ℕ → Told → Told → Type 0
+abbrev pub FailsOn : LayerSpec → List ℕ → FilesView → FilesView → Type 0
 FailsOn spec path old new = ((path ≡ spec.place) × (new ≡ after_look old ListOf path false)) ⊎ HasFailedAt spec path old new
 
 -- what loading does to the files, by its answer
-abbrev pub LoadsFolderFiles : Told → Told → LayerSpec → Result Loaded LoadError → Type 0
+abbrev pub LoadsFolderFiles : FilesView → FilesView → LayerSpec → Result Loaded LoadError → Type 0
 LoadsFolderFiles old new spec (Ok Here) = (listed : List (List ℕ)) × IsListedAt old.disk spec.place listed × (new ≡ after_reads old spec (its_files spec listed))
 LoadsFolderFiles old new spec (Ok LeftOut) = (path : List ℕ) × FailsOn spec path old new
 LoadsFolderFiles old new spec (Err (Failed path)) = FailsOn spec path old new

@@ -1,6 +1,6 @@
 -- Loading a layer: one in one file from its text, and one in a folder from its files.
 use Rattle.std.specs.Prelude.{◌≡◌, ◌⊎◌, ℕ, Bool, true, false, List, [], Option, None, Some, Result, Ok, Err, IfSome, unwrap_or, if◌then◌else◌}
-use Rattle.dc_outside.specs.Counts.{FaultRose, RefusalRose}
+use Rattle.dc_outside.specs.Counts.{Counts, FaultRose, RefusalRose}
 use Rattle.dc_outside.specs.Disk.{Disk, bytes_at}
 use Rattle.dc_item.specs.Records.{Reads, IsBad}
 use Rattle.dc_item.specs.Table.{table_of}
@@ -15,7 +15,7 @@ use Rattle.dc_save.specs.declared.loading.LoadError.{LoadError}
 use Rattle.dc_save.specs.declared.loading.LoadError.TheVariants.{Failed, Damaged, OutOfMemory}
 use Rattle.dc_save.specs.Found.{IsFoundAt, IsSameButTable}
 use Rattle.dc_save.specs.FolderLoading.{LoadsFolder, LoadsFolderFiles, FolderCounts}
-use Rattle.dc_outside.specs.Told.{Told, Counts}
+use Rattle.dc_outside.specs.State.{FilesView}
 use Rattle.dc_outside.specs.Steps.{after_look}
 use Rattle.dc_outside.specs.declared.files.FilesOp.TheVariants.{Read}
 
@@ -65,7 +65,7 @@ LoadsFile disk spec layer new (Err (Damaged path line)) = (path ≡ spec.place) 
 LoadsFile disk spec layer new (Err OutOfMemory) = IsSameButTable layer new
 
 -- what it does to the files: one read, which was answered or failed, or for want of memory none
-abbrev pub LoadsOneFile : Told → Told → List ℕ → Result Loaded LoadError → Type 0
+abbrev pub LoadsOneFile : FilesView → FilesView → List ℕ → Result Loaded LoadError → Type 0
 LoadsOneFile old new path (Ok Here) = new ≡ after_look old Read path true
 LoadsOneFile old new path (Ok LeftOut) = new ≡ after_look old Read path false
 LoadsOneFile old new path (Err (Failed failed)) = new ≡ after_look old Read path false
@@ -73,7 +73,7 @@ LoadsOneFile old new path (Err (Damaged damaged line)) = new ≡ after_look old 
 LoadsOneFile old new path (Err OutOfMemory) = (new ≡ old) ⊎ (new ≡ after_look old Read path true)
 
 -- how they count it: a fault where the read failed, and at want of memory a refusal, or none where it was the program's own
-abbrev pub FileCounts : Told → Told → Result Loaded LoadError → Counts → Counts → Type 0
+abbrev pub FileCounts : FilesView → FilesView → Result Loaded LoadError → Counts → Counts → Type 0
 FileCounts old new (Ok Here) before now = now ≡ before
 FileCounts old new (Ok LeftOut) before now = FaultRose before now
 FileCounts old new (Err (Failed path)) before now = FaultRose before now
@@ -92,21 +92,21 @@ abbrev pub LoadsLayer : Option Disk → LayerSpec → LayerState → LayerState 
 LoadsLayer disk spec layer new result = LoadsBy spec.sort disk spec layer new result
 
 -- what it does to the files
-abbrev pub LoadsFilesBy : LayerSort → Told → Told → LayerSpec → Result Loaded LoadError → Type 0
+abbrev pub LoadsFilesBy : LayerSort → FilesView → FilesView → LayerSpec → Result Loaded LoadError → Type 0
 LoadsFilesBy File old new spec result = LoadsOneFile old new spec.place result
 LoadsFilesBy Tree old new spec result = LoadsFolderFiles old new spec result
 LoadsFilesBy Pack old new spec result = LoadsFolderFiles old new spec result
 
-abbrev pub LoadsFiles : Told → Told → LayerSpec → Result Loaded LoadError → Type 0
+abbrev pub LoadsFiles : FilesView → FilesView → LayerSpec → Result Loaded LoadError → Type 0
 LoadsFiles old new spec result = LoadsFilesBy spec.sort old new spec result
 
 -- how they count it
-abbrev pub LoadCountsBy : LayerSort → Told → Told → Result Loaded LoadError → Counts → Counts → Type 0
+abbrev pub LoadCountsBy : LayerSort → FilesView → FilesView → Result Loaded LoadError → Counts → Counts → Type 0
 LoadCountsBy File old new result before now = FileCounts old new result before now
 LoadCountsBy Tree old new result before now = FolderCounts result before now
 LoadCountsBy Pack old new result before now = FolderCounts result before now
 
-abbrev pub LoadCounts : LayerSpec → Told → Told → Result Loaded LoadError → Counts → Counts → Type 0
+abbrev pub LoadCounts : LayerSpec → FilesView → FilesView → Result Loaded LoadError → Counts → Counts → Type 0
 LoadCounts spec old new result before now = LoadCountsBy spec.sort old new result before now
 
 -- ---- the machinery of the proofs

@@ -2,11 +2,11 @@
 use Rattle.std.specs.Prelude.{◌≡◌, ◌⊎◌, ⊤, ℕ, List, [], ◌∷◌, ◌++◌, Option, Some, option_map, codes, Result, Ok, Err}
 use Rattle.std.specs.List.{flat_map, AllByRecursion}
 use Rattle.std.specs.Option.{option_map_or}
-use Rattle.dc_outside.specs.Counts.{FaultRose, RefusalRose}
+use Rattle.dc_outside.specs.Counts.{Counts, FaultRose, RefusalRose}
 use Rattle.std.specs.FinMap as map
 use Rattle.dc_text.specs.Maps.{Texts}
 use Rattle.dc_outside.specs.Disk.{Disk, DiskState, File, file_at, Among, IsDurable, IsSound, moment, Left, HasLeftMore, MayLeaveMore}
-use Rattle.dc_outside.specs.Told.{Told, Counts}
+use Rattle.dc_outside.specs.State.{FilesView}
 use Rattle.dc_outside.specs.Steps.{Step, Writing, Syncing, Renaming, SyncingNames, Removing}
 use Rattle.dc_layer.specs.declared.image.Image.{Image}
 use Rattle.dc_save.specs.declared.saving.SaveError.{SaveError}
@@ -51,11 +51,11 @@ abbrev pub image_steps : Image → List Step
 image_steps image = keeping image ++ placing image
 
 -- after a save of the image that is done
-abbrev pub after_image : Told → Image → Told
+abbrev pub after_image : FilesView → Image → FilesView
 after_image told image = after_steps told (image_steps image)
 
 -- after saves of the images, in order
-abbrev pub after_images : Told → List Image → Told
+abbrev pub after_images : FilesView → List Image → FilesView
 after_images files [] = files
 after_images files (image ∷ images) = after_images (after_image files image) images
 
@@ -66,25 +66,25 @@ all_images layers = flat_map (λ images. images) layers
 -- ---- what a save does that isn't done
 
 -- one of the calls of the image's save failed, and those before it were done
-abbrev pub HasFailed : Told → Told → Image → Type 0
+abbrev pub HasFailed : FilesView → FilesView → Image → Type 0
 HasFailed files new image = FailsIn (image_steps image) files new
 
 -- some first calls of the image's save were done, and not all
-abbrev pub HasRunOut : Told → Told → Image → Type 0
+abbrev pub HasRunOut : FilesView → FilesView → Image → Type 0
 HasRunOut files new image = StopsIn (image_steps image) files new
 
 -- the save of the image at this path failed, and those before it are saved
-abbrev pub FailsAmong : List Image → List ℕ → Told → Told → Type 0
+abbrev pub FailsAmong : List Image → List ℕ → FilesView → FilesView → Type 0
 FailsAmong [] path files new = ⊥
 FailsAmong (image ∷ images) path files new = ((path ≡ image.path) × HasFailed files new image) ⊎ FailsAmong images path (after_image files image) new
 
 -- some first images are saved, and of the next some first calls were done, and not all
-abbrev pub StopsAmong : List Image → Told → Told → Type 0
+abbrev pub StopsAmong : List Image → FilesView → FilesView → Type 0
 StopsAmong [] files new = ⊥
 StopsAmong (image ∷ images) files new = HasRunOut files new image ⊎ StopsAmong images (after_image files image) new
 
 -- What saving the images does, by its answer. At want of memory no call was made, or some weren't.
-abbrev pub Saves : List Image → Told → Told → Result (Unit {0}) SaveError → Type 0
+abbrev pub Saves : List Image → FilesView → FilesView → Result (Unit {0}) SaveError → Type 0
 Saves images files new (Ok done) = new ≡ after_images files images
 Saves images files new (Err (Failed path)) = FailsAmong images path files new
 Saves images files new (Err OutOfMemory) = (new ≡ files) ⊎ StopsAmong images files new
@@ -96,7 +96,7 @@ SaveCounted (Err (Failed path)) before now = FaultRose before now
 SaveCounted (Err OutOfMemory) before now = RefusalRose before now
 
 -- the same, where the program's own memory may run out before the first call
-abbrev pub SaveCounts : Told → Told → Result (Unit {0}) SaveError → Counts → Counts → Type 0
+abbrev pub SaveCounts : FilesView → FilesView → Result (Unit {0}) SaveError → Counts → Counts → Type 0
 SaveCounts files new (Ok done) before now = SaveCounted (Ok done) before now
 SaveCounts files new (Err (Failed path)) before now = SaveCounted (Err (Failed path)) before now
 SaveCounts files new (Err OutOfMemory) before now = SaveCounted (Err OutOfMemory) before now ⊎ (now ≡ before) × (new ≡ files)
@@ -125,7 +125,7 @@ MayAddAny (image ∷ images) path entry = MayAdd image path entry ⊎ MayAddAny 
 
 -- where the disk is told and was settled, a crash at any moment leaves what it would have left before, and at most what the saves
 -- may add
-abbrev pub LeavesOldOrNew : List Image → Told → Told → Type 0
+abbrev pub LeavesOldOrNew : List Image → FilesView → FilesView → Type 0
 LeavesOldOrNew images old new = (before after : Disk) → old.disk ≡ Some before → new.disk ≡ Some after → IsDurable before.current → HasLeftMore (MayAddAny images) before after
 
 -- ---- what stands at the end
@@ -168,7 +168,7 @@ Ends images old new (Err (Failed path)) = IsSavedTo path images old new
 Ends images old new (Err OutOfMemory) = (new ≡ old) ⊎ ((path : List ℕ) × IsSavedTo path images old new)
 
 -- where the disk is told and was settled
-abbrev pub EndsWith : List Image → Told → Told → Result (Unit {0}) SaveError → Type 0
+abbrev pub EndsWith : List Image → FilesView → FilesView → Result (Unit {0}) SaveError → Type 0
 EndsWith images old new result = (before after : Disk) → old.disk ≡ Some before → new.disk ≡ Some after → IsDurable before.current → Ends images before.current after.current result
 
 -- ---- paths apart

@@ -29,9 +29,9 @@ pub(crate) fn load_folder<F: Files>(
 ) -> Result<Loaded, LoadError>
     requires empty { (state layer.old).table ≡ map.empty }
     requires untouched { (state layer.old).touched ≡ [] }
-    ensures loads { LoadsFolder (F.told files.old).disk spec.now (state layer.old) (state layer.new) result }
-    ensures files { LoadsFolderFiles (F.told files.old) (F.told files.new) spec.now result }
-    ensures counts { FolderCounts result (F.counts files.old) (F.counts files.new) }
+    ensures loads { LoadsFolder (F.files files.old).view.disk spec.now (state layer.old) (state layer.new) result }
+    ensures files { LoadsFolderFiles (F.files files.old).view (F.files files.new).view spec.now result }
+    ensures counts { FolderCounts result (F.files files.old).counts (F.files files.new).counts }
 {
     let place = spec.place.copy()?;
     let listed = match files.list(&spec.place) {
@@ -92,7 +92,8 @@ fn load_files<F: Files>(
 ) -> Result<(), LoadError>
     requires untouched { (state layer.old).touched ≡ [] }
     requires empty { (state layer.old).table ≡ map.empty }
-    ensures { FileTurns spec.now (map.keys its.now) (state layer.old) (state layer.new) (F.told files.old) (F.told files.new) (F.counts files.old) (F.counts files.new) result }
+    ensures { FileTurns spec.now (map.keys its.now) (state layer.old) (state layer.new)
+        (F.files files.old).view (F.files files.new).view (F.files files.old).counts (F.files files.new).counts result }
 {
     for (file, _) in its.iter() {
         match load_file(alloc, files, spec, layer, file) {
@@ -112,9 +113,9 @@ fn load_file<F: Files>(
     file: &[u8],
 ) -> Result<(), LoadError>
     requires untouched { (state layer.old).touched ≡ [] }
-    ensures turn { FileTurn (F.told files.old).disk spec.now file.now (state layer.old) (state layer.new) result }
-    ensures told { FileTurnTold (F.told files.old) (F.told files.new) (path_at_of spec.now file.now) result }
-    ensures counts { FileTurnCounts result (F.counts files.old) (F.counts files.new) }
+    ensures turn { FileTurn (F.files files.old).view.disk spec.now file.now (state layer.old) (state layer.new) result }
+    ensures told { FileTurnTold (F.files files.old).view (F.files files.new).view (path_at_of spec.now file.now) result }
+    ensures counts { FileTurnCounts result (F.files files.old).counts (F.files files.new).counts }
 {
     let path = path_at(alloc, spec, file)?;
     match files.read(&path) {

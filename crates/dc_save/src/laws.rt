@@ -1,7 +1,7 @@
 //! Laws of saves, over the definitions alone.
 ghost use Rattle.std.specs.Prelude.{◌≡◌, ◌++◌, List, Result, true, map as each};
 ghost use Rattle.std.specs.List.{list_all};
-ghost use Rattle.dc_outside.specs.Told.{Told};
+ghost use Rattle.dc_outside.specs.State.{FilesView};
 ghost use Rattle.dc_conf.specs.Configuration.{are_apart, fits_sort};
 ghost use Rattle.dc_conf.specs.declared.spec.LayerSpec.{LayerSpec};
 ghost use Rattle.dc_layer.specs.declared.image.Image.{Image};
@@ -13,13 +13,15 @@ ghost use Rattle.dc_save.specs.Places.{AreOf, AreSetUpFor};
 
 /// However a save ends, a crash at any moment leaves each path's old file or the new one, and at most the paths beside it else.
 pub fn no_half_is_left()
-    ensures { (images : List Image) (old new : Told) (result : Result (Unit {0}) SaveError) → Saves images old new result → LeavesOldOrNew images old new }
+    ensures { (images : List Image) (old new : FilesView) (result : Result (Unit {0}) SaveError)
+        → Saves images old new result → LeavesOldOrNew images old new }
 {}
 
 /// Where no two images may write the same path, a crash leaves at the path of each its old file or the new one, and every other
 /// path as it was.
 pub fn paths_have_old_or_new()
-    ensures { (images : List Image) (before after : Disk) → AreApart images → IsDurable before.current → HasLeftMore (MayAddAny images) before after → KeepsPaths images before after }
+    ensures { (images : List Image) (before after : Disk)
+        → AreApart images → IsDurable before.current → HasLeftMore (MayAddAny images) before after → KeepsPaths images before after }
 {}
 
 /// What stands after such images are saved.
@@ -29,12 +31,14 @@ pub fn saved_images_stand()
 
 /// Images of databases whose places don't meet are such images.
 pub fn images_of_databases_are_apart()
-    ensures { (specs : List LayerSpec) (images : List Image) → list_all fits_sort specs ≡ true → are_apart specs ≡ true → AreOf specs images → AreApart images }
+    ensures { (specs : List LayerSpec) (images : List Image)
+        → list_all fits_sort specs ≡ true → are_apart specs ≡ true → AreOf specs images → AreApart images }
 {}
 
 /// What saves in one run leave, one after another.
 pub fn saves_chain()
-    ensures { (images others : List Image) (first middle last : Disk) → HasLeftMore (MayAddAny images) first middle → HasLeftMore (MayAddAny others) middle last → HasLeftMore (MayAddAny (images ++ others)) first last }
+    ensures { (images others : List Image) (first middle last : Disk)
+        → HasLeftMore (MayAddAny images) first middle → HasLeftMore (MayAddAny others) middle last → HasLeftMore (MayAddAny (images ++ others)) first last }
 {}
 
 /// The images of layers that were set up for these databases are images of them.

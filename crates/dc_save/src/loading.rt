@@ -120,9 +120,9 @@ fn load_one_file<F: Files>(
 ) -> Result<Loaded, LoadError>
     requires empty { (state layer.old).table ≡ map.empty }
     requires untouched { (state layer.old).touched ≡ [] }
-    ensures loads { LoadsFile (F.told files.old).disk spec.now (state layer.old) (state layer.new) result }
-    ensures files { LoadsOneFile (F.told files.old) (F.told files.new) spec.now.place result }
-    ensures counts { FileCounts (F.told files.old) (F.told files.new) result (F.counts files.old) (F.counts files.new) }
+    ensures loads { LoadsFile (F.files files.old).view.disk spec.now (state layer.old) (state layer.new) result }
+    ensures files { LoadsOneFile (F.files files.old).view (F.files files.new).view spec.now.place result }
+    ensures counts { FileCounts (F.files files.old).view (F.files files.new).view result (F.files files.old).counts (F.files files.new).counts }
 {
     let path = spec.place.copy()?;
     match files.read(&spec.place) {
@@ -148,9 +148,9 @@ pub fn load<F: Files>(
     requires empty { (state layer.old).table ≡ map.empty }
     requires untouched { (state layer.old).touched ≡ [] }
     requires not_left_out { (state layer.old).left_out ≡ false }
-    ensures loads { LoadsLayer (F.told files.old).disk spec.now (state layer.old) (state layer.new) result }
-    ensures files { LoadsFiles (F.told files.old) (F.told files.new) spec.now result }
-    ensures counts { LoadCounts spec.now (F.told files.old) (F.told files.new) result (F.counts files.old) (F.counts files.new) }
+    ensures loads { LoadsLayer (F.files files.old).view.disk spec.now (state layer.old) (state layer.new) result }
+    ensures files { LoadsFiles (F.files files.old).view (F.files files.new).view spec.now result }
+    ensures counts { LoadCounts spec.now (F.files files.old).view (F.files files.new).view result (F.files files.old).counts (F.files files.new).counts }
 {
     match spec.sort {
         LayerSort::File => load_one_file(alloc, files, spec, layer),

@@ -36,8 +36,8 @@ fn write_lasting<F: Files>(
     text: &Text,
     mode: u16,
 ) -> Result<(), FilesError>
-    ensures does { Does (written path.now text.now mode) (F.told files.old) (F.told files.new) result }
-    ensures counts { Counted (F.counts files.old) (F.counts files.new) result }
+    ensures does { Does (written path.now text.now mode) (F.files files.old).view (F.files files.new).view result }
+    ensures counts { Counted (F.files files.old).counts (F.files files.new).counts result }
 {
     match files.write(path, text.bytes(), mode) {
         Ok(()) => files.sync(path),
@@ -47,8 +47,8 @@ fn write_lasting<F: Files>(
 
 // Puts the file in the place of the path, and makes that last.
 fn move_lasting<F: Files>(files: &mut F, from: &Text, to: &Text) -> Result<(), FilesError>
-    ensures does { Does (moved from.now to.now) (F.told files.old) (F.told files.new) result }
-    ensures counts { Counted (F.counts files.old) (F.counts files.new) result }
+    ensures does { Does (moved from.now to.now) (F.files files.old).view (F.files files.new).view result }
+    ensures counts { Counted (F.files files.old).counts (F.files files.new).counts result }
 {
     match files.rename(from, to) {
         Ok(()) => files.sync_names(),
@@ -58,8 +58,8 @@ fn move_lasting<F: Files>(files: &mut F, from: &Text, to: &Text) -> Result<(), F
 
 // Takes the path away, and makes that last.
 fn remove_lasting<F: Files>(files: &mut F, path: &Text) -> Result<(), FilesError>
-    ensures does { Does (removed path.now) (F.told files.old) (F.told files.new) result }
-    ensures counts { Counted (F.counts files.old) (F.counts files.new) result }
+    ensures does { Does (removed path.now) (F.files files.old).view (F.files files.new).view result }
+    ensures counts { Counted (F.files files.old).counts (F.files files.new).counts result }
 {
     match files.remove(path) {
         Ok(()) => files.sync_names(),
@@ -69,8 +69,8 @@ fn remove_lasting<F: Files>(files: &mut F, path: &Text) -> Result<(), FilesError
 
 // Keeps the old text beside the path, where there is one.
 fn keep<F: Files>(files: &mut F, saving: &Saving) -> Result<(), FilesError>
-    ensures does { Does (keeping saving.now.image.now) (F.told files.old) (F.told files.new) result }
-    ensures counts { Counted (F.counts files.old) (F.counts files.new) result }
+    ensures does { Does (keeping saving.now.image.now) (F.files files.old).view (F.files files.new).view result }
+    ensures counts { Counted (F.files files.old).counts (F.files files.new).counts result }
 {
     match &saving.image.old {
         Some(text) => write_lasting(files, &saving.old_path, text, saving.image.mode),
@@ -80,8 +80,8 @@ fn keep<F: Files>(files: &mut F, saving: &Saving) -> Result<(), FilesError>
 
 // Puts the text in its place.
 fn put<F: Files>(files: &mut F, saving: &Saving, text: &Text) -> Result<(), FilesError>
-    ensures does { Does (put_of saving.now.image.now text.now) (F.told files.old) (F.told files.new) result }
-    ensures counts { Counted (F.counts files.old) (F.counts files.new) result }
+    ensures does { Does (put_of saving.now.image.now text.now) (F.files files.old).view (F.files files.new).view result }
+    ensures counts { Counted (F.files files.old).counts (F.files files.new).counts result }
 {
     match write_lasting(files, &saving.new_path, text, saving.image.mode) {
         Ok(()) => move_lasting(files, &saving.new_path, &saving.image.path),
@@ -91,8 +91,8 @@ fn put<F: Files>(files: &mut F, saving: &Saving, text: &Text) -> Result<(), File
 
 // Puts the image's text in its place, or takes the file away.
 fn place<F: Files>(files: &mut F, saving: &Saving) -> Result<(), FilesError>
-    ensures does { Does (placing saving.now.image.now) (F.told files.old) (F.told files.new) result }
-    ensures counts { Counted (F.counts files.old) (F.counts files.new) result }
+    ensures does { Does (placing saving.now.image.now) (F.files files.old).view (F.files files.new).view result }
+    ensures counts { Counted (F.files files.old).counts (F.files files.new).counts result }
 {
     match &saving.image.bytes {
         Some(text) => put(files, saving, text),
@@ -101,8 +101,8 @@ fn place<F: Files>(files: &mut F, saving: &Saving) -> Result<(), FilesError>
 }
 
 fn save_image<F: Files>(files: &mut F, saving: &Saving) -> Result<(), FilesError>
-    ensures does { Does (image_steps saving.now.image.now) (F.told files.old) (F.told files.new) result }
-    ensures counts { Counted (F.counts files.old) (F.counts files.new) result }
+    ensures does { Does (image_steps saving.now.image.now) (F.files files.old).view (F.files files.new).view result }
+    ensures counts { Counted (F.files files.old).counts (F.files files.new).counts result }
 {
     match keep(files, saving) {
         Ok(()) => place(files, saving),
@@ -112,8 +112,8 @@ fn save_image<F: Files>(files: &mut F, saving: &Saving) -> Result<(), FilesError
 
 // Saves the image, and names its path where a call failed.
 fn save_named<F: Files>(files: &mut F, saving: Saving) -> Result<(), SaveError>
-    ensures saves { Saves (saving.entry.image.now ∷ []) (F.told files.old) (F.told files.new) result }
-    ensures counts { SaveCounted result (F.counts files.old) (F.counts files.new) }
+    ensures saves { Saves (saving.entry.image.now ∷ []) (F.files files.old).view (F.files files.new).view result }
+    ensures counts { SaveCounted result (F.files files.old).counts (F.files files.new).counts }
 {
     match save_image(files, &saving) {
         Ok(()) => Ok(()),
@@ -124,8 +124,8 @@ fn save_named<F: Files>(files: &mut F, saving: Saving) -> Result<(), SaveError>
 
 // Saves all, the last first.
 fn save_each<F: Files>(files: &mut F, savings: Vec<Saving>) -> Result<(), SaveError>
-    ensures saves { Saves (reverse (each (λ s. s.image.now) savings.entry.items)) (F.told files.old) (F.told files.new) result }
-    ensures counts { SaveCounted result (F.counts files.old) (F.counts files.new) }
+    ensures saves { Saves (reverse (each (λ s. s.image.now) savings.entry.items)) (F.files files.old).view (F.files files.new).view result }
+    ensures counts { SaveCounted result (F.files files.old).counts (F.files files.new).counts }
 {
     let mut left = savings;
     while let Some(saving) = left.pop() {
@@ -176,10 +176,10 @@ pub fn save_images<F: Files>(
     files: &mut F,
     images: &List<List<Image>>,
 ) -> Result<(), SaveError>
-    ensures saves { Saves (all_images images.now) (F.told files.old) (F.told files.new) result }
-    ensures ends { EndsWith (all_images images.now) (F.told files.old) (F.told files.new) result }
-    ensures moments { LeavesOldOrNew (all_images images.now) (F.told files.old) (F.told files.new) }
-    ensures counts { SaveCounts (F.told files.old) (F.told files.new) result (F.counts files.old) (F.counts files.new) }
+    ensures saves { Saves (all_images images.now) (F.files files.old).view (F.files files.new).view result }
+    ensures ends { EndsWith (all_images images.now) (F.files files.old).view (F.files files.new).view result }
+    ensures moments { LeavesOldOrNew (all_images images.now) (F.files files.old).view (F.files files.new).view }
+    ensures counts { SaveCounts (F.files files.old).view (F.files files.new).view result (F.files files.old).counts (F.files files.new).counts }
 {
     match prepare(alloc, images) {
         Ok(savings) => save_each(files, savings),

@@ -109,16 +109,16 @@ module _ {S B : Type 0} (steps : S → Line → Response → S → Type 0) (abor
   record IsWritten (pieces : List Piece) : Type 0 where
     pub none_got : got pieces ≡ []
     pub all_said : said pieces ≡ pieces
-    pub steps : (transitions : List (Transition S)) (talk : List Piece) → AnswersBeforeReads transitions talk → AnswersBeforeReads transitions (talk ++ pieces)
+    pub in_step : (transitions : List (Transition S)) (talk : List Piece) → AnswersBeforeReads transitions talk → AnswersBeforeReads transitions (talk ++ pieces)
 
   replies_written : (transitions : List (Transition S)) → IsWritten (replies transitions)
-  replies_written transitions = record { none_got = got-replies transitions; all_said = said-replies transitions; steps = λ all talk step. in_step_replies all talk transitions step }
+  replies_written transitions = record { none_got = got-replies transitions; all_said = said-replies transitions; in_step = λ all talk step. in_step_replies all talk transitions step }
 
   cut_written : (transitions : List (Transition S)) (front : List ℕ) → IsWritten (replies transitions ++ Cut front ∷ [])
   cut_written transitions front = record {
     none_got = got-append (replies transitions) (Cut front ∷ []) ∙ rw (got-replies transitions) refl;
     all_said = said-append (replies transitions) (Cut front ∷ []) ∙ rw (said-replies transitions) refl;
-    steps = λ all talk step. rw (← append_assoc talk (replies transitions) (Cut front ∷ []))
+    in_step = λ all talk step. rw (← append_assoc talk (replies transitions) (Cut front ∷ []))
         (in_step_written all (talk ++ replies transitions) (Cut front) (in_step_replies all talk transitions step) (λ read. read));
   }
 
@@ -199,7 +199,7 @@ module _ {S B : Type 0} (steps : S → Line → Response → S → Type 0) (abor
         rest = served.rest;
         course = course-append steps start gone served.transitions on course (rw (← are_said.state_is) served.course);
         lines_are = rw (served.lines_are, lines_of-append gone served.transitions, append_assoc) refl;
-        in_step = written.steps (gone ++ served.transitions) pieces (in_step_later gone served.transitions pieces step);
+        in_step = written.in_step (gone ++ served.transitions) pieces (in_step_later gone served.transitions pieces step);
         bytes_are = none;
         serves = rw (said-append pieces served.pieces, written.all_said)
             (serves_more steps aborts start session new_session gone served.transitions served.rest (said pieces) served.pieces outcome 0 code new_code are_said on served.serves);
@@ -236,12 +236,12 @@ module _ {S B : Type 0} {steps : S → Line → Response → S → Type 0} {talk
       }
 
   -- The read was refused for want of memory.
-  pub run_refused : (new : Option (List Piece)) (new_left : Option (List ℕ)) → new ≡ then_pieces mid [] → mid_left ≡ prepend_known [] new_left
+  pub run_refused : (new : Option (List Piece)) (new_left : Option (List ℕ)) → new ≡ mid → new_left ≡ mid_left
       → IsLinkRun steps aborts talk new left new_left start end.OutOfMemory session code
-  run_refused new new_left said_none none = record {
+  run_refused new new_left same same_left = record {
     pieces = p.pieces;
-    told_is = said_none ∙ then_pieces-nil mid ∙ p.told_is;
-    took = p.took ∙ ap (λ (l : Option (List ℕ)). prepend_known (got p.pieces) l) (none ∙ sym (prepend-nil new_left));
+    told_is = same ∙ p.told_is;
+    took = p.took ∙ ap (λ (l : Option (List ℕ)). prepend_known (got p.pieces) l) (sym same_left);
     transitions = p.transitions;
     rest = [];
     course = p.course;

@@ -4,13 +4,15 @@ use Rattle.std.proofs.lemmas.List.{append-nil}
 use Rattle.dc_words.specs.declared.stream.Line.{Line}
 use Rattle.dc_outside.specs.declared.link.Piece.{Piece}
 use Rattle.dc_outside.specs.declared.link.Piece.TheVariants.{Sent, Cut}
+use Rattle.dc_outside.specs.State.{LinkState}
 use Rattle.dc_outside.specs.Talk.{then_pieces}
+use Rattle.dc_outside.proofs.LinkLemmas.{only_said}
 use Rattle.dc_serve.specs.declared.machine.Response.{Response}
 use Rattle.dc_serve.specs.declared.machine.Response.TheVariants as did
 use Rattle.dc_serve.specs.declared.outcome.Served.{Served}
 use Rattle.dc_serve.specs.declared.outcome.Served.TheVariants.{On, Stopped, Failed, OutOfMemory, Broken}
 use Rattle.dc_serve.specs.Execution.{Transition, lines_of, stops}
-use Rattle.dc_serve.specs.Inside.{Serves, HasServed, Sends}
+use Rattle.dc_serve.specs.Inside.{Serves, HasServed, SendsReply, ServedCounts, ServesLines}
 use Rattle.dc_serve.specs.Said.{AreSaid}
 use Rattle.dc_serve.proofs.Courses.{lines_of-append, state_after-append, stops-append, replies-append, last_code_from-append, course-append}
 use Rattle.dc_serve.proofs.Talks.{then_pieces-nil, then_pieces-then_pieces}
@@ -55,50 +57,75 @@ module _ {S B : Type 0} (steps : S → Line → Response → S → Type 0) (abor
   }
 
   -- a line whose reply was sent, cut, or not begun
-  pub line_replied : (outcome : Served B) (talk new_talk : Option (List Piece)) (s new : S) (line : Line) (code : ℕ) (text : List ℕ) (last new_last : ℕ)
-      → steps s line (did.Replied code text) new → Sends outcome talk new_talk code text last new_last
-      → HasServed steps aborts talk new_talk s (line ∷ []) outcome last new new_last
-  line_replied On talk new_talk s new line code text last new_last heeded sends = record {
+  replied_talk : (outcome : Served B) (io new_io : LinkState) (s new : S) (line : Line) (code : ℕ) (text : List ℕ) (last new_last : ℕ)
+      → steps s line (did.Replied code text) new → SendsReply outcome io new_io code text last new_last
+      → HasServed steps aborts io.talk new_io.talk s (line ∷ []) outcome last new new_last
+  replied_talk On io new_io s new line code text last new_last heeded sends = record {
     transitions = record { line = line; did = did.Replied code text; new = new } ∷ [];
     rest = [];
     lines_are = refl;
     course = (heeded, (λ _. refl), tt);
     pieces = Sent text ∷ [];
-    told_is = sends.0;
+    told_is = ap (λ (k : LinkState). k.talk) sends.0;
     serves = record { are_said = record { pieces_are = refl; state_is = refl; code_is = sends.1 }; on = refl; none_left = refl };
   }
-  line_replied Stopped talk new_talk s new line code text last new_last heeded sends = absurd sends
-  line_replied Failed talk new_talk s new line code text last new_last heeded sends = record {
+  replied_talk Stopped io new_io s new line code text last new_last heeded sends = absurd sends
+  replied_talk Failed io new_io s new line code text last new_last heeded sends = record {
     transitions = record { line = line; did = did.Replied code text; new = new } ∷ [];
     rest = [];
     lines_are = refl;
     course = (heeded, (λ _. refl), tt);
-    pieces = Cut sends.0 ∷ [];
-    told_is = sends.3;
+    pieces = Cut sends.0.front ∷ [];
+    told_is = ap (λ (k : LinkState). k.talk) sends.0.state;
     serves = record {
       gone = [];
       last = record { line = line; did = did.Replied code text; new = new };
       turns_are = refl;
       on = refl;
       text = text;
-      replied = ap (λ (n : ℕ). did.Replied n text) (sym sends.4);
-      front = sends.0;
-      back = sends.1;
-      front_of = sends.2;
+      replied = ap (λ (n : ℕ). did.Replied n text) (sym sends.1);
+      front = sends.0.front;
+      back = sends.0.back;
+      front_of = sends.0.bytes_are;
       pieces_are = refl;
       state_is = refl;
     };
   }
-  line_replied OutOfMemory talk new_talk s new line code text last new_last heeded sends = record {
+  replied_talk OutOfMemory io new_io s new line code text last new_last heeded sends = record {
     transitions = record { line = line; did = did.Replied code text; new = new } ∷ [];
     rest = [];
     lines_are = refl;
     course = (heeded, (λ _. refl), tt);
     pieces = [];
-    told_is = sends.0 ∙ sym (then_pieces-nil talk);
+    told_is = ap (λ (k : LinkState). k.talk) sends.0.state ∙ sym (then_pieces-nil io.talk);
     serves = inr (record { gone = []; last = record { line = line; did = did.Replied code text; new = new }; turns_are = refl; on = refl; pieces_are = refl; state_is = refl; code_is = sends.1 });
   }
-  line_replied (Broken error) talk new_talk s new line code text last new_last heeded sends = absurd sends
+  replied_talk (Broken error) io new_io s new line code text last new_last heeded sends = absurd sends
+
+  replied_counts : (outcome : Served B) (io new_io : LinkState) (code : ℕ) (text : List ℕ) (last new_last : ℕ) → SendsReply outcome io new_io code text last new_last
+      → ServedCounts outcome io.counts new_io.counts
+  replied_counts On io new_io code text last new_last sends = ap (λ (k : LinkState). k.counts) sends.0
+  replied_counts Stopped io new_io code text last new_last sends = absurd sends
+  replied_counts Failed io new_io code text last new_last sends = sends.0.rose
+  replied_counts OutOfMemory io new_io code text last new_last sends = inl sends.0.rose
+  replied_counts (Broken error) io new_io code text last new_last sends = absurd sends
+
+  replied_rest : (outcome : Served B) (io new_io : LinkState) (code : ℕ) (text : List ℕ) (last new_last : ℕ) → SendsReply outcome io new_io code text last new_last
+      → new_io ≡ record io { talk = new_io.talk; counts = new_io.counts }
+  replied_rest On io new_io code text last new_last sends = only_said io new_io _ sends.0 refl refl
+  replied_rest Stopped io new_io code text last new_last sends = absurd sends
+  replied_rest Failed io new_io code text last new_last sends = only_said io new_io _ sends.0.state refl refl
+  replied_rest OutOfMemory io new_io code text last new_last sends = only_said io new_io _ sends.0.state refl refl
+  replied_rest (Broken error) io new_io code text last new_last sends = absurd sends
+
+  pub line_replied : (outcome : Served B) (io new_io : LinkState) (s new : S) (line : Line) (code : ℕ) (text : List ℕ) (last new_last : ℕ)
+      → steps s line (did.Replied code text) new → SendsReply outcome io new_io code text last new_last
+      → ServesLines steps aborts io new_io s (line ∷ []) outcome last new new_last
+  line_replied outcome io new_io s new line code text last new_last handled sends = record {
+    served = replied_talk outcome io new_io s new line code text last new_last handled sends;
+    counts = replied_counts outcome io new_io code text last new_last sends;
+    rest = replied_rest outcome io new_io code text last new_last sends;
+  }
 
   -- ---- lines after others
 

@@ -2,8 +2,10 @@
 use Rattle.std.specs.Prelude.{◌≡◌, ◌⊎◌, ℕ, List, [], ◌∷◌, ◌++◌, true, false, Option}
 use Rattle.dc_words.specs.declared.stream.Line.{Line}
 use Rattle.dc_outside.specs.declared.link.Piece.{Piece}
-use Rattle.dc_outside.specs.declared.link.Piece.TheVariants.{Sent, Cut}
-use Rattle.dc_outside.specs.Counts.{Rose}
+use Rattle.dc_outside.specs.declared.link.Piece.TheVariants.{Sent}
+use Rattle.dc_outside.specs.Counts.{Counts, FaultRose, RefusalRose}
+use Rattle.dc_outside.specs.LinkCalls.{IsCutAt, IsRefused}
+use Rattle.dc_outside.specs.State.{LinkState}
 use Rattle.dc_outside.specs.Talk.{then_pieces}
 use Rattle.dc_serve.specs.declared.machine.Response.{Response}
 use Rattle.dc_serve.specs.declared.outcome.LinkEnd.{LinkEnd}
@@ -50,26 +52,25 @@ pub record HasServed {S B : Type 0} (steps : S → Line → Response → S → T
   pub told_is : new_talk ≡ then_pieces talk pieces
   pub serves : Serves aborts start transitions rest outcome pieces code new new_code
 
--- what sending one reply does to the talk and to the last code
-abbrev pub Sends : {B : Type 0} → Served B → Option (List Piece) → Option (List Piece) → ℕ → List ℕ → ℕ → ℕ → Type 0
-Sends On old new code text last new_last = (new ≡ then_pieces old (Sent text ∷ [])) × (new_last ≡ code)
-Sends Stopped old new code text last new_last = ⊥
-Sends Failed old new code text last new_last = (front : List ℕ) × (back : List ℕ) × (text ≡ front ++ back) × (new ≡ then_pieces old (Cut front ∷ [])) × (new_last ≡ code)
-Sends OutOfMemory old new code text last new_last = (new ≡ old) × (new_last ≡ last)
-Sends (Broken error) old new code text last new_last = ⊥
+-- what sending one reply does to the link, and to the last code
+abbrev pub SendsReply : {B : Type 0} → Served B → LinkState → LinkState → ℕ → List ℕ → ℕ → ℕ → Type 0
+SendsReply On old new code text last new_last = (new ≡ record old { talk = then_pieces old.talk (Sent text ∷ []) }) × (new_last ≡ code)
+SendsReply Stopped old new code text last new_last = ⊥
+SendsReply Failed old new code text last new_last = IsCutAt text old new × (new_last ≡ code)
+SendsReply OutOfMemory old new code text last new_last = IsRefused old new × (new_last ≡ last)
+SendsReply (Broken error) old new code text last new_last = ⊥
 
--- the count of faults rises only at a failure
-abbrev pub ServedFaults : {B : Type 0} → Served B → ℕ → ℕ → Type 0
-ServedFaults On before now = now ≡ before
-ServedFaults Stopped before now = now ≡ before
-ServedFaults Failed before now = Rose before now
-ServedFaults OutOfMemory before now = now ≡ before
-ServedFaults (Broken error) before now = now ≡ before
+-- how the link counted the calls of a serving
+abbrev pub ServedCounts : {B : Type 0} → Served B → Counts → Counts → Type 0
+ServedCounts On before now = now ≡ before
+ServedCounts Stopped before now = now ≡ before
+ServedCounts Failed before now = FaultRose before now
+ServedCounts OutOfMemory before now = RefusalRose before now ⊎ (now ≡ before)
+ServedCounts (Broken error) before now = now ≡ before
 
--- the count of refusals may rise only where memory ran out
-abbrev pub ServedRefusals : {B : Type 0} → Served B → ℕ → ℕ → Type 0
-ServedRefusals On before now = now ≡ before
-ServedRefusals Stopped before now = now ≡ before
-ServedRefusals Failed before now = now ≡ before
-ServedRefusals OutOfMemory before now = Rose before now ⊎ (now ≡ before)
-ServedRefusals (Broken error) before now = now ≡ before
+-- What serving these lines does to the link: some pieces were said, which are the answer to them, and nothing else changed but
+-- the counts.
+pub record ServesLines {S B : Type 0} (steps : S → Line → Response → S → Type 0) (aborts : S → Line → B → S → Type 0) (old new : LinkState) (start : S) (lines : List Line) (outcome : Served B) (code : ℕ) (state : S) (new_code : ℕ) : Type 0 where
+  pub served : HasServed steps aborts old.talk new.talk start lines outcome code state new_code
+  pub counts : ServedCounts outcome old.counts new.counts
+  pub rest : new ≡ record old { talk = new.talk; counts = new.counts }

@@ -5,6 +5,7 @@ use Rattle.dc_words.specs.declared.stream.Line.{Line}
 use Rattle.dc_words.specs.Stream.{whole_lines, all_lines}
 use Rattle.dc_outside.specs.declared.link.Piece.{Piece}
 use Rattle.dc_outside.specs.declared.link.Piece.TheVariants.{Cut, Lost}
+use Rattle.dc_outside.specs.State.{LinkState}
 use Rattle.dc_outside.specs.Talk.{then_pieces, got}
 use Rattle.dc_serve.specs.declared.machine.Response.{Response}
 use Rattle.dc_serve.specs.declared.outcome.LinkEnd.{LinkEnd}
@@ -12,6 +13,7 @@ use Rattle.dc_serve.specs.declared.outcome.LinkEnd.TheVariants.{Done, OutOfMemor
 use Rattle.dc_serve.specs.Execution.{Transition, lines_of, stops, IsExecution}
 use Rattle.dc_serve.specs.Said.{said, AreSaid, CutsShort, BreaksOff, IsBrokenAt}
 use Rattle.dc_serve.specs.Calls.{FailsAtLast}
+use Rattle.dc_serve.specs.Ends.{LinkCounts}
 use Rattle.dc_serve.specs.Answering.{AnswersBeforeReads}
 
 -- the bytes that came are the whole input, and fewer than the limit
@@ -75,3 +77,9 @@ pub record IsLinkRun {S B : Type 0} (steps : S → Line → Response → S → T
   pub in_step : AnswersBeforeReads transitions pieces
   pub calls : FailsAtLast end pieces
   pub answered : Answered aborts end start transitions rest pieces input new code
+
+-- What serving a link to this end does to it: it has that run, its calls were counted by the end, and the program behind it stays.
+pub record ServesLink {S B : Type 0} (steps : S → Line → Response → S → Type 0) (aborts : S → Line → B → S → Type 0) (old new : LinkState) (start : S) (end : LinkEnd B) (state : S) (code : ℕ) : Type 0 where
+  pub run : IsLinkRun steps aborts old.talk new.talk old.input new.input start end state code
+  pub counts : LinkCounts end old.counts new.counts
+  pub program : new.program ≡ old.program

@@ -8,5 +8,6 @@ use crate::LineMachine;
 
 /// The lines determine what the machine says and leaves, where its state and a line do.
 pub fn lines_determine_the_course<H: LineMachine>()
-    ensures { IsFunction H.steps → (start : H.State) (a b : List (Transition H.State)) → IsExecution H.steps start a → IsExecution H.steps start b → lines_of a ≡ lines_of b → a ≡ b }
+    ensures { IsFunction H.steps → (start : H.State) (a b : List (Transition H.State))
+        → IsExecution H.steps start a → IsExecution H.steps start b → lines_of a ≡ lines_of b → a ≡ b }
 {}

@@ -1,9 +1,8 @@
 // Serves the lines of a link, each before more is read.
 ghost use Rattle.std.specs.Prelude.{◌≡◌, ◌<◌, ◌≤◌, [], ◌∷◌, length, IfOk};
 ghost use Rattle.dc_words.specs.Stream.{whole_lines, rest_of, line_of_rest};
-ghost use Rattle.dc_serve.specs.Inside.{Sends, HasServed, ServedFaults, ServedRefusals};
-ghost use Rattle.dc_serve.specs.Ends.{LinkFaults, LinkRefusals};
-ghost use Rattle.dc_serve.specs.LinkRun.{IsLinkRun};
+ghost use Rattle.dc_serve.specs.Inside.{SendsReply, ServesLines};
+ghost use Rattle.dc_serve.specs.LinkRun.{ServesLink};
 
 use crate::machine::{LineMachine, Response};
 use crate::outcome::{Conversation, LinkEnd, Served, link_end};
@@ -20,11 +19,7 @@ const PIECE: usize = 8_192;
 
 // Sends a reply, in one write.
 fn send<L: Link, B: Drop>(io: &mut L, code: u8, text: &Text, last_code: &mut u8) -> Served<B>
-    ensures sends { Sends result (L.talk io.old) (L.talk io.new) code text.now last_code.old last_code.new }
-    ensures input { L.left io.new ≡ L.left io.old }
-    ensures faults { ServedFaults result (L.faults io.old) (L.faults io.new) }
-    ensures refusals { ServedRefusals result (L.refusals io.old) (L.refusals io.new) }
-    ensures program { L.program io.new ≡ L.program io.old }
+    ensures { SendsReply result (L.link io.old) (L.link io.new) code text.now last_code.old last_code.new }
 {
     match io.write(text.bytes()) {
         Ok(()) => {
@@ -46,12 +41,9 @@ fn serve_line<L: Link, H: LineMachine>(
     line: &Line,
     last_code: &mut u8,
 ) -> Served<H::Break>
-    ensures served { HasServed H.steps H.aborts (L.talk io.old) (L.talk io.new) (H.state machine.old) (line.now ∷ []) result last_code.old (H.state machine.new) last_code.new }
+    ensures served { ServesLines H.steps H.aborts (L.link io.old) (L.link io.new)
+        (H.state machine.old) (line.now ∷ []) result last_code.old (H.state machine.new) last_code.new }
     ensures borrows { H.borrows machine.new ≡ H.borrows machine.old }
-    ensures input { L.left io.new ≡ L.left io.old }
-    ensures faults { ServedFaults result (L.faults io.old) (L.faults io.new) }
-    ensures refusals { ServedRefusals result (L.refusals io.old) (L.refusals io.new) }
-    ensures program { L.program io.new ≡ L.program io.old }
 {
     match machine.handle(line) {
         Err(error) => Served::Broken(error),
@@ -68,12 +60,9 @@ fn serve_taken<L: Link, H: LineMachine>(
     line: Line,
     last_code: &mut u8,
 ) -> Served<H::Break>
-    ensures served { HasServed H.steps H.aborts (L.talk io.old) (L.talk io.new) (H.state machine.old) (line ∷ []) result last_code.old (H.state machine.new) last_code.new }
+    ensures served { ServesLines H.steps H.aborts (L.link io.old) (L.link io.new)
+        (H.state machine.old) (line ∷ []) result last_code.old (H.state machine.new) last_code.new }
     ensures borrows { H.borrows machine.new ≡ H.borrows machine.old }
-    ensures input { L.left io.new ≡ L.left io.old }
-    ensures faults { ServedFaults result (L.faults io.old) (L.faults io.new) }
-    ensures refusals { ServedRefusals result (L.refusals io.old) (L.refusals io.new) }
-    ensures program { L.program io.new ≡ L.program io.old }
 {
     serve_line(io, machine, &line, last_code)
 }
@@ -85,12 +74,9 @@ fn serve_held<L: Link, H: LineMachine>(
     lines: &mut Lines,
     last_code: &mut u8,
 ) -> Served<H::Break>
-    ensures served { HasServed H.steps H.aborts (L.talk io.old) (L.talk io.new) (H.state machine.old) (whole_lines lines.old) result last_code.old (H.state machine.new) last_code.new }
+    ensures served { ServesLines H.steps H.aborts (L.link io.old) (L.link io.new)
+        (H.state machine.old) (whole_lines lines.old) result last_code.old (H.state machine.new) last_code.new }
     ensures borrows { H.borrows machine.new ≡ H.borrows machine.old }
-    ensures input { L.left io.new ≡ L.left io.old }
-    ensures faults { ServedFaults result (L.faults io.old) (L.faults io.new) }
-    ensures refusals { ServedRefusals result (L.refusals io.old) (L.refusals io.new) }
-    ensures program { L.program io.new ≡ L.program io.old }
     ensures none_left { result ≡ Served.On → whole_lines lines.new ≡ [] }
     ensures rest { rest_of lines.new ≡ rest_of lines.old }
 {
@@ -115,12 +101,9 @@ fn serve_rest<L: Link, H: LineMachine>(
     last_code: &mut u8,
 ) -> Served<H::Break>
     requires { whole_lines lines.old ≡ [] }
-    ensures served { HasServed H.steps H.aborts (L.talk io.old) (L.talk io.new) (H.state machine.old) (line_of_rest (rest_of lines.old)) result last_code.old (H.state machine.new) last_code.new }
+    ensures served { ServesLines H.steps H.aborts (L.link io.old) (L.link io.new)
+        (H.state machine.old) (line_of_rest (rest_of lines.old)) result last_code.old (H.state machine.new) last_code.new }
     ensures borrows { H.borrows machine.new ≡ H.borrows machine.old }
-    ensures input { L.left io.new ≡ L.left io.old }
-    ensures faults { ServedFaults result (L.faults io.old) (L.faults io.new) }
-    ensures refusals { ServedRefusals result (L.refusals io.old) (L.refusals io.new) }
-    ensures program { L.program io.new ≡ L.program io.old }
 {
     match lines.last() {
         None => Served::On,
@@ -137,11 +120,9 @@ fn converse<L: Link, H: LineMachine>(
 ) -> Conversation<H::Break>
     requires some { 0 < length buf.old }
     requires small { length buf.old ≤ MAX_PIECE }
-    ensures run { IsLinkRun H.steps H.aborts (L.talk io.old) (L.talk io.new) (L.left io.old) (L.left io.new) (H.state machine.old) result.end (H.state machine.new) result.last_code }
+    ensures serves { ServesLink H.steps H.aborts (L.link io.old) (L.link io.new)
+        (H.state machine.old) result.end (H.state machine.new) result.last_code }
     ensures borrows { H.borrows machine.new ≡ H.borrows machine.old }
-    ensures faults { LinkFaults result.end (L.faults io.old) (L.faults io.new) }
-    ensures refusals { LinkRefusals result.end (L.refusals io.old) (L.refusals io.new) }
-    ensures program { L.program io.new ≡ L.program io.old }
 {
     let mut lines = Lines::new(alloc);
     let mut last_code: u8 = 0;
@@ -201,11 +182,9 @@ pub fn serve_link<L: Link, H: LineMachine>(
     io: &mut L,
     machine: &mut H,
 ) -> Conversation<H::Break>
-    ensures run { IsLinkRun H.steps H.aborts (L.talk io.old) (L.talk io.new) (L.left io.old) (L.left io.new) (H.state machine.old) result.end (H.state machine.new) result.last_code }
+    ensures serves { ServesLink H.steps H.aborts (L.link io.old) (L.link io.new)
+        (H.state machine.old) result.end (H.state machine.new) result.last_code }
     ensures borrows { H.borrows machine.new ≡ H.borrows machine.old }
-    ensures faults { LinkFaults result.end (L.faults io.old) (L.faults io.new) }
-    ensures refusals { LinkRefusals result.end (L.refusals io.old) (L.refusals io.new) }
-    ensures program { L.program io.new ≡ L.program io.old }
 {
     match buffer(alloc) {
         Ok(mut buf) => converse(alloc, io, machine, buf.as_mut_slice()),

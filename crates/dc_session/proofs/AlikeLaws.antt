@@ -30,7 +30,7 @@ use Rattle.dc_session.specs.Alike.{IsToldAs, AreTerminalsAlike, AreAlike, AreTra
 use Rattle.dc_session.specs.Answers.{answer}
 use Rattle.dc_session.specs.Displays.{Display, Blank, OneLine, Dialogue, HasLine, HasDialogue, displayed, Shows}
 use Rattle.dc_session.specs.Machine.{Handles, Steps, StepsHeard, HasDone, Looks, file_of, sent_in}
-use Rattle.dc_session.specs.SessionState.{FilesState, TerminalState, SessionState}
+use Rattle.dc_session.specs.SessionState.{FilesState, LinkState, TerminalState, SessionState}
 use Rattle.dc_session.specs.declared.asking.Asking.{Asking}
 use Rattle.dc_session.specs.declared.stepped.Stepped.{Stepped}
 use Rattle.dc_session.proofs.Determined.{IsTold, one_looked, heeds_told, files_left}
@@ -85,8 +85,8 @@ line_told : (text : List ℕ) (old new : TerminalState) (asked : Asked) (told : 
     → IsToldAs new (record { ahead = told.ahead; talk = told.talk ++ Sent (text ++ newline ∷ []) ∷ []; input = told.input })
 line_told text old new asked told is has = record {
   ahead = has.ahead ∙ is.ahead;
-  talk = has.said ∙ ap (λ (t : Option (List Piece)). then_pieces t (Sent (text ++ newline ∷ []) ∷ [])) is.talk;
-  input = has.input ∙ is.input;
+  talk = ap (λ (k : LinkState). k.talk) has.said ∙ ap (λ (t : Option (List Piece)). then_pieces t (Sent (text ++ newline ∷ []) ∷ [])) is.talk;
+  input = ap (λ (k : LinkState). k.input) has.said ∙ is.input;
   used_up = is.used_up;
 }
 
@@ -141,7 +141,7 @@ module _ (asking : Asking) (one other new left : TerminalState) (alike : AreTerm
 
 -- ---- one line
 
-module _ (disk : Disk) (old : SessionState) (terminal : TerminalState) (alike : AreTerminalsAlike old.terminal terminal) (told : IsTold disk old.files.told) (one other : Stepped) (new left : SessionState) (files : new.files ≡ left.files) where
+module _ (disk : Disk) (old : SessionState) (terminal : TerminalState) (alike : AreTerminalsAlike old.terminal terminal) (told : IsTold disk old.files.view) (one other : Stepped) (new left : SessionState) (files : new.files ≡ left.files) where
   abbrev there : SessionState
   there = record old { terminal = terminal }
 
@@ -176,7 +176,7 @@ module _ (disk : Disk) (old : SessionState) (terminal : TerminalState) (alike : 
   steps_alike TooLong first second = (first.0 ∙ sym second.0, kept_alike first.1 second.1)
   steps_alike (Whole line) first second = heard_alike (heard old.asking.escape line) first second
 
-pub heeds_alike : (disk : Disk) (old : SessionState) (terminal : TerminalState) → AreTerminalsAlike old.terminal terminal → IsTold disk old.files.told → (did other : Response) (new left : SessionState) → new.files ≡ left.files → (line : Line)
+pub heeds_alike : (disk : Disk) (old : SessionState) (terminal : TerminalState) → AreTerminalsAlike old.terminal terminal → IsTold disk old.files.view → (did other : Response) (new left : SessionState) → new.files ≡ left.files → (line : Line)
     → Handles old line did new → Handles (record old { terminal = terminal }) line other left → (did ≡ other) × AreAlike new left
 heeds_alike disk old terminal alike told did other new left files line first second =
     let same = steps_alike disk old terminal alike told first.stepped second.stepped new left files line first.steps second.steps in
@@ -184,7 +184,7 @@ heeds_alike disk old terminal alike told did other new left files line first sec
 
 -- ---- courses
 
-courses_alike : (disk : Disk) (start other : SessionState) (a b : List (Transition SessionState)) → AreAlike start other → IsTold disk start.files.told → IsExecution Handles start a → IsExecution Handles other b
+courses_alike : (disk : Disk) (start other : SessionState) (a b : List (Transition SessionState)) → AreAlike start other → IsTold disk start.files.view → IsExecution Handles start a → IsExecution Handles other b
     → lines_of a ≡ lines_of b → files_left a ≡ files_left b → AreTransitionsAlike a b
 courses_alike disk start other [] [] alike told first second lines files = record {}
 courses_alike disk start other [] (transition ∷ b) alike told first second lines files = cc
@@ -198,6 +198,6 @@ courses_alike disk start other (one ∷ a) (two ∷ b) alike told first second l
     (subst (λ (s : SessionState). Handles s two.line two.did two.new) alike.rest second.0) in
     (here.0, here.1, courses_alike disk one.new two.new a b here.1 (heeds_told disk start told one.did one.new one.line first.0) first.2 second.2 rest later_files)
 
-pub alike_courses : (disk : Disk) (start other : SessionState) (calls : List FilesCall) (a b : List (Transition SessionState)) → start.files.told ≡ record { disk = Some disk; calls = Some calls } → AreAlike start other
+pub alike_courses : (disk : Disk) (start other : SessionState) (calls : List FilesCall) (a b : List (Transition SessionState)) → start.files.view ≡ record { disk = Some disk; calls = Some calls } → AreAlike start other
     → IsExecution Handles start a → IsExecution Handles other b → lines_of a ≡ lines_of b → files_left a ≡ files_left b → AreTransitionsAlike a b
 alike_courses disk start other calls a b told alike = courses_alike disk start other a b alike (calls, told)

@@ -7,7 +7,7 @@ use Rattle.dc_words.specs.declared.stream.Line.{Line}
 use Rattle.dc_words.specs.declared.stream.Line.TheVariants.{Whole, TooLong}
 use Rattle.dc_outside.specs.Disk.{Disk, bytes_at}
 use Rattle.dc_outside.specs.Steps.{after_look}
-use Rattle.dc_outside.specs.Told.{Told}
+use Rattle.dc_outside.specs.State.{FilesView}
 use Rattle.dc_outside.specs.declared.files.FilesCall.{FilesCall}
 use Rattle.dc_outside.specs.declared.files.FilesOp.TheVariants.{Read}
 use Rattle.dc_proto.specs.Commands.{heard}
@@ -39,7 +39,7 @@ not_none : {A : Type 0} (a : A) → ◌≡◌ {A = Option A} None (Some a) → �
 not_none a is = cc
 
 -- the disk and the calls are told
-abbrev pub IsTold : Disk → Told → Type 0
+abbrev pub IsTold : Disk → FilesView → Type 0
 IsTold disk told = (calls : List FilesCall) × (told ≡ record { disk = Some disk; calls = Some calls })
 
 same_ok : (a b : Asked) → ◌≡◌ {A = Result Asked LinkError} (Ok a) (Ok b) → a ≡ b
@@ -48,17 +48,17 @@ same_ok a b is = cc
 apart : (path : List ℕ) → ◌≡◌ {A = List FilesCall} (record { op = Read; path = path; ok = false } ∷ []) (record { op = Read; path = path; ok = true } ∷ []) → ⊥
 apart path is = let same : false ≡ true = ap (λ (calls : List FilesCall). list_any (λ c. c.ok) calls) is in cc
 
-module _ (disk : Disk) (path : List ℕ) (old new : FilesState) (told : IsTold disk old.told) where
+module _ (disk : Disk) (path : List ℕ) (old new : FilesState) (told : IsTold disk old.view) where
   -- a call failed or was answered
-  one_answer : new.told ≡ after_look old.told Read path false → new.told ≡ after_look old.told Read path true → ⊥
+  one_answer : new.view ≡ after_look old.view Read path false → new.view ≡ after_look old.view Read path true → ⊥
   one_answer failed done =
       let same : after_look (record { disk = Some disk; calls = Some told.0 }) Read path false ≡ after_look (record { disk = Some disk; calls = Some told.0 }) Read path true
-      = subst (λ (t : Told). after_look t Read path false ≡ after_look t Read path true) told.1 (sym failed ∙ done) in
-      apart path (append_cancel_left told.0 _ _ (same_some _ _ (ap (λ (t : Told). t.calls) same)))
+      = subst (λ (t : FilesView). after_look t Read path false ≡ after_look t Read path true) told.1 (sym failed ∙ done) in
+      apart path (append_cancel_left told.0 _ _ (same_some _ _ (ap (λ (t : FilesView). t.calls) same)))
 
   -- what was read stands there
   read_is : (found : Option (List ℕ)) → HasRead path old new found → found ≡ bytes_at disk path
-  read_is found read = subst (λ (t : Told). IfSome t.disk (λ d. found ≡ bytes_at d path)) told.1 read.found_is
+  read_is found read = subst (λ (t : FilesView). IfSome t.disk (λ d. found ≡ bytes_at d path)) told.1 read.found_is
 
   one_text : (text other : List ℕ) → HasRead path old new (Some text) → HasRead path old new (Some other) → text ≡ other
   one_text text other first second = same_some text other (read_is (Some text) first ∙ sym (read_is (Some other) second))
@@ -90,31 +90,31 @@ module _ (disk : Disk) (path : List ℕ) (old new : FilesState) (told : IsTold d
       let reads : Reads second.0 templates = subst (λ (t : List ℕ). Reads t templates) (one_text first.0 second.0 first.1 second.1) first.2 in
       ap (λ (ts : List Stanza). Templates ts) (reads.are ∙ sym second.2.are)
 
-  looked : (ok : Bool) → new.told ≡ after_look old.told Read path ok → IsTold disk new.told
+  looked : (ok : Bool) → new.view ≡ after_look old.view Read path ok → IsTold disk new.view
   looked ok is =
-      (told.0 ++ record { op = Read; path = path; ok = ok } ∷ [], is ∙ ap (λ (t : Told). after_look t Read path ok) told.1)
+      (told.0 ++ record { op = Read; path = path; ok = ok } ∷ [], is ∙ ap (λ (t : FilesView). after_look t Read path ok) told.1)
 
-  finds_told : (found : Found) → Finds path old found new → IsTold disk new.told
+  finds_told : (found : Found) → Finds path old found new → IsTold disk new.view
   finds_told Unreadable finds = looked false finds.0
   finds_told Missing finds = looked true finds.told_is
   finds_told (Faulty line) finds = looked true finds.2.told_is
   finds_told (Templates templates) finds = looked true finds.1.told_is
 
-module _ (disk : Disk) (old new : FilesState) (told : IsTold disk old.told) where
+module _ (disk : Disk) (old new : FilesState) (told : IsTold disk old.view) where
   pub one_looked : (path : Option (List ℕ)) (found other : Found) → Looks path old found new → Looks path old other new → found ≡ other
   one_looked None found other first second = first.0 ∙ sym second.0
   one_looked (Some path) found other first second = one_found disk path old new told found other first second
 
-  same_told : new ≡ old → IsTold disk new.told
-  same_told same = subst (λ (f : FilesState). IsTold disk f.told) (sym same) told
+  same_told : new ≡ old → IsTold disk new.view
+  same_told same = subst (λ (f : FilesState). IsTold disk f.view) (sym same) told
 
-  looks_told : (path : Option (List ℕ)) (found : Found) → Looks path old found new → IsTold disk new.told
+  looks_told : (path : Option (List ℕ)) (found : Found) → Looks path old found new → IsTold disk new.view
   looks_told None found looks = same_told looks.1
   looks_told (Some path) found looks = finds_told disk path old new told found looks
 
 -- ---- one line
 
-module _ (disk : Disk) (old : SessionState) (nobody : AsksNobody old) (told : IsTold disk old.files.told) (one other : Stepped) (new left : SessionState) (files : new.files ≡ left.files) where
+module _ (disk : Disk) (old : SessionState) (nobody : AsksNobody old) (told : IsTold disk old.files.view) (one other : Stepped) (new left : SessionState) (files : new.files ≡ left.files) where
   -- nothing is shown, and nothing answered
   blank_given : (display : Display) (asked : Asked) (terminal : TerminalState) → display ≡ Blank → Shows old.asking display old.terminal (Ok asked) terminal → (asked ≡ Answers []) × (terminal ≡ old.terminal)
   blank_given display asked terminal blank shows =
@@ -143,26 +143,26 @@ module _ (disk : Disk) (old : SessionState) (nobody : AsksNobody old) (told : Is
   steps_once TooLong first second = (first.0 ∙ sym second.0, first.1 ∙ sym second.1)
   steps_once (Whole line) first second = heard_once (heard old.asking.escape line) first second
 
-heeds_once : (disk : Disk) (old : SessionState) → AsksNobody old → IsTold disk old.files.told → (did other : Response) (new left : SessionState) → new.files ≡ left.files → (line : Line)
+heeds_once : (disk : Disk) (old : SessionState) → AsksNobody old → IsTold disk old.files.view → (did other : Response) (new left : SessionState) → new.files ≡ left.files → (line : Line)
     → Handles old line did new → Handles old line other left → (did ≡ other) × (new ≡ left)
 heeds_once disk old nobody told did other new left files line first second =
     let same = steps_once disk old nobody told first.stepped second.stepped new left files line first.steps second.steps in
     (first.did_is ∙ ap (sent_in old.asking.escape) same.0 ∙ sym second.did_is, same.1)
 
-module _ (disk : Disk) (old : SessionState) (told : IsTold disk old.files.told) (did : Stepped) (new : SessionState) where
-  state_told : new ≡ old → IsTold disk new.files.told
+module _ (disk : Disk) (old : SessionState) (told : IsTold disk old.files.view) (did : Stepped) (new : SessionState) where
+  state_told : new ≡ old → IsTold disk new.files.view
   state_told same = same_told disk old.files new.files told (ap (λ (s : SessionState). s.files) same)
 
-  heard_told : (said : Heard) → StepsHeard said old did new → IsTold disk new.files.told
+  heard_told : (said : Heard) → StepsHeard said old did new → IsTold disk new.files.view
   heard_told Nothing steps = state_told steps.1
   heard_told (Known command) steps = looks_told disk old.files new.files told (file_of command) steps.given.found steps.gives.looks
   heard_told (Refused reply) steps = state_told steps.1
 
-  steps_told : (line : Line) → Steps old line did new → IsTold disk new.files.told
+  steps_told : (line : Line) → Steps old line did new → IsTold disk new.files.view
   steps_told TooLong steps = state_told steps.1
   steps_told (Whole line) steps = heard_told (heard old.asking.escape line) steps
 
-pub heeds_told : (disk : Disk) (old : SessionState) → IsTold disk old.files.told → (did : Response) (new : SessionState) (line : Line) → Handles old line did new → IsTold disk new.files.told
+pub heeds_told : (disk : Disk) (old : SessionState) → IsTold disk old.files.view → (did : Response) (new : SessionState) (line : Line) → Handles old line did new → IsTold disk new.files.view
 heeds_told disk old told did new line steps = steps_told disk old told steps.stepped new line steps.steps
 
 -- ---- courses
@@ -170,7 +170,7 @@ heeds_told disk old told did new line steps = steps_told disk old told steps.ste
 abbrev pub files_left : List (Transition SessionState) → List FilesState
 files_left transitions = each (λ transition. transition.new.files) transitions
 
-courses : (disk : Disk) (start : SessionState) (a b : List (Transition SessionState)) → AsksNobody start → IsTold disk start.files.told → IsExecution Handles start a → IsExecution Handles start b
+courses : (disk : Disk) (start : SessionState) (a b : List (Transition SessionState)) → AsksNobody start → IsTold disk start.files.view → IsExecution Handles start a → IsExecution Handles start b
     → lines_of a ≡ lines_of b → files_left a ≡ files_left b → a ≡ b
 courses disk start [] [] nobody told first second lines files = refl
 courses disk start [] (transition ∷ b) nobody told first second lines files = cc
@@ -185,6 +185,6 @@ courses disk start (one ∷ a) (other ∷ b) nobody told first second lines file
     = courses disk one.new a b (steps_nobody one.line start one.new first.0.stepped nobody first.0.steps) (heeds_told disk start told one.did one.new one.line first.0) first.2 (subst (λ (s : SessionState). IsExecution Handles s b) (sym here.1) second.2) rest later_files in
     λ i. record { line = line i; did = here.0 i; new = here.1 i } ∷ later i
 
-pub determined : (disk : Disk) (start : SessionState) (calls : List FilesCall) (a b : List (Transition SessionState)) → start.files.told ≡ record { disk = Some disk; calls = Some calls } → AsksNobody start
+pub determined : (disk : Disk) (start : SessionState) (calls : List FilesCall) (a b : List (Transition SessionState)) → start.files.view ≡ record { disk = Some disk; calls = Some calls } → AsksNobody start
     → IsExecution Handles start a → IsExecution Handles start b → lines_of a ≡ lines_of b → files_left a ≡ files_left b → a ≡ b
 determined disk start calls a b told nobody = courses disk start a b nobody (calls, told)

@@ -3,7 +3,7 @@ use Rattle.std.proofs.Common.{◌≡◌, List, [], ◌∷◌, refl, ap, ◌∙�
 use Rattle.std.specs.Prelude.{ℕ, Option, Some, None}
 use Rattle.dc_words.specs.declared.stream.Line.{Line}
 use Rattle.dc_words.specs.declared.stream.Line.TheVariants.{Whole, TooLong}
-use Rattle.dc_outside.specs.Told.{Told}
+use Rattle.dc_outside.specs.State.{FilesView}
 use Rattle.dc_proto.specs.Commands.{heard}
 use Rattle.dc_proto.specs.declared.command.Command.{Command}
 use Rattle.dc_proto.specs.declared.command.Heard.{Heard}
@@ -21,31 +21,31 @@ use Rattle.dc_session.specs.declared.template_files.Found.TheVariants.{Unreadabl
 
 -- the disk is as it was
 abbrev pub KeepsDisk : FilesState → FilesState → Type 0
-KeepsDisk old new = new.told.disk ≡ old.told.disk
+KeepsDisk old new = new.view.disk ≡ old.view.disk
 
 same_files : (old new : FilesState) → new ≡ old → KeepsDisk old new
-same_files old new same = ap (λ (f : FilesState). f.told.disk) same
+same_files old new same = ap (λ (f : FilesState). f.view.disk) same
 
 finds_keeps : (path : List ℕ) (old new : FilesState) (found : Found) → Finds path old found new → KeepsDisk old new
-finds_keeps path old new Unreadable finds = ap (λ (t : Told). t.disk) finds.0
-finds_keeps path old new Missing finds = ap (λ (t : Told). t.disk) finds.told_is
-finds_keeps path old new (Faulty line) finds = ap (λ (t : Told). t.disk) finds.2.told_is
-finds_keeps path old new (Templates templates) finds = ap (λ (t : Told). t.disk) finds.1.told_is
+finds_keeps path old new Unreadable finds = ap (λ (t : FilesView). t.disk) finds.0
+finds_keeps path old new Missing finds = ap (λ (t : FilesView). t.disk) finds.told_is
+finds_keeps path old new (Faulty line) finds = ap (λ (t : FilesView). t.disk) finds.2.told_is
+finds_keeps path old new (Templates templates) finds = ap (λ (t : FilesView). t.disk) finds.1.told_is
 
 looks_keep : (path : Option (List ℕ)) (old new : FilesState) (found : Found) → Looks path old found new → KeepsDisk old new
 looks_keep None old new found looks = same_files old new looks.1
 looks_keep (Some path) old new found looks = finds_keeps path old new found looks
 
 none_keeps : (path : List ℕ) (old new : FilesState) → FindsNoMemory path old new → KeepsDisk old new
-none_keeps path old new (inl refused) = ap (λ (t : Told). t.disk) refused.0
-none_keeps path old new (inr read) = ap (λ (t : Told). t.disk) read.0
+none_keeps path old new (inl refused) = ap (λ (t : FilesView). t.disk) refused.0
+none_keeps path old new (inr read) = ap (λ (t : FilesView). t.disk) read.0
 
 vain_keeps : (path : Option (List ℕ)) (old new : FilesState) → LooksInVain path old new → KeepsDisk old new
 vain_keeps None old new same = same_files old new same
 vain_keeps (Some path) old new none = none_keeps path old new none
 
 state_keeps : (old new : SessionState) → new ≡ old → KeepsDisk old.files new.files
-state_keeps old new same = ap (λ (s : SessionState). s.files.told.disk) same
+state_keeps old new same = ap (λ (s : SessionState). s.files.view.disk) same
 
 heard_keeps : (said : Heard) (old new : SessionState) (did : Stepped) → StepsHeard said old did new → KeepsDisk old.files new.files
 heard_keeps Nothing old new did steps = state_keeps old new steps.1
@@ -79,7 +79,7 @@ idle_keeps old new step.Term none = absurd none
 off_keeps : (command : Command) (old new : SessionState) (error : StepError) → BreaksOff command old error new → KeepsDisk old.files new.files
 off_keeps command old new step.OutOfMemory (inl same) = state_keeps old new same
 off_keeps command old new step.OutOfMemory (inr part) = part_keeps command old new part
-off_keeps command old new step.Term fails = ap (λ (s : SessionState). s.files.told.disk) fails.new_is
+off_keeps command old new step.Term fails = ap (λ (s : SessionState). s.files.view.disk) fails.new_is
 
 heard_breaks : (said : Heard) (old new : SessionState) (error : StepError) → BreaksHeard said old error new → KeepsDisk old.files new.files
 heard_breaks Nothing old new error idle = idle_keeps old new error idle

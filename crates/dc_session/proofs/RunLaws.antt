@@ -35,7 +35,7 @@ not_through transition lines rest is (inr none) = cc
 none_alike : (a b : List (Transition SessionState)) → a ≡ [] → b ≡ [] → AreTransitionsAlike a b
 none_alike a b first second = rw (first, second) (record {})
 
-through_alike : (disk : Disk) (start other : SessionState) (a b : List (Transition SessionState)) (later rest : List Line) → AreAlike start other → IsTold disk start.files.told → IsExecution Handles start a → IsExecution Handles other b
+through_alike : (disk : Disk) (start other : SessionState) (a b : List (Transition SessionState)) (later rest : List Line) → AreAlike start other → IsTold disk start.files.view → IsExecution Handles start a → IsExecution Handles other b
     → lines_of a ++ later ≡ lines_of b ++ rest → AreThrough a later → AreThrough b rest → AreFilesAlike a b → AreTransitionsAlike a b
 through_alike disk start other [] [] later rest alike told first second lines one_through two_through files = record {}
 through_alike disk start other [] (transition ∷ b) later rest alike told first second lines one_through two_through files = absurd (not_through transition (lines_of b ++ rest) later lines one_through)
@@ -105,7 +105,7 @@ module _ (input : List ℕ) (talk new_talk : Option (List Piece)) (left : Option
   ]
 
 pub runs_alike : (disk : Disk) (calls : List FilesCall) (start other new last : SessionState) (input : List ℕ) (talk new_talk told new_told : Option (List Piece)) (left rest : Option (List ℕ)) (code number : ℕ)
-    → start.files.told ≡ record { disk = Some disk; calls = Some calls } → AreAlike start other
+    → start.files.view ≡ record { disk = Some disk; calls = Some calls } → AreAlike start other
     → (one : IsLinkRun Handles Aborts talk new_talk (Some input) left start Done new code) → (two : IsLinkRun Handles Aborts told new_told (Some input) rest other Done last number)
     → AreFilesAlike one.transitions two.transitions → EndAlike one.pieces two.pieces code number new last
 runs_alike disk calls start other new last input talk new_talk told new_told left rest code number files_told alike one two files =

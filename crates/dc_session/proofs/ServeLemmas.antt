@@ -12,7 +12,7 @@ use Rattle.dc_proto.specs.declared.priority.Priority.{Priority}
 use Rattle.dc_proto.specs.declared.priority.Priority.TheVariants.{High}
 use Rattle.dc_question.specs.Questions.{QuestionContext, value}
 use Rattle.dc_question.specs.declared.errors.QuestionError.{QuestionError}
-use Rattle.dc_serve.specs.Ends.{LinkFaults, LinkRefusals}
+use Rattle.dc_serve.specs.Ends.{LinkCounts}
 use Rattle.dc_serve.specs.LinkRun.{IsLinkRun}
 use Rattle.dc_serve.specs.declared.outcome.LinkEnd.{LinkEnd}
 use Rattle.dc_serve.specs.declared.outcome.LinkEnd.TheVariants as link
@@ -30,16 +30,16 @@ use Rattle.dc_session.specs.declared.stepped.StepError.{StepError}
 -- a session that was served from the state that it began in, and finished
 pub served_from : (start begun state : SessionState) (layers : List LayerState) (files : FilesState) (terminal old new : LinkState) (served ended : LinkEnd StepError) (code last : ℕ)
     → IsLinkRun Handles Aborts old.talk new.talk old.input new.input start served state code → last ≡ code → start ≡ begun → files ≡ state.files → terminal ≡ state.terminal.link → Finishes served state layers ended
-    → LinkFaults served old.counts.faults new.counts.faults → LinkRefusals served old.counts.refusals new.counts.refusals → IsServed begun layers files terminal old new ended last
-served_from start begun state layers files terminal old new served ended code last ran last_is same told shown finishes faults refusals = record {
+    → LinkCounts served old.counts new.counts → new.program ≡ old.program → IsServed begun layers files terminal old new ended last
+served_from start begun state layers files terminal old new served ended code last ran last_is same told shown finishes counts program = record {
   state = state;
   served = served;
   ran = subst (λ (s : SessionState). IsLinkRun Handles Aborts old.talk new.talk old.input new.input s served state last) same (subst (λ (n : ℕ). IsLinkRun Handles Aborts old.talk new.talk old.input new.input start served state n) (sym last_is) ran);
   files_are = told;
   terminal_is = shown;
   finishes = finishes;
-  faults = faults;
-  refusals = refusals;
+  counts = counts;
+  program = program;
 }
 
 -- the same, of what it began as and left
@@ -70,8 +70,8 @@ unserved start layers files terminal old are told shown = record {
   files_are = told;
   terminal_is = shown;
   finishes = (are, refl);
-  faults = refl;
-  refusals = inr refl;
+  counts = inr refl;
+  program = refl;
 }
 
 -- ---- the threshold

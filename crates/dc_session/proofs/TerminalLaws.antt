@@ -1,8 +1,7 @@
 -- How a session counts on its terminal.
 use Rattle.std.proofs.Common.{◌≡◌, ◌⊎◌, List, [], ◌∷◌, refl, ap, subst, ◌∙◌, inl, inr}
 use Rattle.std.specs.Prelude.{Result, Ok, Err}
-use Rattle.dc_outside.specs.Counts.{FaultRose, RefusalRose}
-use Rattle.dc_outside.specs.Told.{Counts}
+use Rattle.dc_outside.specs.Counts.{Counts, FaultRose, RefusalRose}
 use Rattle.dc_outside.specs.declared.link.LinkError.TheVariants as link
 use Rattle.dc_words.specs.declared.stream.Line.{Line}
 use Rattle.dc_words.specs.declared.stream.Line.TheVariants.{Whole, TooLong}
@@ -16,9 +15,9 @@ use Rattle.dc_proto.specs.declared.command.Heard.TheVariants.{Nothing, Known, Re
 use Rattle.dc_serve.specs.Execution.{Transition, state_after, IsExecution}
 use Rattle.dc_teletype.specs.declared.teletype.Asked.{Asked}
 use Rattle.dc_teletype.specs.declared.teletype.Asked.TheVariants.{Answers}
-use Rattle.dc_session.specs.Displays.{Display, Blank, OneLine, Dialogue, CountsOn, displayed, where_asked, Shows}
+use Rattle.dc_session.specs.Displays.{Display, Blank, OneLine, Dialogue, displayed, where_asked, Shows}
 use Rattle.dc_session.specs.Machine.{Handles, Steps, StepsHeard, Aborts, BreaksHeard, BreaksIdle, BreaksOff, GivesInPart, IsDoneInPart}
-use Rattle.dc_session.specs.SessionState.{TerminalState, SessionState}
+use Rattle.dc_session.specs.SessionState.{LinkState, TerminalState, SessionState}
 use Rattle.dc_session.specs.declared.asking.Asking.{Asking}
 use Rattle.dc_session.specs.declared.stepped.StepError.{StepError}
 use Rattle.dc_session.specs.declared.stepped.StepError.TheVariants as step
@@ -30,32 +29,23 @@ no_error : {A E : Type 0} (a : A) (e : E) → ◌≡◌ {A = Result A E} (Err e)
 no_error a e is = cc
 
 module _ (old new : TerminalState) where
-  all_done : (asked : Asked) → CountsOn old new (Ok asked) → new.link.counts ≡ old.link.counts
-  all_done asked counts = λ i. record { faults = counts.faults i; refusals = counts.refusals i }
-
-  one_failed : CountsOn old new (Err link.Failed) → FaultRose old.link.counts new.link.counts
-  one_failed counts = record { faults = counts.faults; refusals = counts.refusals }
-
-  none_left : CountsOn old new (Err link.OutOfMemory) → (new.link.counts ≡ old.link.counts) ⊎ RefusalRose old.link.counts new.link.counts
-  none_left counts = elim counts.refusals [
-    | inl rose ↦ inr (record { faults = counts.faults; refusals = rose })
-    | inr same ↦ inl (λ i. record { faults = counts.faults i; refusals = same i })
-  ]
+  none_left : (before now : Counts) → RefusalRose before now ⊎ (now ≡ before) → (now ≡ before) ⊎ RefusalRose before now
+  none_left before now counts = elim counts [ inl rose ↦ inr rose | inr same ↦ inl same ]
 
   shows_stay : (asking : Asking) (display : Display) (asked : Asked) → Shows asking display old (Ok asked) new → new.link.counts ≡ old.link.counts
   shows_stay asking Blank asked shows = ap (λ (t : TerminalState). t.link.counts) shows.1
-  shows_stay asking (OneLine text) asked shows = all_done asked shows.counts
-  shows_stay asking (Dialogue questions) asked shows = all_done asked shows.counts
+  shows_stay asking (OneLine text) asked shows = ap (λ (k : LinkState). k.counts) shows.said
+  shows_stay asking (Dialogue questions) asked shows = shows.counts
 
   shows_fail : (asking : Asking) (display : Display) → Shows asking display old (Err link.Failed) new → FaultRose old.link.counts new.link.counts
   shows_fail asking Blank shows = absurd (no_error (Answers []) link.Failed shows.0)
-  shows_fail asking (OneLine text) shows = one_failed shows.counts
-  shows_fail asking (Dialogue questions) shows = one_failed shows.counts
+  shows_fail asking (OneLine text) shows = shows.said.rose
+  shows_fail asking (Dialogue questions) shows = shows.counts
 
   shows_no_memory : (asking : Asking) (display : Display) → Shows asking display old (Err link.OutOfMemory) new → (new.link.counts ≡ old.link.counts) ⊎ RefusalRose old.link.counts new.link.counts
   shows_no_memory asking Blank shows = absurd (no_error (Answers []) link.OutOfMemory shows.0)
-  shows_no_memory asking (OneLine text) shows = none_left shows.counts
-  shows_no_memory asking (Dialogue questions) shows = none_left shows.counts
+  shows_no_memory asking (OneLine text) shows = none_left old.link.counts new.link.counts shows.said.1
+  shows_no_memory asking (Dialogue questions) shows = none_left old.link.counts new.link.counts shows.counts
 
 -- ---- one line
 

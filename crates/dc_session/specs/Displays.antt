@@ -5,14 +5,12 @@ use Rattle.dc_text.specs.Ascii.{newline}
 use Rattle.dc_frontend.specs.declared.frontend.Frontend.{Frontend}
 use Rattle.dc_frontend.specs.declared.frontend.Frontend.TheVariants.{Noninteractive, Teletype}
 use Rattle.dc_frontend.specs.declared.shown.Shown.{Shown}
-use Rattle.dc_outside.specs.Counts.{CountsFaults}
-use Rattle.dc_outside.specs.Talk.{AddsWrite}
 use Rattle.dc_outside.specs.declared.link.LinkError.{LinkError}
 use Rattle.dc_proto.specs.declared.command.Command.{Command}
 use Rattle.dc_proto.specs.declared.command.Command.TheVariants.{Go, ProgressStart, ProgressSet, ProgressStep, ProgressInfo}
 use Rattle.dc_question.specs.declared.errors.QuestionError.{QuestionError}
-use Rattle.dc_teletype.specs.Dialogue.{opening, IsDialogue}
-use Rattle.dc_teletype.specs.TerminalLines.{RefusalsBy, EndsWell}
+use Rattle.dc_teletype.specs.Dialogue.{opening, HoldsDialogue, SendsText}
+use Rattle.dc_teletype.specs.TerminalLines.{CallCounts, EndsWell}
 use Rattle.dc_teletype.specs.declared.teletype.Asked.{Asked}
 use Rattle.dc_teletype.specs.declared.teletype.Asked.TheVariants.{Answers}
 use Rattle.dc_session.specs.Answers.{for_question}
@@ -66,24 +64,18 @@ displayed state command = Blank
 
 -- ---- what becomes of the terminal
 
--- the terminal counts a call that failed or was refused
-pub record CountsOn (old new : TerminalState) (result : Result Asked LinkError) : Type 0 where
-  pub faults : CountsFaults old.link.counts.faults new.link.counts.faults result
-  pub refusals : RefusalsBy result old.link.counts.refusals new.link.counts.refusals
-
 -- a line was written, or not: nothing was read
 pub record HasLine (text : List ℕ) (old new : TerminalState) (result : Result Asked LinkError) : Type 0 where
-  pub said : AddsWrite old.link.talk new.link.talk result (text ++ newline ∷ [])
-  pub input : new.link.input ≡ old.link.input
+  pub said : SendsText (text ++ newline ∷ []) old.link new.link result
   pub ahead : new.ahead ≡ old.ahead
-  pub counts : CountsOn old new result
   pub none : IfOk result (λ asked. asked ≡ Answers [])
 
 -- a dialogue was held over these questions, or it stopped
 pub record HasDialogue (asking : Asking) (questions : List Shown) (old new : TerminalState) (result : Result Asked LinkError) : Type 0 where
-  pub held : IsDialogue asking.backup (opening asking.title questions) old.ahead new.ahead old.link.talk new.link.talk old.link.input new.link.input result
+  pub held : HoldsDialogue asking.backup (opening asking.title questions) old new result
   pub ends : EndsWell old.ahead new.ahead new.link.input
-  pub counts : CountsOn old new result
+  pub counts : CallCounts result old.link.counts new.link.counts
+  pub program : new.link.program ≡ old.link.program
 
 -- What becomes of a terminal on which this is shown, and what is answered there, or at which fault it stopped. Where nothing is shown, it
 -- stays as it is.

@@ -1,7 +1,7 @@
 -- The session behind a link, over the layers of a store.
 use Rattle.std.specs.Prelude.{◌≡◌, ◌⊎◌, ℕ, List}
 use Rattle.dc_layer.specs.State.{LayerState}
-use Rattle.dc_serve.specs.Ends.{LinkFaults, LinkRefusals}
+use Rattle.dc_serve.specs.Ends.{LinkCounts}
 use Rattle.dc_serve.specs.LinkRun.{IsLinkRun}
 use Rattle.dc_serve.specs.declared.outcome.LinkEnd.{LinkEnd}
 use Rattle.dc_serve.specs.declared.outcome.LinkEnd.TheVariants as link
@@ -38,5 +38,5 @@ pub record IsServed (start : SessionState) (layers : List LayerState) (files : F
   pub files_are : files ≡ state.files
   pub terminal_is : terminal ≡ state.terminal.link
   pub finishes : Finishes served state layers ended
-  pub faults : LinkFaults served old.counts.faults new.counts.faults
-  pub refusals : LinkRefusals served old.counts.refusals new.counts.refusals
+  pub counts : LinkCounts served old.counts new.counts
+  pub program : new.program ≡ old.program

@@ -28,7 +28,7 @@ use std::alloc::Global;
 
 impl<'s, 'f, 't, F: Files, T: Link> Session<'s, 'f, 't, F, T> {
     pub(crate) fn version(&self, version: &Option<Text>) -> Mem<Stepped>
-        ensures { Does (command.Version version.now) (⟦<Session<'s, 'f, 't, F, T> as LineMachine>⟧.state self.now) (⟦<Session<'s, 'f, 't, F, T> as LineMachine>⟧.state self.now) result }
+        ensures { Does (command.Version version.now) (⟦<Self as LineMachine>⟧.state self.now) (⟦<Self as LineMachine>⟧.state self.now) result }
     {
         if is_supported(version) {
             says(self.alloc, 0, b"2.0")
@@ -38,8 +38,8 @@ impl<'s, 'f, 't, F: Files, T: Link> Session<'s, 'f, 't, F, T> {
     }
 
     pub(crate) fn capb(&mut self, words: &List<Text>) -> Mem<Stepped>
-        ensures does { Does (command.Capb words.now) (⟦<Session<'s, 'f, 't, F, T> as LineMachine>⟧.state self.old) (⟦<Session<'s, 'f, 't, F, T> as LineMachine>⟧.state self.new) result }
-        ensures borrows { ⟦<Session<'s, 'f, 't, F, T> as LineMachine>⟧.borrows self.new ≡ ⟦<Session<'s, 'f, 't, F, T> as LineMachine>⟧.borrows self.old }
+        ensures does { Does (command.Capb words.now) (⟦<Self as LineMachine>⟧.state self.old) (⟦<Self as LineMachine>⟧.state self.new) result }
+        ensures borrows { ⟦<Self as LineMachine>⟧.borrows self.new ≡ ⟦<Self as LineMachine>⟧.borrows self.old }
     {
         let told = says(self.alloc, 0, capabilities(self.policy.frontend))?;
         self.asking.escape = has_word(words.as_slice(), b"escape");
@@ -48,8 +48,8 @@ impl<'s, 'f, 't, F: Files, T: Link> Session<'s, 'f, 't, F, T> {
     }
 
     pub(crate) fn set_title(&mut self, word: &Text) -> Mem<Stepped>
-        ensures does { Does (command.SetTitle word.now) (⟦<Session<'s, 'f, 't, F, T> as LineMachine>⟧.state self.old) (⟦<Session<'s, 'f, 't, F, T> as LineMachine>⟧.state self.new) result }
-        ensures borrows { ⟦<Session<'s, 'f, 't, F, T> as LineMachine>⟧.borrows self.new ≡ ⟦<Session<'s, 'f, 't, F, T> as LineMachine>⟧.borrows self.old }
+        ensures does { Does (command.SetTitle word.now) (⟦<Self as LineMachine>⟧.state self.old) (⟦<Self as LineMachine>⟧.state self.new) result }
+        ensures borrows { ⟦<Self as LineMachine>⟧.borrows self.new ≡ ⟦<Self as LineMachine>⟧.borrows self.old }
     {
         let Some(name) = named(self.alloc, word)? else {
             return missing(self.alloc, word.bytes());
@@ -61,8 +61,8 @@ impl<'s, 'f, 't, F: Files, T: Link> Session<'s, 'f, 't, F, T> {
     }
 
     pub(crate) fn title(&mut self, text: &Text) -> Mem<Stepped>
-        ensures does { Does (command.Title text.now) (⟦<Session<'s, 'f, 't, F, T> as LineMachine>⟧.state self.old) (⟦<Session<'s, 'f, 't, F, T> as LineMachine>⟧.state self.new) result }
-        ensures borrows { ⟦<Session<'s, 'f, 't, F, T> as LineMachine>⟧.borrows self.new ≡ ⟦<Session<'s, 'f, 't, F, T> as LineMachine>⟧.borrows self.old }
+        ensures does { Does (command.Title text.now) (⟦<Self as LineMachine>⟧.state self.old) (⟦<Self as LineMachine>⟧.state self.new) result }
+        ensures borrows { ⟦<Self as LineMachine>⟧.borrows self.new ≡ ⟦<Self as LineMachine>⟧.borrows self.old }
     {
         let text = text.copy()?;
         self.retitle(text)
@@ -71,8 +71,10 @@ impl<'s, 'f, 't, F: Files, T: Link> Session<'s, 'f, 't, F, T> {
     #[tactic(auto, using(dc_store::proofs::RowLemmas::same_all_refl))]
     // The text is the title.
     fn retitle(&mut self, text: Text) -> Mem<Stepped>
-        ensures comes { Comes (reply_asking (⟦<Session<'s, 'f, 't, F, T> as LineMachine>⟧.state self.old) (reply 0 []) (titled (⟦<Session<'s, 'f, 't, F, T> as LineMachine>⟧.state self.old).asking text)) [] (⟦<Session<'s, 'f, 't, F, T> as LineMachine>⟧.state self.old) (⟦<Session<'s, 'f, 't, F, T> as LineMachine>⟧.state self.new) result }
-        ensures borrows { ⟦<Session<'s, 'f, 't, F, T> as LineMachine>⟧.borrows self.new ≡ ⟦<Session<'s, 'f, 't, F, T> as LineMachine>⟧.borrows self.old }
+        ensures comes { Comes (reply_asking (⟦<Self as LineMachine>⟧.state self.old) (reply 0 [])
+            (titled (⟦<Self as LineMachine>⟧.state self.old).asking text)) [] (⟦<Self as LineMachine>⟧.state self.old)
+            (⟦<Self as LineMachine>⟧.state self.new) result }
+        ensures borrows { ⟦<Self as LineMachine>⟧.borrows self.new ≡ ⟦<Self as LineMachine>⟧.borrows self.old }
     {
         let told = says(self.alloc, 0, b"")?;
         self.asking.title = text;
@@ -81,15 +83,15 @@ impl<'s, 'f, 't, F: Files, T: Link> Session<'s, 'f, 't, F, T> {
 
     // The expanded description of the question, empty where it has none.
     pub(crate) fn description(&self, name: &Name) -> Result<Text, QuestionError>
-        ensures { Answers result (description_of (⟦<Session<'s, 'f, 't, F, T> as LineMachine>⟧.state self.now).store.layers (⟦<Session<'s, 'f, 't, F, T> as LineMachine>⟧.state self.now).at name.now) }
+        ensures { Answers result (description_of (⟦<Self as LineMachine>⟧.state self.now).store.layers (⟦<Self as LineMachine>⟧.state self.now).at name.now) }
     {
         let key = FieldKey::known(self.alloc, b"description")?;
         or_empty(self.alloc, self.desk.questions.expanded(name, &key))
     }
 
     pub(crate) fn input(&mut self, priority: Priority, word: &Text) -> Mem<Stepped>
-        ensures does { Does (command.Input priority word.now) (⟦<Session<'s, 'f, 't, F, T> as LineMachine>⟧.state self.old) (⟦<Session<'s, 'f, 't, F, T> as LineMachine>⟧.state self.new) result }
-        ensures borrows { ⟦<Session<'s, 'f, 't, F, T> as LineMachine>⟧.borrows self.new ≡ ⟦<Session<'s, 'f, 't, F, T> as LineMachine>⟧.borrows self.old }
+        ensures does { Does (command.Input priority word.now) (⟦<Self as LineMachine>⟧.state self.old) (⟦<Self as LineMachine>⟧.state self.new) result }
+        ensures borrows { ⟦<Self as LineMachine>⟧.borrows self.new ≡ ⟦<Self as LineMachine>⟧.borrows self.old }
     {
         let Some(name) = named(self.alloc, word)? else {
             return missing(self.alloc, word.bytes());
@@ -102,7 +104,7 @@ impl<'s, 'f, 't, F: Files, T: Link> Session<'s, 'f, 't, F, T> {
 
     // Whether the question is to be shown, which is asked with this priority.
     fn is_to_be_shown(&self, priority: Priority, name: &Name) -> Result<bool, QuestionError>
-        ensures { Answers result (is_to_be_shown_of (⟦<Session<'s, 'f, 't, F, T> as LineMachine>⟧.state self.now) priority name.now) }
+        ensures { Answers result (is_to_be_shown_of (⟦<Self as LineMachine>⟧.state self.now) priority name.now) }
     {
         let flag = seen_flag(self.alloc)?;
         let seen = self.desk.questions.flag(name, &flag)?;
@@ -115,8 +117,11 @@ impl<'s, 'f, 't, F: Files, T: Link> Session<'s, 'f, 't, F, T> {
     #[tactic(auto, using(dc_store::proofs::RowLemmas::same_all_refl))]
     // Prepares the question where it is to be shown.
     fn prepare_if(&mut self, shown: bool, name: &Name) -> Mem<Stepped>
-        ensures comes { Comes (reply_asking (⟦<Session<'s, 'f, 't, F, T> as LineMachine>⟧.state self.old) (input_reply (⟦<Session<'s, 'f, 't, F, T> as LineMachine>⟧.state self.old).policy.frontend shown) (prepared_if shown (⟦<Session<'s, 'f, 't, F, T> as LineMachine>⟧.state self.old).asking name.now)) [] (⟦<Session<'s, 'f, 't, F, T> as LineMachine>⟧.state self.old) (⟦<Session<'s, 'f, 't, F, T> as LineMachine>⟧.state self.new) result }
-        ensures borrows { ⟦<Session<'s, 'f, 't, F, T> as LineMachine>⟧.borrows self.new ≡ ⟦<Session<'s, 'f, 't, F, T> as LineMachine>⟧.borrows self.old }
+        ensures comes { Comes (reply_asking (⟦<Self as LineMachine>⟧.state self.old)
+            (input_reply (⟦<Self as LineMachine>⟧.state self.old).policy.frontend shown)
+            (prepared_if shown (⟦<Self as LineMachine>⟧.state self.old).asking name.now)) [] (⟦<Self as LineMachine>⟧.state self.old)
+            (⟦<Self as LineMachine>⟧.state self.new) result }
+        ensures borrows { ⟦<Self as LineMachine>⟧.borrows self.new ≡ ⟦<Self as LineMachine>⟧.borrows self.old }
     {
         let told = prepared_told(self.alloc, self.policy.frontend, shown)?;
         if shown {
@@ -126,8 +131,8 @@ impl<'s, 'f, 't, F: Files, T: Link> Session<'s, 'f, 't, F, T> {
     }
 
     pub(crate) fn go(&mut self) -> Result<Stepped, StepError>
-        ensures does { DoesShowing command.Go (⟦<Session<'s, 'f, 't, F, T> as LineMachine>⟧.state self.old) (⟦<Session<'s, 'f, 't, F, T> as LineMachine>⟧.state self.new) result }
-        ensures borrows { ⟦<Session<'s, 'f, 't, F, T> as LineMachine>⟧.borrows self.new ≡ ⟦<Session<'s, 'f, 't, F, T> as LineMachine>⟧.borrows self.old }
+        ensures does { DoesShowing command.Go (⟦<Self as LineMachine>⟧.state self.old) (⟦<Self as LineMachine>⟧.state self.new) result }
+        ensures borrows { ⟦<Self as LineMachine>⟧.borrows self.new ≡ ⟦<Self as LineMachine>⟧.borrows self.old }
     {
         match self.policy.frontend {
             Frontend::Noninteractive => lifted(self.skip_prepared()),
@@ -138,8 +143,12 @@ impl<'s, 'f, 't, F: Files, T: Link> Session<'s, 'f, 't, F, T> {
     #[tactic(auto, using(dc_store::proofs::RowLemmas::same_all_refl))]
     // Sets the prepared questions to a choice that have to have one, where nobody is asked.
     fn skip_prepared(&mut self) -> Mem<Stepped>
-        ensures comes { ComesAsking (gone (⟦<Session<'s, 'f, 't, F, T> as LineMachine>⟧.state self.old) (values_set (⟦<Session<'s, 'f, 't, F, T> as LineMachine>⟧.state self.old).store (⟦<Session<'s, 'f, 't, F, T> as LineMachine>⟧.state self.old).at (choices_for_of (⟦<Session<'s, 'f, 't, F, T> as LineMachine>⟧.state self.old)))) (each (λ a. a.0) (choices_for_of (⟦<Session<'s, 'f, 't, F, T> as LineMachine>⟧.state self.old))) (⟦<Session<'s, 'f, 't, F, T> as LineMachine>⟧.state self.old) (⟦<Session<'s, 'f, 't, F, T> as LineMachine>⟧.state self.new) result }
-        ensures borrows { ⟦<Session<'s, 'f, 't, F, T> as LineMachine>⟧.borrows self.new ≡ ⟦<Session<'s, 'f, 't, F, T> as LineMachine>⟧.borrows self.old }
+        ensures comes { ComesAsking
+            (gone (⟦<Self as LineMachine>⟧.state self.old)
+            (values_set (⟦<Self as LineMachine>⟧.state self.old).store (⟦<Self as LineMachine>⟧.state self.old).at
+            (choices_for_of (⟦<Self as LineMachine>⟧.state self.old)))) (each (λ a. a.0) (choices_for_of (⟦<Self as LineMachine>⟧.state self.old)))
+            (⟦<Self as LineMachine>⟧.state self.old) (⟦<Self as LineMachine>⟧.state self.new) result }
+        ensures borrows { ⟦<Self as LineMachine>⟧.borrows self.new ≡ ⟦<Self as LineMachine>⟧.borrows self.old }
     {
         let prepared = self.asking.prepared.names()?;
         let askable = self.askable(prepared.as_slice())?;
@@ -157,7 +166,8 @@ impl<'s, 'f, 't, F: Files, T: Link> Session<'s, 'f, 't, F, T> {
 
     // Those of the questions that are there and have a kind.
     fn askable(&self, names: &[Name]) -> Mem<List<Name>>
-        ensures { IfOk result (λ askable. askable ≡ filter (λ name. is_some (kind_of (⟦<Session<'s, 'f, 't, F, T> as LineMachine>⟧.state self.now).store.layers (⟦<Session<'s, 'f, 't, F, T> as LineMachine>⟧.state self.now).at name)) names.now) }
+        ensures { IfOk result (λ askable. askable ≡ filter
+            (λ name. is_some (kind_of (⟦<Self as LineMachine>⟧.state self.now).store.layers (⟦<Self as LineMachine>⟧.state self.now).at name)) names.now) }
     {
         let mut askable = List::new(self.alloc);
         for name in names {
@@ -168,7 +178,8 @@ impl<'s, 'f, 't, F: Files, T: Link> Session<'s, 'f, 't, F, T> {
 
     // Adds the question, where it is there and has a kind.
     fn add_askable(&self, askable: &mut List<Name>, name: &Name) -> Mem<()>
-        ensures { OnOk result (askable.new ≡ askable.old ++ filter (λ n. is_some (kind_of (⟦<Session<'s, 'f, 't, F, T> as LineMachine>⟧.state self.now).store.layers (⟦<Session<'s, 'f, 't, F, T> as LineMachine>⟧.state self.now).at n)) (name.now ∷ [])) }
+        ensures { OnOk result (askable.new ≡ askable.old ++ filter
+            (λ n. is_some (kind_of (⟦<Self as LineMachine>⟧.state self.now).store.layers (⟦<Self as LineMachine>⟧.state self.now).at n)) (name.now ∷ [])) }
     {
         if self.desk.questions.kind(name).is_none() {
             return Ok(());
@@ -178,7 +189,8 @@ impl<'s, 'f, 't, F: Files, T: Link> Session<'s, 'f, 't, F, T> {
 
     // The choices that the questions are set to without a user, each behind its question.
     fn choices_for(&self, names: &[Name]) -> Mem<List<(Name, Text)>>
-        ensures { IfOk result (λ choices. choices ≡ filter_map (choice_for_of (⟦<Session<'s, 'f, 't, F, T> as LineMachine>⟧.state self.now).store.layers (⟦<Session<'s, 'f, 't, F, T> as LineMachine>⟧.state self.now).at) names.now) }
+        ensures { IfOk result (λ choices. choices ≡ filter_map
+            (choice_for_of (⟦<Self as LineMachine>⟧.state self.now).store.layers (⟦<Self as LineMachine>⟧.state self.now).at) names.now) }
     {
         let mut choices = List::new(self.alloc);
         for name in names {
@@ -189,7 +201,8 @@ impl<'s, 'f, 't, F: Files, T: Link> Session<'s, 'f, 't, F, T> {
 
     // Adds the choice that the question is set to without a user, if it is set to one.
     fn add_choice(&self, choices: &mut List<(Name, Text)>, name: &Name) -> Mem<()>
-        ensures { OnOk result (choices.new ≡ choices.old ++ cons_option (choice_for_of (⟦<Session<'s, 'f, 't, F, T> as LineMachine>⟧.state self.now).store.layers (⟦<Session<'s, 'f, 't, F, T> as LineMachine>⟧.state self.now).at name.now) []) }
+        ensures { OnOk result (choices.new ≡ choices.old ++ cons_option
+            (choice_for_of (⟦<Self as LineMachine>⟧.state self.now).store.layers (⟦<Self as LineMachine>⟧.state self.now).at name.now) []) }
     {
         match self.choice_for(name)? {
             None => Ok(()),
@@ -199,7 +212,8 @@ impl<'s, 'f, 't, F: Files, T: Link> Session<'s, 'f, 't, F, T> {
 
     // The choice that the question is set to without a user, if it is set to one.
     fn choice_for(&self, name: &Name) -> Mem<Option<Text>>
-        ensures { IfOk result (λ choice. option_map (λ c. (name.now, c)) choice ≡ choice_for_of (⟦<Session<'s, 'f, 't, F, T> as LineMachine>⟧.state self.now).store.layers (⟦<Session<'s, 'f, 't, F, T> as LineMachine>⟧.state self.now).at name.now) }
+        ensures { IfOk result (λ choice. option_map (λ c. (name.now, c)) choice ≡ choice_for_of (⟦<Self as LineMachine>⟧.state self.now).store.layers
+            (⟦<Self as LineMachine>⟧.state self.now).at name.now) }
     {
         let Some(kind) = self.desk.questions.kind(name) else {
             return Ok(None);
@@ -213,7 +227,8 @@ impl<'s, 'f, 't, F: Files, T: Link> Session<'s, 'f, 't, F, T> {
 
     // The question, of this kind, as it is shown.
     pub(crate) fn shown(&self, name: &Name, kind: Kind) -> Mem<Shown>
-        ensures { IfOk result (λ shown. shown ≡ shown_of (⟦<Session<'s, 'f, 't, F, T> as LineMachine>⟧.state self.now).store.layers (⟦<Session<'s, 'f, 't, F, T> as LineMachine>⟧.state self.now).at name.now kind) }
+        ensures { IfOk result (λ shown. shown ≡ shown_of (⟦<Self as LineMachine>⟧.state self.now).store.layers
+            (⟦<Self as LineMachine>⟧.state self.now).at name.now kind) }
     {
         let ChoicePair { plain, labels } = self.choices(name)?;
         let description = self.text(name, &FieldKey::known(self.alloc, b"description")?)?;
@@ -231,14 +246,17 @@ impl<'s, 'f, 't, F: Files, T: Link> Session<'s, 'f, 't, F, T> {
 
     // The value of the question.
     fn value(&self, name: &Name) -> Mem<Text>
-        ensures { IfOk result (λ text. text ≡ result_unwrap_or (value_of (⟦<Session<'s, 'f, 't, F, T> as LineMachine>⟧.state self.now).store.layers (⟦<Session<'s, 'f, 't, F, T> as LineMachine>⟧.state self.now).at name.now) []) }
+        ensures { IfOk result (λ text. text ≡ result_unwrap_or
+            (value_of (⟦<Self as LineMachine>⟧.state self.now).store.layers (⟦<Self as LineMachine>⟧.state self.now).at name.now) []) }
     {
         text_or_empty(self.alloc, self.desk.questions.value(name))
     }
 
     // The choices of the question, none where it has no template.
     fn choices(&self, name: &Name) -> Mem<ChoicePair>
-        ensures { IfOk result (λ pair. pair ≡ result_unwrap_or (choices_of (⟦<Session<'s, 'f, 't, F, T> as LineMachine>⟧.state self.now).store.layers (⟦<Session<'s, 'f, 't, F, T> as LineMachine>⟧.state self.now).at name.now) (record { plain = []; labels = [] })) }
+        ensures { IfOk result (λ pair. pair ≡ result_unwrap_or
+            (choices_of (⟦<Self as LineMachine>⟧.state self.now).store.layers (⟦<Self as LineMachine>⟧.state self.now).at name.now)
+            (record { plain = []; labels = [] })) }
     {
         match self.desk.questions.choices(name) {
             Ok(pair) => Ok(pair),
@@ -252,16 +270,28 @@ impl<'s, 'f, 't, F: Files, T: Link> Session<'s, 'f, 't, F, T> {
 
     // An expanded field of the question, empty where its template has none.
     fn text(&self, name: &Name, key: &FieldKey) -> Mem<Text>
-        ensures { IfOk result (λ text. text ≡ result_unwrap_or (expanded_field (⟦<Session<'s, 'f, 't, F, T> as LineMachine>⟧.state self.now).store.layers (⟦<Session<'s, 'f, 't, F, T> as LineMachine>⟧.state self.now).at name.now key.now) []) }
+        ensures { IfOk result (λ text. text ≡ result_unwrap_or
+            (expanded_field (⟦<Self as LineMachine>⟧.state self.now).store.layers (⟦<Self as LineMachine>⟧.state self.now).at name.now key.now) []) }
     {
         text_or_empty(self.alloc, self.desk.questions.expanded(name, key))
     }
 
     // Nothing is prepared any more, and the questions that were skipped are asked, where that is the manner.
     fn skip(&mut self, names: &[Name]) -> Mem<()>
-        ensures ok { OnOk result ((⟦<Session<'s, 'f, 't, F, T> as LineMachine>⟧.state self.new) ≡ record (⟦<Session<'s, 'f, 't, F, T> as LineMachine>⟧.state self.old) { asking = record (⟦<Session<'s, 'f, 't, F, T> as LineMachine>⟧.state self.old).asking { prepared = []; asked = if (⟦<Session<'s, 'f, 't, F, T> as LineMachine>⟧.state self.old).policy.nonint_seen then fold with_name (⟦<Session<'s, 'f, 't, F, T> as LineMachine>⟧.state self.old).asking.asked names.now else (⟦<Session<'s, 'f, 't, F, T> as LineMachine>⟧.state self.old).asking.asked } }) }
-        ensures err { OnErr result ((⟦<Session<'s, 'f, 't, F, T> as LineMachine>⟧.state self.new) ≡ record (⟦<Session<'s, 'f, 't, F, T> as LineMachine>⟧.state self.old) { asking = (⟦<Session<'s, 'f, 't, F, T> as LineMachine>⟧.state self.new).asking }) }
-        ensures borrows { ⟦<Session<'s, 'f, 't, F, T> as LineMachine>⟧.borrows self.new ≡ ⟦<Session<'s, 'f, 't, F, T> as LineMachine>⟧.borrows self.old }
+        ensures ok { OnOk result ((⟦<Self as LineMachine>⟧.state self.new) ≡ record
+            (⟦<Self as LineMachine>⟧.state self.old) {
+              asking = record
+                  (⟦<Self as LineMachine>⟧.state self.old).asking {
+                    prepared = [];
+                    asked = if
+                        (⟦<Self as LineMachine>⟧.state self.old).policy.nonint_seen then fold with_name
+                        (⟦<Self as LineMachine>⟧.state self.old).asking.asked names.now else (⟦<Self as LineMachine>⟧.state self.old).asking.asked;
+                  };
+            }) }
+        ensures err { OnErr result
+            ((⟦<Self as LineMachine>⟧.state self.new) ≡ record
+            (⟦<Self as LineMachine>⟧.state self.old) { asking = (⟦<Self as LineMachine>⟧.state self.new).asking }) }
+        ensures borrows { ⟦<Self as LineMachine>⟧.borrows self.new ≡ ⟦<Self as LineMachine>⟧.borrows self.old }
     {
         if self.policy.nonint_seen {
             add_all(&mut self.asking.asked, names)?;
@@ -271,8 +301,8 @@ impl<'s, 'f, 't, F: Files, T: Link> Session<'s, 'f, 't, F, T> {
     }
 
     pub(crate) fn clear(&mut self) -> Mem<Stepped>
-        ensures does { Does command.Clear (⟦<Session<'s, 'f, 't, F, T> as LineMachine>⟧.state self.old) (⟦<Session<'s, 'f, 't, F, T> as LineMachine>⟧.state self.new) result }
-        ensures borrows { ⟦<Session<'s, 'f, 't, F, T> as LineMachine>⟧.borrows self.new ≡ ⟦<Session<'s, 'f, 't, F, T> as LineMachine>⟧.borrows self.old }
+        ensures does { Does command.Clear (⟦<Self as LineMachine>⟧.state self.old) (⟦<Self as LineMachine>⟧.state self.new) result }
+        ensures borrows { ⟦<Self as LineMachine>⟧.borrows self.new ≡ ⟦<Self as LineMachine>⟧.borrows self.old }
     {
         let told = says(self.alloc, 0, b"")?;
         let prepared = &mut self.asking.prepared;

@@ -15,10 +15,12 @@ impl<'s, 'f, 't, F: Files, T: Link> Session<'s, 'f, 't, F, T> {
     /// Sets the flag `seen` on each question that was asked, in the order of first asking, where it is still there and the store takes
     /// the write (debconf-devel(7), FGET). Where memory runs out, some of them may have it.
     pub fn finish(&mut self) -> Mem<()>
-        ensures ok { OnOk result ((⟦<Session<'s, 'f, 't, F, T> as LineMachine>⟧.state self.new).store ≡ finished (⟦<Session<'s, 'f, 't, F, T> as LineMachine>⟧.state self.old)) }
-        ensures others { AreSameButAll (⟦<Session<'s, 'f, 't, F, T> as LineMachine>⟧.state self.old).asking.asked (⟦<Session<'s, 'f, 't, F, T> as LineMachine>⟧.state self.old).store.layers (⟦<Session<'s, 'f, 't, F, T> as LineMachine>⟧.state self.new).store.layers }
-        ensures kept { (⟦<Session<'s, 'f, 't, F, T> as LineMachine>⟧.state self.new) ≡ record (⟦<Session<'s, 'f, 't, F, T> as LineMachine>⟧.state self.old) { store = (⟦<Session<'s, 'f, 't, F, T> as LineMachine>⟧.state self.new).store } }
-        ensures borrows { ⟦<Session<'s, 'f, 't, F, T> as LineMachine>⟧.borrows self.new ≡ ⟦<Session<'s, 'f, 't, F, T> as LineMachine>⟧.borrows self.old }
+        ensures ok { OnOk result ((⟦<Self as LineMachine>⟧.state self.new).store ≡ finished (⟦<Self as LineMachine>⟧.state self.old)) }
+        ensures others { AreSameButAll (⟦<Self as LineMachine>⟧.state self.old).asking.asked (⟦<Self as LineMachine>⟧.state self.old).store.layers
+            (⟦<Self as LineMachine>⟧.state self.new).store.layers }
+        ensures kept { (⟦<Self as LineMachine>⟧.state self.new) ≡ record
+            (⟦<Self as LineMachine>⟧.state self.old) { store = (⟦<Self as LineMachine>⟧.state self.new).store } }
+        ensures borrows { ⟦<Self as LineMachine>⟧.borrows self.new ≡ ⟦<Self as LineMachine>⟧.borrows self.old }
     {
         let asked = self.asking.asked.names()?;
         for name in asked.as_slice() {
@@ -30,10 +32,12 @@ impl<'s, 'f, 't, F: Files, T: Link> Session<'s, 'f, 't, F, T> {
     #[tactic(auto, using(dc_store::proofs::Frames::same_layers))]
     // Sets the flag `seen` on the question, where it is there and the store takes the write.
     fn mark_seen(&mut self, name: &Name) -> Mem<()>
-        ensures ok { OnOk result ((⟦<Session<'s, 'f, 't, F, T> as LineMachine>⟧.state self.new).store ≡ with_seen (⟦<Session<'s, 'f, 't, F, T> as LineMachine>⟧.state self.old).at (⟦<Session<'s, 'f, 't, F, T> as LineMachine>⟧.state self.old).store name.now) }
-        ensures others { AreSameBut name.now (⟦<Session<'s, 'f, 't, F, T> as LineMachine>⟧.state self.old).store.layers (⟦<Session<'s, 'f, 't, F, T> as LineMachine>⟧.state self.new).store.layers }
-        ensures kept { (⟦<Session<'s, 'f, 't, F, T> as LineMachine>⟧.state self.new) ≡ record (⟦<Session<'s, 'f, 't, F, T> as LineMachine>⟧.state self.old) { store = (⟦<Session<'s, 'f, 't, F, T> as LineMachine>⟧.state self.new).store } }
-        ensures borrows { ⟦<Session<'s, 'f, 't, F, T> as LineMachine>⟧.borrows self.new ≡ ⟦<Session<'s, 'f, 't, F, T> as LineMachine>⟧.borrows self.old }
+        ensures ok { OnOk result ((⟦<Self as LineMachine>⟧.state self.new).store ≡ with_seen (⟦<Self as LineMachine>⟧.state self.old).at
+            (⟦<Self as LineMachine>⟧.state self.old).store name.now) }
+        ensures others { AreSameBut name.now (⟦<Self as LineMachine>⟧.state self.old).store.layers (⟦<Self as LineMachine>⟧.state self.new).store.layers }
+        ensures kept { (⟦<Self as LineMachine>⟧.state self.new) ≡ record
+            (⟦<Self as LineMachine>⟧.state self.old) { store = (⟦<Self as LineMachine>⟧.state self.new).store } }
+        ensures borrows { ⟦<Self as LineMachine>⟧.borrows self.new ≡ ⟦<Self as LineMachine>⟧.borrows self.old }
     {
         let flag = seen_flag(self.alloc)?;
         let desk = &mut self.desk;

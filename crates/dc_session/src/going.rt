@@ -28,9 +28,9 @@ use std::alloc::Global;
 impl<'s, 'f, 't, F: Files, T: Link> Session<'s, 'f, 't, F, T> {
     // Holds a dialogue over the prepared questions, unless the value of one can't be changed, and takes its answers.
     pub(crate) fn ask_prepared(&mut self) -> Result<Stepped, StepError>
-        requires asks { (⟦<Session<'s, 'f, 't, F, T> as LineMachine>⟧.state self.old).policy.frontend ≡ OfTeletype }
-        ensures does { DoesShowing command.Go (⟦<Session<'s, 'f, 't, F, T> as LineMachine>⟧.state self.old) (⟦<Session<'s, 'f, 't, F, T> as LineMachine>⟧.state self.new) result }
-        ensures borrows { ⟦<Session<'s, 'f, 't, F, T> as LineMachine>⟧.borrows self.new ≡ ⟦<Session<'s, 'f, 't, F, T> as LineMachine>⟧.borrows self.old }
+        requires asks { (⟦<Self as LineMachine>⟧.state self.old).policy.frontend ≡ OfTeletype }
+        ensures does { DoesShowing command.Go (⟦<Self as LineMachine>⟧.state self.old) (⟦<Self as LineMachine>⟧.state self.new) result }
+        ensures borrows { ⟦<Self as LineMachine>⟧.borrows self.new ≡ ⟦<Self as LineMachine>⟧.borrows self.old }
     {
         let prepared = self.asking.prepared.names()?;
         if let Some(name) = self.first_fixed(prepared.as_slice())? {
@@ -45,7 +45,8 @@ impl<'s, 'f, 't, F: Files, T: Link> Session<'s, 'f, 't, F, T> {
 
     // The first of the questions whose value can't be changed.
     fn first_fixed<'n>(&self, names: &'n [Name]) -> Mem<Option<&'n Name>>
-        ensures { IfOk result (λ name. option_copied name ≡ find (is_fixed_of (⟦<Session<'s, 'f, 't, F, T> as LineMachine>⟧.state self.now).store.layers (⟦<Session<'s, 'f, 't, F, T> as LineMachine>⟧.state self.now).at) names.now) }
+        ensures { IfOk result (λ name. option_copied name ≡ find
+            (is_fixed_of (⟦<Self as LineMachine>⟧.state self.now).store.layers (⟦<Self as LineMachine>⟧.state self.now).at) names.now) }
     {
         for name in names {
             let is = self.is_fixed(name)?;
@@ -58,7 +59,8 @@ impl<'s, 'f, 't, F: Files, T: Link> Session<'s, 'f, 't, F, T> {
 
     // Whether the question has a value that can't be changed.
     fn is_fixed(&self, name: &Name) -> Mem<bool>
-        ensures { IfOk result (λ is. is ≡ is_fixed_of (⟦<Session<'s, 'f, 't, F, T> as LineMachine>⟧.state self.now).store.layers (⟦<Session<'s, 'f, 't, F, T> as LineMachine>⟧.state self.now).at name.now) }
+        ensures { IfOk result (λ is. is ≡ is_fixed_of (⟦<Self as LineMachine>⟧.state self.now).store.layers
+            (⟦<Self as LineMachine>⟧.state self.now).at name.now) }
     {
         match self.desk.questions.kind(name) {
             Some(kind) if has_value(kind) => Ok(!self.desk.questions.can_change(name)?),
@@ -68,7 +70,9 @@ impl<'s, 'f, 't, F: Files, T: Link> Session<'s, 'f, 't, F, T> {
 
     // Those of the questions that are there and have a kind, as they are shown.
     fn to_show(&self, names: &[Name]) -> Mem<List<Shown>>
-        ensures { IfOk result (λ questions. questions ≡ filter_map (λ name. option_map (shown_of (⟦<Session<'s, 'f, 't, F, T> as LineMachine>⟧.state self.now).store.layers (⟦<Session<'s, 'f, 't, F, T> as LineMachine>⟧.state self.now).at name) (kind_of (⟦<Session<'s, 'f, 't, F, T> as LineMachine>⟧.state self.now).store.layers (⟦<Session<'s, 'f, 't, F, T> as LineMachine>⟧.state self.now).at name)) names.now) }
+        ensures { IfOk result (λ questions. questions ≡ filter_map
+            (λ name. option_map (shown_of (⟦<Self as LineMachine>⟧.state self.now).store.layers (⟦<Self as LineMachine>⟧.state self.now).at name)
+            (kind_of (⟦<Self as LineMachine>⟧.state self.now).store.layers (⟦<Self as LineMachine>⟧.state self.now).at name)) names.now) }
     {
         let mut questions = List::new(self.alloc);
         for name in names {
@@ -79,7 +83,9 @@ impl<'s, 'f, 't, F: Files, T: Link> Session<'s, 'f, 't, F, T> {
 
     // Adds the question, where it is there and has a kind.
     fn add_question(&self, questions: &mut List<Shown>, name: &Name) -> Mem<()>
-        ensures { OnOk result (questions.new ≡ questions.old ++ cons_option (option_map (shown_of (⟦<Session<'s, 'f, 't, F, T> as LineMachine>⟧.state self.now).store.layers (⟦<Session<'s, 'f, 't, F, T> as LineMachine>⟧.state self.now).at name.now) (kind_of (⟦<Session<'s, 'f, 't, F, T> as LineMachine>⟧.state self.now).store.layers (⟦<Session<'s, 'f, 't, F, T> as LineMachine>⟧.state self.now).at name.now)) []) }
+        ensures { OnOk result (questions.new ≡ questions.old ++ cons_option
+            (option_map (shown_of (⟦<Self as LineMachine>⟧.state self.now).store.layers (⟦<Self as LineMachine>⟧.state self.now).at name.now)
+            (kind_of (⟦<Self as LineMachine>⟧.state self.now).store.layers (⟦<Self as LineMachine>⟧.state self.now).at name.now)) []) }
     {
         match self.desk.questions.kind(name) {
             None => Ok(()),
@@ -89,8 +95,8 @@ impl<'s, 'f, 't, F: Files, T: Link> Session<'s, 'f, 't, F, T> {
 
     // Holds the dialogue, where there is a question.
     fn hold(&mut self, questions: &List<Shown>) -> Result<Asked, StepError>
-        ensures asks { Asks (dialogue questions.now) (⟦<Session<'s, 'f, 't, F, T> as LineMachine>⟧.state self.old) (⟦<Session<'s, 'f, 't, F, T> as LineMachine>⟧.state self.new) result }
-        ensures borrows { ⟦<Session<'s, 'f, 't, F, T> as LineMachine>⟧.borrows self.new ≡ ⟦<Session<'s, 'f, 't, F, T> as LineMachine>⟧.borrows self.old }
+        ensures asks { Asks (dialogue questions.now) (⟦<Self as LineMachine>⟧.state self.old) (⟦<Self as LineMachine>⟧.state self.new) result }
+        ensures borrows { ⟦<Self as LineMachine>⟧.borrows self.new ≡ ⟦<Self as LineMachine>⟧.borrows self.old }
     {
         if questions.as_slice().is_empty() {
             return Ok(Asked::Answers(List::new(self.alloc)));
@@ -104,8 +110,9 @@ impl<'s, 'f, 't, F: Files, T: Link> Session<'s, 'f, 't, F, T> {
     #[tactic(auto, using(dc_store::proofs::RowLemmas::same_all_refl))]
     // The user went back, and nothing is prepared any more.
     fn back_up(&mut self) -> Mem<Stepped>
-        ensures comes { Comes (heard_out (⟦<Session<'s, 'f, 't, F, T> as LineMachine>⟧.state self.old) Back) [] (⟦<Session<'s, 'f, 't, F, T> as LineMachine>⟧.state self.old) (⟦<Session<'s, 'f, 't, F, T> as LineMachine>⟧.state self.new) result }
-        ensures borrows { ⟦<Session<'s, 'f, 't, F, T> as LineMachine>⟧.borrows self.new ≡ ⟦<Session<'s, 'f, 't, F, T> as LineMachine>⟧.borrows self.old }
+        ensures comes { Comes (heard_out (⟦<Self as LineMachine>⟧.state self.old) Back) [] (⟦<Self as LineMachine>⟧.state self.old)
+            (⟦<Self as LineMachine>⟧.state self.new) result }
+        ensures borrows { ⟦<Self as LineMachine>⟧.borrows self.new ≡ ⟦<Self as LineMachine>⟧.borrows self.old }
     {
         let told = says(self.alloc, 30, b"backup")?;
         let prepared = &mut self.asking.prepared;
@@ -116,10 +123,12 @@ impl<'s, 'f, 't, F: Files, T: Link> Session<'s, 'f, 't, F, T> {
     #[tactic(auto, using(dc_store::proofs::RowLemmas::same_all_refl))]
     // Sets the questions that were shown to the values that they were given.
     fn take_answers(&mut self, questions: &List<Shown>, answers: &List<Answer>) -> Mem<Stepped>
-        requires shown { questions.now ≡ to_show_of (⟦<Session<'s, 'f, 't, F, T> as LineMachine>⟧.state self.old) }
+        requires shown { questions.now ≡ to_show_of (⟦<Self as LineMachine>⟧.state self.old) }
         requires distinct { AreDistinct (each (λ s. s.name) questions.now) }
-        ensures comes { ComesAsking (heard_out (⟦<Session<'s, 'f, 't, F, T> as LineMachine>⟧.state self.old) (Answers answers.now)) (each (λ a. a.0) (values_given_of questions.now answers.now)) (⟦<Session<'s, 'f, 't, F, T> as LineMachine>⟧.state self.old) (⟦<Session<'s, 'f, 't, F, T> as LineMachine>⟧.state self.new) result }
-        ensures borrows { ⟦<Session<'s, 'f, 't, F, T> as LineMachine>⟧.borrows self.new ≡ ⟦<Session<'s, 'f, 't, F, T> as LineMachine>⟧.borrows self.old }
+        ensures comes { ComesAsking (heard_out (⟦<Self as LineMachine>⟧.state self.old) (Answers answers.now))
+            (each (λ a. a.0) (values_given_of questions.now answers.now)) (⟦<Self as LineMachine>⟧.state self.old)
+            (⟦<Self as LineMachine>⟧.state self.new) result }
+        ensures borrows { ⟦<Self as LineMachine>⟧.borrows self.new ≡ ⟦<Self as LineMachine>⟧.borrows self.old }
     {
         let values = values_given(self.alloc, questions.as_slice(), answers.as_slice())?;
         let told = says(self.alloc, 0, b"ok")?;
@@ -135,9 +144,19 @@ impl<'s, 'f, 't, F: Files, T: Link> Session<'s, 'f, 't, F, T> {
 
     // Nothing is prepared any more, and the questions that were shown are asked.
     fn note_shown(&mut self, questions: &[Shown]) -> Mem<()>
-        ensures ok { OnOk result ((⟦<Session<'s, 'f, 't, F, T> as LineMachine>⟧.state self.new) ≡ record (⟦<Session<'s, 'f, 't, F, T> as LineMachine>⟧.state self.old) { asking = record (⟦<Session<'s, 'f, 't, F, T> as LineMachine>⟧.state self.old).asking { prepared = []; asked = fold with_name (⟦<Session<'s, 'f, 't, F, T> as LineMachine>⟧.state self.old).asking.asked (each (λ s. s.name) questions.now) } }) }
-        ensures err { OnErr result ((⟦<Session<'s, 'f, 't, F, T> as LineMachine>⟧.state self.new) ≡ record (⟦<Session<'s, 'f, 't, F, T> as LineMachine>⟧.state self.old) { asking = (⟦<Session<'s, 'f, 't, F, T> as LineMachine>⟧.state self.new).asking }) }
-        ensures borrows { ⟦<Session<'s, 'f, 't, F, T> as LineMachine>⟧.borrows self.new ≡ ⟦<Session<'s, 'f, 't, F, T> as LineMachine>⟧.borrows self.old }
+        ensures ok { OnOk result ((⟦<Self as LineMachine>⟧.state self.new) ≡ record
+            (⟦<Self as LineMachine>⟧.state self.old) {
+              asking = record
+                  (⟦<Self as LineMachine>⟧.state self.old).asking {
+                    prepared = [];
+                    asked = fold with_name
+                        (⟦<Self as LineMachine>⟧.state self.old).asking.asked (each (λ s. s.name) questions.now);
+                  };
+            }) }
+        ensures err { OnErr result
+            ((⟦<Self as LineMachine>⟧.state self.new) ≡ record
+            (⟦<Self as LineMachine>⟧.state self.old) { asking = (⟦<Self as LineMachine>⟧.state self.new).asking }) }
+        ensures borrows { ⟦<Self as LineMachine>⟧.borrows self.new ≡ ⟦<Self as LineMachine>⟧.borrows self.old }
     {
         add_shown(&mut self.asking.asked, questions)?;
         self.asking.prepared.clear();

@@ -38,69 +38,83 @@ ghost use Rattle.dc_session.specs.declared.stepped.Stepped.TheVariants.{Replied}
 pub fn refused_commands_change_nothing()
     ensures store { (old new : SessionState) (line : Line) (reply : Reply) → Steps old line (Replied reply) new → reply.code ≢ 0
         → (new.store ≡ old.store) × (new.at ≡ old.at) × (new.owner ≡ old.owner) × (new.policy ≡ old.policy) }
-    ensures asking { (old new : SessionState) (line : Line) (reply : Reply) → Steps old line (Replied reply) new → reply.code ≢ 0 → reply.code ≢ 30 → new.asking ≡ old.asking }
+    ensures asking { (old new : SessionState) (line : Line) (reply : Reply) → Steps old line (Replied reply) new → reply.code ≢ 0 → reply.code ≢ 30
+        → new.asking ≡ old.asking }
 {}
 
 /// A command changes at most the items that its writes are on, in whichever layers they stand.
 pub fn other_items_stay()
-    ensures { (old new : SessionState) (command : Command) (stepped : Stepped) → (done : HasDone command old stepped new) → AreSameButAll (names_on old command done.given) old.store.layers new.store.layers }
+    ensures { (old new : SessionState) (command : Command) (stepped : Stepped) → (done : HasDone command old stepped new) → AreSameButAll
+        (names_on old command done.given) old.store.layers new.store.layers }
 {}
 
 /// Where the files tell of the disk and of the calls on them, the lines and the files determine what a session says and leaves that asks
 /// nobody.
 pub fn lines_and_files_determine_the_course()
-    ensures { (start : SessionState) (disk : Disk) (calls : List FilesCall) (a b : List (Transition SessionState)) → start.files.told ≡ record { disk = Some disk; calls = Some calls } → start.policy.frontend ≡ Noninteractive
-        → IsExecution Handles start a → IsExecution Handles start b → lines_of a ≡ lines_of b → each (λ transition. transition.new.files) a ≡ each (λ transition. transition.new.files) b → a ≡ b }
+    ensures { (start : SessionState) (disk : Disk) (calls : List FilesCall) (a b : List (Transition SessionState)) → start.files.view ≡
+        record { disk = Some disk; calls = Some calls } → start.policy.frontend ≡ Noninteractive
+        → IsExecution Handles start a → IsExecution Handles start b → lines_of a ≡ lines_of b → each (λ transition. transition.new.files) a ≡ each
+        (λ transition. transition.new.files) b → a ≡ b }
 {}
 
 /// Where the files tell of the disk and of the calls on them, and the terminal of its talk and its input, the lines, the files and what is
 /// typed determine what a session says and leaves, in any manner of asking and in whatever pieces what is typed comes: the replies, the store
 /// and what is asked for, what is said on the terminal, and what is left of what is typed.
 pub fn lines_files_and_answers_determine_the_course()
-    ensures { (start other : SessionState) (disk : Disk) (calls : List FilesCall) (a b : List (Transition SessionState)) → start.files.told ≡ record { disk = Some disk; calls = Some calls } → AreAlike start other
-        → IsExecution Handles start a → IsExecution Handles other b → lines_of a ≡ lines_of b → each (λ transition. transition.new.files) a ≡ each (λ transition. transition.new.files) b → AreTransitionsAlike a b }
+    ensures { (start other : SessionState) (disk : Disk) (calls : List FilesCall) (a b : List (Transition SessionState)) → start.files.view ≡
+        record { disk = Some disk; calls = Some calls } → AreAlike start other
+        → IsExecution Handles start a → IsExecution Handles other b → lines_of a ≡ lines_of b → each (λ transition. transition.new.files) a ≡ each
+        (λ transition. transition.new.files) b → AreTransitionsAlike a b }
 {}
 
 /// Two runs over links of which the same bytes are to come, that both come to the end, say the same and leave what is alike, however the
 /// links cut their bytes and the terminals what is typed, from sessions that are alike, where the files are the same turn by turn. So the
 /// bytes of the link, the files and what is typed determine the replies and the store.
 pub fn bytes_files_and_answers_determine_the_run()
-    ensures { (start other new last : SessionState) (disk : Disk) (calls : List FilesCall) (input : List ℕ) (talk new_talk told new_told : Option (List Piece)) (left rest : Option (List ℕ)) (code number : ℕ)
-        → start.files.told ≡ record { disk = Some disk; calls = Some calls } → AreAlike start other
-        → (one : IsLinkRun Handles Aborts talk new_talk (Some input) left start Done new code) → (two : IsLinkRun Handles Aborts told new_told (Some input) rest other Done last number)
+    ensures { (start other new last : SessionState) (disk : Disk) (calls : List FilesCall) (input : List ℕ)
+        (talk new_talk told new_told : Option (List Piece)) (left rest : Option (List ℕ)) (code number : ℕ)
+        → start.files.view ≡ record { disk = Some disk; calls = Some calls } → AreAlike start other
+        → (one : IsLinkRun Handles Aborts talk new_talk (Some input) left start Done new code) →
+        (two : IsLinkRun Handles Aborts told new_told (Some input) rest other Done last number)
         → AreFilesAlike one.transitions two.transitions → EndAlike one.pieces two.pieces code number new last }
 {}
 
 /// Where a user is asked, and no prepared question has a value that can't be changed, GO does what the user answers: all questions that were
 /// shown are set to the values that they were given, or the user went back. The reply is `0 ok` or `30 backup`.
 pub fn given_answers_are_taken()
-    ensures { (old new : SessionState) (did : Stepped) → old.policy.frontend ≡ Teletype → first_fixed old ≡ None → (done : HasDone Go old did new) → Takes old done.given.asked did new }
+    ensures { (old new : SessionState) (did : Stepped) → old.policy.frontend ≡ Teletype → first_fixed old ≡ None → (done : HasDone Go old did new)
+        → Takes old done.given.asked did new }
 {}
 
 /// A run in which a line has come that has a reply, and the next piece is a read, whether more came or it failed, isn't in
 /// step: the line is answered first.
 pub fn lines_are_answered_first()
-    ensures { (start : SessionState) (transitions : List (Transition SessionState)) (bytes : List ℕ) (line : Line) (piece : Piece) → IsExecution Handles start transitions → whole_lines bytes ≡ line ∷ []
+    ensures { (start : SessionState) (transitions : List (Transition SessionState)) (bytes : List ℕ) (line : Line) (piece : Piece)
+        → IsExecution Handles start transitions → whole_lines bytes ≡ line ∷ []
         → ((did : Response) (new : SessionState) → Handles start line did new → (code : ℕ) × (text : List ℕ) × (did ≡ heeded.Replied code text))
         → IsRead piece → AnswersBeforeReads transitions (Got bytes ∷ piece ∷ []) → ⊥ }
 {}
 
 /// A session leaves the disk as it was: it only reads files.
 pub fn reads_leave_the_disk()
-    ensures { (start : SessionState) (transitions : List (Transition SessionState)) → IsExecution Handles start transitions → (state_after start transitions).files.told.disk ≡ start.files.told.disk }
+    ensures { (start : SessionState) (transitions : List (Transition SessionState)) → IsExecution Handles start transitions →
+        (state_after start transitions).files.view.disk ≡ start.files.view.disk }
 {}
 
 /// `read fault` is told exactly where the files' count of faults rose in that command's read, and at every other reply their counts stay.
 pub fn read_faults_are_counted()
-    ensures told { (command : Command) (old new : SessionState) (reply : Reply) → HasDone command old (Replied reply) new → reply.code ≡ 100 → FaultRose old.files.counts new.files.counts }
-    ensures stays { (command : Command) (old new : SessionState) (reply : Reply) → HasDone command old (Replied reply) new → reply.code ≢ 100 → new.files.counts ≡ old.files.counts }
+    ensures told { (command : Command) (old new : SessionState) (reply : Reply) → HasDone command old (Replied reply) new → reply.code ≡ 100
+        → FaultRose old.files.counts new.files.counts }
+    ensures stays { (command : Command) (old new : SessionState) (reply : Reply) → HasDone command old (Replied reply) new → reply.code ≢ 100
+        → new.files.counts ≡ old.files.counts }
 {}
 
 /// A session that comes to nothing at a line for a fault of its terminal counted one there, and at a line that is answered the terminal counts
 /// nothing. One that asks nobody meets no such fault.
 pub fn terminal_faults_are_counted()
     ensures failed { (old new : SessionState) (line : Line) → Aborts old line Term new → FaultRose old.terminal.link.counts new.terminal.link.counts }
-    ensures stays { (start : SessionState) (transitions : List (Transition SessionState)) → IsExecution Handles start transitions → (state_after start transitions).terminal.link.counts ≡ start.terminal.link.counts }
+    ensures stays { (start : SessionState) (transitions : List (Transition SessionState)) → IsExecution Handles start transitions →
+        (state_after start transitions).terminal.link.counts ≡ start.terminal.link.counts }
     ensures nobody { (old new : SessionState) (line : Line) → old.policy.frontend ≡ Noninteractive → Aborts old line Term new → ⊥ }
 {}
 
@@ -108,7 +122,8 @@ pub fn terminal_faults_are_counted()
 /// put back. Values are settled, so that a pair of a backslash and an n in it is a newline. The plan of questions has no backup here.
 pub fn escaped_values_come_back()
     ensures heard { (question text : List ℕ) → question ≢ [] → text ≢ [] → heard true (set_line question text) ≡ Known (Set question text) }
-    ensures told { (old mid : SessionState) (question text : List ℕ) (reply : Reply) → old.at.config.backup ≡ None → HasDone (Set question text) old (Replied reply) mid → reply.code ≡ 0
+    ensures told { (old mid : SessionState) (question text : List ℕ) (reply : Reply) → old.at.config.backup ≡ None → HasDone (Set question text) old
+        (Replied reply) mid → reply.code ≡ 0
         → (answer mid (Get question) nothing).stepped ≡ Replied (text_reply mid (settled text)) }
     ensures sent { (text : List ℕ) → unescaped (escaped text) ≡ text }
 {}

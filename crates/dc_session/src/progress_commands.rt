@@ -29,8 +29,9 @@ impl<'s, 'f, 't, F: Files, T: Link> Session<'s, 'f, 't, F, T> {
         max: u32,
         word: &Text,
     ) -> Result<Stepped, StepError>
-        ensures does { DoesShowing (command.ProgressStart min max word.now) (⟦<Session<'s, 'f, 't, F, T> as LineMachine>⟧.state self.old) (⟦<Session<'s, 'f, 't, F, T> as LineMachine>⟧.state self.new) result }
-        ensures borrows { ⟦<Session<'s, 'f, 't, F, T> as LineMachine>⟧.borrows self.new ≡ ⟦<Session<'s, 'f, 't, F, T> as LineMachine>⟧.borrows self.old }
+        ensures does { DoesShowing (command.ProgressStart min max word.now) (⟦<Self as LineMachine>⟧.state self.old)
+            (⟦<Self as LineMachine>⟧.state self.new) result }
+        ensures borrows { ⟦<Self as LineMachine>⟧.borrows self.new ≡ ⟦<Self as LineMachine>⟧.borrows self.old }
     {
         let Some(name) = named(self.alloc, word)? else {
             return lifted(missing(self.alloc, word.bytes()));
@@ -47,8 +48,8 @@ impl<'s, 'f, 't, F: Files, T: Link> Session<'s, 'f, 't, F, T> {
     }
 
     pub(crate) fn progress_set(&mut self, number: u32) -> Result<Stepped, StepError>
-        ensures does { DoesShowing (command.ProgressSet number) (⟦<Session<'s, 'f, 't, F, T> as LineMachine>⟧.state self.old) (⟦<Session<'s, 'f, 't, F, T> as LineMachine>⟧.state self.new) result }
-        ensures borrows { ⟦<Session<'s, 'f, 't, F, T> as LineMachine>⟧.borrows self.new ≡ ⟦<Session<'s, 'f, 't, F, T> as LineMachine>⟧.borrows self.old }
+        ensures does { DoesShowing (command.ProgressSet number) (⟦<Self as LineMachine>⟧.state self.old) (⟦<Self as LineMachine>⟧.state self.new) result }
+        ensures borrows { ⟦<Self as LineMachine>⟧.borrows self.new ≡ ⟦<Self as LineMachine>⟧.borrows self.old }
     {
         match self.asking.bar {
             None => lifted(says(self.alloc, 10, NO_BAR)),
@@ -61,8 +62,8 @@ impl<'s, 'f, 't, F: Files, T: Link> Session<'s, 'f, 't, F, T> {
     }
 
     pub(crate) fn progress_step(&mut self, number: u32) -> Result<Stepped, StepError>
-        ensures does { DoesShowing (command.ProgressStep number) (⟦<Session<'s, 'f, 't, F, T> as LineMachine>⟧.state self.old) (⟦<Session<'s, 'f, 't, F, T> as LineMachine>⟧.state self.new) result }
-        ensures borrows { ⟦<Session<'s, 'f, 't, F, T> as LineMachine>⟧.borrows self.new ≡ ⟦<Session<'s, 'f, 't, F, T> as LineMachine>⟧.borrows self.old }
+        ensures does { DoesShowing (command.ProgressStep number) (⟦<Self as LineMachine>⟧.state self.old) (⟦<Self as LineMachine>⟧.state self.new) result }
+        ensures borrows { ⟦<Self as LineMachine>⟧.borrows self.new ≡ ⟦<Self as LineMachine>⟧.borrows self.old }
     {
         match self.asking.bar {
             None => lifted(says(self.alloc, 10, NO_BAR)),
@@ -75,8 +76,8 @@ impl<'s, 'f, 't, F: Files, T: Link> Session<'s, 'f, 't, F, T> {
     }
 
     pub(crate) fn progress_info(&mut self, word: &Text) -> Result<Stepped, StepError>
-        ensures does { DoesShowing (command.ProgressInfo word.now) (⟦<Session<'s, 'f, 't, F, T> as LineMachine>⟧.state self.old) (⟦<Session<'s, 'f, 't, F, T> as LineMachine>⟧.state self.new) result }
-        ensures borrows { ⟦<Session<'s, 'f, 't, F, T> as LineMachine>⟧.borrows self.new ≡ ⟦<Session<'s, 'f, 't, F, T> as LineMachine>⟧.borrows self.old }
+        ensures does { DoesShowing (command.ProgressInfo word.now) (⟦<Self as LineMachine>⟧.state self.old) (⟦<Self as LineMachine>⟧.state self.new) result }
+        ensures borrows { ⟦<Self as LineMachine>⟧.borrows self.new ≡ ⟦<Self as LineMachine>⟧.borrows self.old }
     {
         if self.asking.bar.is_none() {
             return lifted(says(self.alloc, 10, NO_BAR));
@@ -92,8 +93,8 @@ impl<'s, 'f, 't, F: Files, T: Link> Session<'s, 'f, 't, F, T> {
     }
 
     pub(crate) fn progress_stop(&mut self) -> Mem<Stepped>
-        ensures does { Does command.ProgressStop (⟦<Session<'s, 'f, 't, F, T> as LineMachine>⟧.state self.old) (⟦<Session<'s, 'f, 't, F, T> as LineMachine>⟧.state self.new) result }
-        ensures borrows { ⟦<Session<'s, 'f, 't, F, T> as LineMachine>⟧.borrows self.new ≡ ⟦<Session<'s, 'f, 't, F, T> as LineMachine>⟧.borrows self.old }
+        ensures does { Does command.ProgressStop (⟦<Self as LineMachine>⟧.state self.old) (⟦<Self as LineMachine>⟧.state self.new) result }
+        ensures borrows { ⟦<Self as LineMachine>⟧.borrows self.new ≡ ⟦<Self as LineMachine>⟧.borrows self.old }
     {
         match self.asking.bar {
             None => says(self.alloc, 10, NO_BAR),
@@ -103,8 +104,11 @@ impl<'s, 'f, 't, F: Files, T: Link> Session<'s, 'f, 't, F, T> {
 
     // Tells the user what the question is about, where one is asked.
     fn tell_description(&mut self, name: &Name) -> Result<(), StepError>
-        ensures tells { TellsUser (where_asked (⟦<Session<'s, 'f, 't, F, T> as LineMachine>⟧.state self.old).policy.frontend (line_read (description_of (⟦<Session<'s, 'f, 't, F, T> as LineMachine>⟧.state self.old).store.layers (⟦<Session<'s, 'f, 't, F, T> as LineMachine>⟧.state self.old).at name.now))) (⟦<Session<'s, 'f, 't, F, T> as LineMachine>⟧.state self.old) (⟦<Session<'s, 'f, 't, F, T> as LineMachine>⟧.state self.new) result }
-        ensures borrows { ⟦<Session<'s, 'f, 't, F, T> as LineMachine>⟧.borrows self.new ≡ ⟦<Session<'s, 'f, 't, F, T> as LineMachine>⟧.borrows self.old }
+        ensures tells { TellsUser
+            (where_asked (⟦<Self as LineMachine>⟧.state self.old).policy.frontend
+            (line_read (description_of (⟦<Self as LineMachine>⟧.state self.old).store.layers (⟦<Self as LineMachine>⟧.state self.old).at name.now)))
+            (⟦<Self as LineMachine>⟧.state self.old) (⟦<Self as LineMachine>⟧.state self.new) result }
+        ensures borrows { ⟦<Self as LineMachine>⟧.borrows self.new ≡ ⟦<Self as LineMachine>⟧.borrows self.old }
     {
         match self.policy.frontend {
             Frontend::Noninteractive => Ok(()),
@@ -118,8 +122,9 @@ impl<'s, 'f, 't, F: Files, T: Link> Session<'s, 'f, 't, F, T> {
 
     // Tells the user how far the bar is, where one is asked.
     fn tell_percent(&mut self, bar: Bar) -> Result<(), StepError>
-        ensures tells { TellsUser (where_asked (⟦<Session<'s, 'f, 't, F, T> as LineMachine>⟧.state self.old).policy.frontend (percent_line bar)) (⟦<Session<'s, 'f, 't, F, T> as LineMachine>⟧.state self.old) (⟦<Session<'s, 'f, 't, F, T> as LineMachine>⟧.state self.new) result }
-        ensures borrows { ⟦<Session<'s, 'f, 't, F, T> as LineMachine>⟧.borrows self.new ≡ ⟦<Session<'s, 'f, 't, F, T> as LineMachine>⟧.borrows self.old }
+        ensures tells { TellsUser (where_asked (⟦<Self as LineMachine>⟧.state self.old).policy.frontend (percent_line bar))
+            (⟦<Self as LineMachine>⟧.state self.old) (⟦<Self as LineMachine>⟧.state self.new) result }
+        ensures borrows { ⟦<Self as LineMachine>⟧.borrows self.new ≡ ⟦<Self as LineMachine>⟧.borrows self.old }
     {
         match self.policy.frontend {
             Frontend::Noninteractive => Ok(()),
@@ -132,8 +137,8 @@ impl<'s, 'f, 't, F: Files, T: Link> Session<'s, 'f, 't, F, T> {
 
     // Writes a line on the terminal.
     fn tell_line(&mut self, line: &Text) -> Result<(), StepError>
-        ensures tells { TellsUser (OneLine line.now) (⟦<Session<'s, 'f, 't, F, T> as LineMachine>⟧.state self.old) (⟦<Session<'s, 'f, 't, F, T> as LineMachine>⟧.state self.new) result }
-        ensures borrows { ⟦<Session<'s, 'f, 't, F, T> as LineMachine>⟧.borrows self.new ≡ ⟦<Session<'s, 'f, 't, F, T> as LineMachine>⟧.borrows self.old }
+        ensures tells { TellsUser (OneLine line.now) (⟦<Self as LineMachine>⟧.state self.old) (⟦<Self as LineMachine>⟧.state self.new) result }
+        ensures borrows { ⟦<Self as LineMachine>⟧.borrows self.new ≡ ⟦<Self as LineMachine>⟧.borrows self.old }
     {
         match tell_on(self.terminal, self.teletype, line) {
             Ok(()) => Ok(()),
@@ -144,8 +149,10 @@ impl<'s, 'f, 't, F: Files, T: Link> Session<'s, 'f, 't, F, T> {
     #[tactic(auto, using(dc_store::proofs::RowLemmas::same_all_refl))]
     // This is the bar.
     fn put_bar(&mut self, bar: Option<Bar>) -> Mem<Stepped>
-        ensures comes { Comes (reply_asking (⟦<Session<'s, 'f, 't, F, T> as LineMachine>⟧.state self.old) (reply 0 (codes "OK")) (with_bar (⟦<Session<'s, 'f, 't, F, T> as LineMachine>⟧.state self.old).asking bar)) [] (⟦<Session<'s, 'f, 't, F, T> as LineMachine>⟧.state self.old) (⟦<Session<'s, 'f, 't, F, T> as LineMachine>⟧.state self.new) result }
-        ensures borrows { ⟦<Session<'s, 'f, 't, F, T> as LineMachine>⟧.borrows self.new ≡ ⟦<Session<'s, 'f, 't, F, T> as LineMachine>⟧.borrows self.old }
+        ensures comes { Comes (reply_asking (⟦<Self as LineMachine>⟧.state self.old) (reply 0 (codes "OK"))
+            (with_bar (⟦<Self as LineMachine>⟧.state self.old).asking bar)) [] (⟦<Self as LineMachine>⟧.state self.old)
+            (⟦<Self as LineMachine>⟧.state self.new) result }
+        ensures borrows { ⟦<Self as LineMachine>⟧.borrows self.new ≡ ⟦<Self as LineMachine>⟧.borrows self.old }
     {
         let told = says(self.alloc, 0, b"OK")?;
         self.asking.bar = bar;

@@ -22,7 +22,7 @@ use dc_text::{FieldKey, FlagName, List, Mem, Name, NameRefused, OutOfMemory, Tex
 
 impl<'s, 'f, 't, F: Files, T: Link> Session<'s, 'f, 't, F, T> {
     pub(crate) fn get(&self, word: &Text) -> Mem<Stepped>
-        ensures { Does (command.Get word.now) (⟦<Session<'s, 'f, 't, F, T> as LineMachine>⟧.state self.now) (⟦<Session<'s, 'f, 't, F, T> as LineMachine>⟧.state self.now) result }
+        ensures { Does (command.Get word.now) (⟦<Self as LineMachine>⟧.state self.now) (⟦<Self as LineMachine>⟧.state self.now) result }
     {
         let Some(name) = named(self.alloc, word)? else {
             return missing(self.alloc, word.bytes());
@@ -36,7 +36,7 @@ impl<'s, 'f, 't, F: Files, T: Link> Session<'s, 'f, 't, F, T> {
     }
 
     pub(crate) fn fget(&self, word: &Text, flag: &FlagName) -> Mem<Stepped>
-        ensures { Does (command.Fget word.now flag.now) (⟦<Session<'s, 'f, 't, F, T> as LineMachine>⟧.state self.now) (⟦<Session<'s, 'f, 't, F, T> as LineMachine>⟧.state self.now) result }
+        ensures { Does (command.Fget word.now flag.now) (⟦<Self as LineMachine>⟧.state self.now) (⟦<Self as LineMachine>⟧.state self.now) result }
     {
         let Some(name) = named(self.alloc, word)? else {
             return missing(self.alloc, word.bytes());
@@ -45,7 +45,7 @@ impl<'s, 'f, 't, F: Files, T: Link> Session<'s, 'f, 't, F, T> {
     }
 
     pub(crate) fn metaget(&self, word: &Text, field: &Text) -> Mem<Stepped>
-        ensures { Does (command.Metaget word.now field.now) (⟦<Session<'s, 'f, 't, F, T> as LineMachine>⟧.state self.now) (⟦<Session<'s, 'f, 't, F, T> as LineMachine>⟧.state self.now) result }
+        ensures { Does (command.Metaget word.now field.now) (⟦<Self as LineMachine>⟧.state self.now) (⟦<Self as LineMachine>⟧.state self.now) result }
     {
         let Some(name) = named(self.alloc, word)? else {
             return missing(self.alloc, word.bytes());
@@ -55,7 +55,7 @@ impl<'s, 'f, 't, F: Files, T: Link> Session<'s, 'f, 't, F, T> {
 
     // A field of the question's template. The refusal of one that is none comes after those of the question and of its template.
     fn field(&self, name: &Name, field: &Text) -> Mem<Stepped>
-        ensures { ReadsField (⟦<Session<'s, 'f, 't, F, T> as LineMachine>⟧.state self.now) field.now name.now result }
+        ensures { ReadsField (⟦<Self as LineMachine>⟧.state self.now) field.now name.now result }
     {
         match FieldKey::read(self.alloc, field.bytes()) {
             Ok(key) => tell(
@@ -77,8 +77,8 @@ impl<'s, 'f, 't, F: Files, T: Link> Session<'s, 'f, 't, F, T> {
     }
 
     pub(crate) fn set(&mut self, word: &Text, value: &Text) -> Mem<Stepped>
-        ensures does { Does (command.Set word.now value.now) (⟦<Session<'s, 'f, 't, F, T> as LineMachine>⟧.state self.old) (⟦<Session<'s, 'f, 't, F, T> as LineMachine>⟧.state self.new) result }
-        ensures borrows { ⟦<Session<'s, 'f, 't, F, T> as LineMachine>⟧.borrows self.new ≡ ⟦<Session<'s, 'f, 't, F, T> as LineMachine>⟧.borrows self.old }
+        ensures does { Does (command.Set word.now value.now) (⟦<Self as LineMachine>⟧.state self.old) (⟦<Self as LineMachine>⟧.state self.new) result }
+        ensures borrows { ⟦<Self as LineMachine>⟧.borrows self.new ≡ ⟦<Self as LineMachine>⟧.borrows self.old }
     {
         let Some(name) = named(self.alloc, word)? else {
             return missing(self.alloc, word.bytes());
@@ -89,8 +89,8 @@ impl<'s, 'f, 't, F: Files, T: Link> Session<'s, 'f, 't, F, T> {
     }
 
     pub(crate) fn reset(&mut self, word: &Text) -> Mem<Stepped>
-        ensures does { Does (command.Reset word.now) (⟦<Session<'s, 'f, 't, F, T> as LineMachine>⟧.state self.old) (⟦<Session<'s, 'f, 't, F, T> as LineMachine>⟧.state self.new) result }
-        ensures borrows { ⟦<Session<'s, 'f, 't, F, T> as LineMachine>⟧.borrows self.new ≡ ⟦<Session<'s, 'f, 't, F, T> as LineMachine>⟧.borrows self.old }
+        ensures does { Does (command.Reset word.now) (⟦<Self as LineMachine>⟧.state self.old) (⟦<Self as LineMachine>⟧.state self.new) result }
+        ensures borrows { ⟦<Self as LineMachine>⟧.borrows self.new ≡ ⟦<Self as LineMachine>⟧.borrows self.old }
     {
         let Some(name) = named(self.alloc, word)? else {
             return missing(self.alloc, word.bytes());
@@ -101,8 +101,9 @@ impl<'s, 'f, 't, F: Files, T: Link> Session<'s, 'f, 't, F, T> {
     }
 
     pub(crate) fn subst(&mut self, word: &Text, key: &VarKey, value: &Text) -> Mem<Stepped>
-        ensures does { Does (command.Subst word.now key.now value.now) (⟦<Session<'s, 'f, 't, F, T> as LineMachine>⟧.state self.old) (⟦<Session<'s, 'f, 't, F, T> as LineMachine>⟧.state self.new) result }
-        ensures borrows { ⟦<Session<'s, 'f, 't, F, T> as LineMachine>⟧.borrows self.new ≡ ⟦<Session<'s, 'f, 't, F, T> as LineMachine>⟧.borrows self.old }
+        ensures does { Does (command.Subst word.now key.now value.now) (⟦<Self as LineMachine>⟧.state self.old)
+            (⟦<Self as LineMachine>⟧.state self.new) result }
+        ensures borrows { ⟦<Self as LineMachine>⟧.borrows self.new ≡ ⟦<Self as LineMachine>⟧.borrows self.old }
     {
         let Some(name) = named(self.alloc, word)? else {
             return missing(self.alloc, word.bytes());
@@ -113,8 +114,9 @@ impl<'s, 'f, 't, F: Files, T: Link> Session<'s, 'f, 't, F, T> {
     }
 
     pub(crate) fn fset(&mut self, word: &Text, flag: &FlagName, value: &Text) -> Mem<Stepped>
-        ensures does { Does (command.Fset word.now flag.now value.now) (⟦<Session<'s, 'f, 't, F, T> as LineMachine>⟧.state self.old) (⟦<Session<'s, 'f, 't, F, T> as LineMachine>⟧.state self.new) result }
-        ensures borrows { ⟦<Session<'s, 'f, 't, F, T> as LineMachine>⟧.borrows self.new ≡ ⟦<Session<'s, 'f, 't, F, T> as LineMachine>⟧.borrows self.old }
+        ensures does { Does (command.Fset word.now flag.now value.now) (⟦<Self as LineMachine>⟧.state self.old)
+            (⟦<Self as LineMachine>⟧.state self.new) result }
+        ensures borrows { ⟦<Self as LineMachine>⟧.borrows self.new ≡ ⟦<Self as LineMachine>⟧.borrows self.old }
     {
         let Some(name) = named(self.alloc, word)? else {
             return missing(self.alloc, word.bytes());
@@ -129,8 +131,8 @@ impl<'s, 'f, 't, F: Files, T: Link> Session<'s, 'f, 't, F, T> {
     }
 
     pub(crate) fn register(&mut self, template: &Text, name: &Name) -> Mem<Stepped>
-        ensures does { Does (command.Register template.now name.now) (⟦<Session<'s, 'f, 't, F, T> as LineMachine>⟧.state self.old) (⟦<Session<'s, 'f, 't, F, T> as LineMachine>⟧.state self.new) result }
-        ensures borrows { ⟦<Session<'s, 'f, 't, F, T> as LineMachine>⟧.borrows self.new ≡ ⟦<Session<'s, 'f, 't, F, T> as LineMachine>⟧.borrows self.old }
+        ensures does { Does (command.Register template.now name.now) (⟦<Self as LineMachine>⟧.state self.old) (⟦<Self as LineMachine>⟧.state self.new) result }
+        ensures borrows { ⟦<Self as LineMachine>⟧.borrows self.new ≡ ⟦<Self as LineMachine>⟧.borrows self.old }
     {
         let desk = &mut self.desk;
         let done = desk.questions.register(template.bytes(), name, desk.owner);
@@ -138,8 +140,8 @@ impl<'s, 'f, 't, F: Files, T: Link> Session<'s, 'f, 't, F, T> {
     }
 
     pub(crate) fn unregister(&mut self, word: &Text) -> Mem<Stepped>
-        ensures does { Does (command.Unregister word.now) (⟦<Session<'s, 'f, 't, F, T> as LineMachine>⟧.state self.old) (⟦<Session<'s, 'f, 't, F, T> as LineMachine>⟧.state self.new) result }
-        ensures borrows { ⟦<Session<'s, 'f, 't, F, T> as LineMachine>⟧.borrows self.new ≡ ⟦<Session<'s, 'f, 't, F, T> as LineMachine>⟧.borrows self.old }
+        ensures does { Does (command.Unregister word.now) (⟦<Self as LineMachine>⟧.state self.old) (⟦<Self as LineMachine>⟧.state self.new) result }
+        ensures borrows { ⟦<Self as LineMachine>⟧.borrows self.new ≡ ⟦<Self as LineMachine>⟧.borrows self.old }
     {
         let Some(name) = named(self.alloc, word)? else {
             return missing(self.alloc, word.bytes());
@@ -156,8 +158,8 @@ impl<'s, 'f, 't, F: Files, T: Link> Session<'s, 'f, 't, F, T> {
     }
 
     pub(crate) fn purge(&mut self) -> Mem<Stepped>
-        ensures does { Does command.Purge (⟦<Session<'s, 'f, 't, F, T> as LineMachine>⟧.state self.old) (⟦<Session<'s, 'f, 't, F, T> as LineMachine>⟧.state self.new) result }
-        ensures borrows { ⟦<Session<'s, 'f, 't, F, T> as LineMachine>⟧.borrows self.new ≡ ⟦<Session<'s, 'f, 't, F, T> as LineMachine>⟧.borrows self.old }
+        ensures does { Does command.Purge (⟦<Self as LineMachine>⟧.state self.old) (⟦<Self as LineMachine>⟧.state self.new) result }
+        ensures borrows { ⟦<Self as LineMachine>⟧.borrows self.new ≡ ⟦<Self as LineMachine>⟧.borrows self.old }
     {
         let owned = self.owned()?;
         match first_among(&self.asking.prepared, owned.as_slice()) {
@@ -168,15 +170,19 @@ impl<'s, 'f, 't, F: Files, T: Link> Session<'s, 'f, 't, F, T> {
 
     // The questions of the session's owner.
     fn owned(&self) -> Mem<List<Name>>
-        ensures { IfOk result (λ names. names ≡ owned_of (⟦<Session<'s, 'f, 't, F, T> as LineMachine>⟧.state self.now).store.layers (⟦<Session<'s, 'f, 't, F, T> as LineMachine>⟧.state self.now).at.config (⟦<Session<'s, 'f, 't, F, T> as LineMachine>⟧.state self.now).owner) }
+        ensures { IfOk result (λ names. names ≡ owned_of (⟦<Self as LineMachine>⟧.state self.now).store.layers
+            (⟦<Self as LineMachine>⟧.state self.now).at.config (⟦<Self as LineMachine>⟧.state self.now).owner) }
     {
         self.desk.questions.owned(self.desk.owner)
     }
 
     // The owner leaves all its questions, none of which is prepared.
     fn purge_owned(&mut self) -> Mem<Stepped>
-        ensures comes { Comes (reply_write (⟦<Session<'s, 'f, 't, F, T> as LineMachine>⟧.state self.old) (reply 0 []) (purged (⟦<Session<'s, 'f, 't, F, T> as LineMachine>⟧.state self.old).store (⟦<Session<'s, 'f, 't, F, T> as LineMachine>⟧.state self.old).at (⟦<Session<'s, 'f, 't, F, T> as LineMachine>⟧.state self.old).owner)) (names_on (⟦<Session<'s, 'f, 't, F, T> as LineMachine>⟧.state self.old) command.Purge nothing) (⟦<Session<'s, 'f, 't, F, T> as LineMachine>⟧.state self.old) (⟦<Session<'s, 'f, 't, F, T> as LineMachine>⟧.state self.new) result }
-        ensures borrows { ⟦<Session<'s, 'f, 't, F, T> as LineMachine>⟧.borrows self.new ≡ ⟦<Session<'s, 'f, 't, F, T> as LineMachine>⟧.borrows self.old }
+        ensures comes { Comes (reply_write (⟦<Self as LineMachine>⟧.state self.old) (reply 0 [])
+            (purged (⟦<Self as LineMachine>⟧.state self.old).store (⟦<Self as LineMachine>⟧.state self.old).at
+            (⟦<Self as LineMachine>⟧.state self.old).owner)) (names_on (⟦<Self as LineMachine>⟧.state self.old) command.Purge nothing)
+            (⟦<Self as LineMachine>⟧.state self.old) (⟦<Self as LineMachine>⟧.state self.new) result }
+        ensures borrows { ⟦<Self as LineMachine>⟧.borrows self.new ≡ ⟦<Self as LineMachine>⟧.borrows self.old }
     {
         let desk = &mut self.desk;
         let done = desk.questions.purge(desk.owner);
@@ -185,15 +191,16 @@ impl<'s, 'f, 't, F: Files, T: Link> Session<'s, 'f, 't, F, T> {
 
     // The code of a text that was asked for, which has one of its own in escape mode.
     fn told_code(&self) -> u8
-        ensures { result ≡ told_code_in (⟦<Session<'s, 'f, 't, F, T> as LineMachine>⟧.state self.now).asking.escape }
+        ensures { result ≡ told_code_in (⟦<Self as LineMachine>⟧.state self.now).asking.escape }
     {
         if self.asking.escape { 1 } else { 0 }
     }
 
     // What a template file holds is loaded, for the owner or for the session's.
     pub(crate) fn load(&mut self, path: &Text, owner: &Option<Name>) -> Mem<Stepped>
-        ensures does { Does (command.LoadTemplateFile path.now owner.now) (⟦<Session<'s, 'f, 't, F, T> as LineMachine>⟧.state self.old) (⟦<Session<'s, 'f, 't, F, T> as LineMachine>⟧.state self.new) result }
-        ensures borrows { ⟦<Session<'s, 'f, 't, F, T> as LineMachine>⟧.borrows self.new ≡ ⟦<Session<'s, 'f, 't, F, T> as LineMachine>⟧.borrows self.old }
+        ensures does { Does (command.LoadTemplateFile path.now owner.now) (⟦<Self as LineMachine>⟧.state self.old)
+            (⟦<Self as LineMachine>⟧.state self.new) result }
+        ensures borrows { ⟦<Self as LineMachine>⟧.borrows self.new ≡ ⟦<Self as LineMachine>⟧.borrows self.old }
     {
         let owner = owner_or(owner, self.desk.owner);
         match find_templates(self.alloc, self.files, path) {
@@ -205,8 +212,10 @@ impl<'s, 'f, 't, F: Files, T: Link> Session<'s, 'f, 't, F, T> {
     // The templates that were found are loaded, or it is told why there are none.
     fn take_found(&mut self, owner: &Name, found: &Found) -> Mem<Stepped>
         requires { HasDistinctNames found.now }
-        ensures comes { Comes (loading (⟦<Session<'s, 'f, 't, F, T> as LineMachine>⟧.state self.old) owner.now found.now) (load_names (⟦<Session<'s, 'f, 't, F, T> as LineMachine>⟧.state self.old) owner.now found.now) (⟦<Session<'s, 'f, 't, F, T> as LineMachine>⟧.state self.old) (⟦<Session<'s, 'f, 't, F, T> as LineMachine>⟧.state self.new) result }
-        ensures borrows { ⟦<Session<'s, 'f, 't, F, T> as LineMachine>⟧.borrows self.new ≡ ⟦<Session<'s, 'f, 't, F, T> as LineMachine>⟧.borrows self.old }
+        ensures comes { Comes (loading (⟦<Self as LineMachine>⟧.state self.old) owner.now found.now)
+            (load_names (⟦<Self as LineMachine>⟧.state self.old) owner.now found.now) (⟦<Self as LineMachine>⟧.state self.old)
+            (⟦<Self as LineMachine>⟧.state self.new) result }
+        ensures borrows { ⟦<Self as LineMachine>⟧.borrows self.new ≡ ⟦<Self as LineMachine>⟧.borrows self.old }
     {
         match found {
             Found::Unreadable => says(self.alloc, 100, b"read fault"),

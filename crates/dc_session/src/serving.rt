@@ -6,7 +6,7 @@ ghost use Rattle.dc_store.specs.Plans.{stored};
 ghost use Rattle.dc_question.specs.Questions.{IsSetOver, Answers};
 ghost use Rattle.dc_question.specs.declared.errors.QuestionError.{QuestionError as QuestionErrorOf};
 ghost use Rattle.dc_session.specs.Asking.{nothing_asked, threshold_by, frontend_by, policy_by};
-ghost use Rattle.dc_session.specs.SessionState.{nothing_typed};
+ghost use Rattle.dc_session.specs.SessionState.{nothing_typed, session_of, borrows_of};
 ghost use Rattle.dc_frontend.specs.Frontends.{frontend_of};
 ghost use Rattle.dc_frontend.specs.declared.frontend.Frontend.TheVariants.{Teletype as OfTeletype};
 ghost use Rattle.dc_session.specs.Serving.{IsServed, Finishes};
@@ -15,7 +15,8 @@ ghost use Rattle.dc_proto.specs.declared.priority.Priority.TheVariants.{High};
 
 use crate::asking::Asking;
 use crate::policy::AskPolicy;
-use crate::session::{Session, SessionQuestions};
+use crate::session::Session;
+use crate::session_questions::SessionQuestions;
 use crate::stepped::StepError;
 use dc_conf::Plan;
 use dc_frontend::Frontend;
@@ -59,22 +60,20 @@ pub fn serve_layers<L: Link, T: Link, F: Files>(
     requires config { IsOver config.now (length layers.old.items) }
     requires templates { IsOver templates.now (length layers.old.items) }
     requires disjoint { are_disjoint config.now templates.now ≡ true }
-    ensures served { IsServed
+    ensures { IsServed
         (record {
           store = stored (each state layers.old.items) [];
-          files = record { told = F.told files.old; counts = F.counts files.old };
-          terminal = record { link = record { talk = T.talk terminal.old; input = T.left terminal.old; counts = record { faults = T.faults terminal.old; refusals = T.refusals terminal.old } }; ahead = nothing_typed };
+          files = F.files files.old;
+          terminal = record { link = T.link terminal.old; ahead = nothing_typed };
           at = record { config = config.now; templates = templates.now; lang = setup.now.lang.now };
           owner = setup.now.owner.now;
-          policy = policy_by setup.now.frontend setup.now.threshold setup.now.nonint_seen (each state layers.old.items) (record { config = config.now; templates = templates.now; lang = setup.now.lang.now });
+          policy = policy_by setup.now.frontend setup.now.threshold setup.now.nonint_seen (each state layers.old.items)
+              (record { config = config.now; templates = templates.now; lang = setup.now.lang.now });
           asking = nothing_asked;
         })
-        (each state layers.new.items) (record { told = F.told files.new; counts = F.counts files.new })
-        (record { talk = T.talk terminal.new; input = T.left terminal.new; counts = record { faults = T.faults terminal.new; refusals = T.refusals terminal.new } })
-        (record { talk = L.talk io.old; input = L.left io.old; counts = record { faults = L.faults io.old; refusals = L.refusals io.old } })
-        (record { talk = L.talk io.new; input = L.left io.new; counts = record { faults = L.faults io.new; refusals = L.refusals io.new } })
-        result.end result.last_code }
-    ensures program { L.program io.new ≡ L.program io.old }
+        (each state layers.new.items) (F.files files.new)
+        (T.link terminal.new)
+        (L.link io.old) (L.link io.new) result.end result.last_code }
 {
     let mut store = Store::new(alloc, std::mem::replace(layers, Vec::new(alloc)));
     let questions = Questions::new(alloc, &mut store, config, templates, setup.lang);
@@ -118,22 +117,19 @@ fn serve_desk<L: Link, T: Link, F: Files>(
     teletype: &mut Teletype,
     asking: &mut Asking,
 ) -> Conversation<StepError>
-    ensures served { IsServed
+    ensures { IsServed
         (record {
           store = stored (each state desk.entry.questions.store.now.layers.items) desk.entry.questions.store.now.told;
-          files = record { told = F.told files.old; counts = F.counts files.old };
-          terminal = record { link = record { talk = T.talk terminal.old; input = T.left terminal.old; counts = record { faults = T.faults terminal.old; refusals = T.refusals terminal.old } }; ahead = teletype.old.ahead };
+          files = F.files files.old;
+          terminal = record { link = T.link terminal.old; ahead = teletype.old.ahead };
           at = desk.entry.questions.context;
           owner = desk.entry.owner.now;
           policy = policy;
           asking = asking.old;
         })
-        (each state layers.new.items) (record { told = F.told files.new; counts = F.counts files.new })
-        (record { talk = T.talk terminal.new; input = T.left terminal.new; counts = record { faults = T.faults terminal.new; refusals = T.refusals terminal.new } })
-        (record { talk = L.talk io.old; input = L.left io.old; counts = record { faults = L.faults io.old; refusals = L.refusals io.old } })
-        (record { talk = L.talk io.new; input = L.left io.new; counts = record { faults = L.faults io.new; refusals = L.refusals io.new } })
-        result.end result.last_code }
-    ensures program { L.program io.new ≡ L.program io.old }
+        (each state layers.new.items) (F.files files.new)
+        (T.link terminal.new)
+        (L.link io.old) (L.link io.new) result.end result.last_code }
 {
     let mut session = Session::new(alloc, desk, files, terminal, teletype, policy, asking);
     let ended = serve_session(alloc, io, &mut session);
@@ -156,14 +152,11 @@ fn serve_session<'s, 'f, 't, L: Link, F: Files, T: Link>(
     session: &mut Session<'s, 'f, 't, F, T>,
 ) -> Conversation<StepError>
     ensures served { IsServed
-        (⟦<Session<'s, 'f, 't, F, T> as LineMachine>⟧.state session.old)
-        (⟦<Session<'s, 'f, 't, F, T> as LineMachine>⟧.state session.new).store.layers
-        (⟦<Session<'s, 'f, 't, F, T> as LineMachine>⟧.state session.new).files
-        (⟦<Session<'s, 'f, 't, F, T> as LineMachine>⟧.state session.new).terminal.link
-        (record { talk = L.talk io.old; input = L.left io.old; counts = record { faults = L.faults io.old; refusals = L.refusals io.old } })
-        (record { talk = L.talk io.new; input = L.left io.new; counts = record { faults = L.faults io.new; refusals = L.refusals io.new } })
-        result.end result.last_code }
-    ensures program { L.program io.new ≡ L.program io.old }
+        (session_of state F.files T.link session.old)
+        (session_of state F.files T.link session.new).store.layers
+        (session_of state F.files T.link session.new).files
+        (session_of state F.files T.link session.new).terminal.link
+        (L.link io.old) (L.link io.new) result.end result.last_code }
     ensures borrows { session.new.desk.questions.store.ghost_name ≡ session.old.desk.questions.store.ghost_name }
     ensures files_held { session.new.files.ghost_name ≡ session.old.files.ghost_name }
     ensures terminal_held { session.new.terminal.ghost_name ≡ session.old.terminal.ghost_name }
@@ -175,7 +168,8 @@ fn serve_session<'s, 'f, 't, L: Link, F: Files, T: Link>(
 // How questions are asked.
 fn policy(alloc: Global, questions: &Questions<'_>, setup: &SessionSetup<'_>) -> Mem<AskPolicy>
     requires { IsSetOver questions.now.context (length questions.now.store.now.layers.items) }
-    ensures { IfOk result (λ policy. policy ≡ policy_by setup.now.frontend setup.now.threshold setup.now.nonint_seen (each (λ b. state (b.vtable, b.value)) questions.now.store.now.layers.items) questions.now.context) }
+    ensures { IfOk result (λ policy. policy ≡ policy_by setup.now.frontend setup.now.threshold setup.now.nonint_seen
+        (each (λ b. state (b.vtable, b.value)) questions.now.store.now.layers.items) questions.now.context) }
 {
     let frontend = frontend(alloc, questions, setup.frontend)?;
     let threshold = threshold(alloc, questions, setup.threshold)?;
@@ -189,7 +183,8 @@ fn policy(alloc: Global, questions: &Questions<'_>, setup: &SessionSetup<'_>) ->
 // What asks the user: what was chosen, else what the value of `debconf/frontend` names, else the teletype.
 fn frontend(alloc: Global, questions: &Questions<'_>, chosen: Option<Frontend>) -> Mem<Frontend>
     requires { IsSetOver questions.now.context (length questions.now.store.now.layers.items) }
-    ensures { IfOk result (λ frontend. frontend ≡ frontend_by chosen (each (λ b. state (b.vtable, b.value)) questions.now.store.now.layers.items) questions.now.context) }
+    ensures { IfOk result (λ frontend. frontend ≡ frontend_by chosen
+        (each (λ b. state (b.vtable, b.value)) questions.now.store.now.layers.items) questions.now.context) }
 {
     match chosen {
         Some(frontend) => Ok(frontend),
@@ -200,7 +195,8 @@ fn frontend(alloc: Global, questions: &Questions<'_>, chosen: Option<Frontend>) 
 // What the value of `debconf/frontend` names, else the teletype.
 fn said_frontend(alloc: Global, questions: &Questions<'_>) -> Mem<Frontend>
     requires { IsSetOver questions.now.context (length questions.now.store.now.layers.items) }
-    ensures { IfOk result (λ frontend. frontend ≡ frontend_by None (each (λ b. state (b.vtable, b.value)) questions.now.store.now.layers.items) questions.now.context) }
+    ensures { IfOk result (λ frontend. frontend ≡ frontend_by None
+        (each (λ b. state (b.vtable, b.value)) questions.now.store.now.layers.items) questions.now.context) }
 {
     let Ok(name) = Name::read(alloc, b"debconf/frontend") else {
         return Err(OutOfMemory);
@@ -210,7 +206,8 @@ fn said_frontend(alloc: Global, questions: &Questions<'_>) -> Mem<Frontend>
 
 // What the text names that is read, else the teletype.
 fn frontend_said(said: Result<Text, QuestionError>) -> Mem<Frontend>
-    ensures { (reading : Result (List ℕ) QuestionErrorOf) → Answers said reading → IfOk result (λ frontend. frontend ≡ unwrap_or (option_and_then frontend_of (result_ok reading)) OfTeletype) }
+    ensures { (reading : Result (List ℕ) QuestionErrorOf) → Answers said reading → IfOk result
+        (λ frontend. frontend ≡ unwrap_or (option_and_then frontend_of (result_ok reading)) OfTeletype) }
 {
     match said {
         Ok(word) => Ok(Frontend::read(word.bytes()).unwrap_or(Frontend::Teletype)),
@@ -223,7 +220,8 @@ fn frontend_said(said: Result<Text, QuestionError>) -> Mem<Frontend>
 // else high.
 fn threshold(alloc: Global, questions: &Questions<'_>, chosen: Option<Priority>) -> Mem<Priority>
     requires { IsSetOver questions.now.context (length questions.now.store.now.layers.items) }
-    ensures { IfOk result (λ threshold. threshold ≡ threshold_by chosen (each (λ b. state (b.vtable, b.value)) questions.now.store.now.layers.items) questions.now.context) }
+    ensures { IfOk result (λ threshold. threshold ≡ threshold_by chosen
+        (each (λ b. state (b.vtable, b.value)) questions.now.store.now.layers.items) questions.now.context) }
 {
     match chosen {
         Some(priority) => Ok(priority),
@@ -234,7 +232,8 @@ fn threshold(alloc: Global, questions: &Questions<'_>, chosen: Option<Priority>)
 // The priority that the value of `debconf/priority` names, else high.
 fn said_threshold(alloc: Global, questions: &Questions<'_>) -> Mem<Priority>
     requires { IsSetOver questions.now.context (length questions.now.store.now.layers.items) }
-    ensures { IfOk result (λ threshold. threshold ≡ threshold_by None (each (λ b. state (b.vtable, b.value)) questions.now.store.now.layers.items) questions.now.context) }
+    ensures { IfOk result (λ threshold. threshold ≡ threshold_by None
+        (each (λ b. state (b.vtable, b.value)) questions.now.store.now.layers.items) questions.now.context) }
 {
     let Ok(name) = Name::read(alloc, b"debconf/priority") else {
         return Err(OutOfMemory);
@@ -244,7 +243,8 @@ fn said_threshold(alloc: Global, questions: &Questions<'_>) -> Mem<Priority>
 
 // The priority that the text names that is read, else high.
 fn priority_said(said: Result<Text, QuestionError>) -> Mem<Priority>
-    ensures { (reading : Result (List ℕ) QuestionErrorOf) → Answers said reading → IfOk result (λ priority. priority ≡ unwrap_or (option_and_then priority_of (result_ok reading)) High) }
+    ensures { (reading : Result (List ℕ) QuestionErrorOf) → Answers said reading → IfOk result
+        (λ priority. priority ≡ unwrap_or (option_and_then priority_of (result_ok reading)) High) }
 {
     match said {
         Ok(word) => Ok(Priority::read(word.bytes()).unwrap_or(Priority::High)),
@@ -258,11 +258,12 @@ fn finish_served<'s, 'f, 't, F: Files, T: Link>(
     session: &mut Session<'s, 'f, 't, F, T>,
     served: Conversation<StepError>,
 ) -> Conversation<StepError>
-    ensures finishes { Finishes served.end (⟦<Session<'s, 'f, 't, F, T> as LineMachine>⟧.state session.old) (⟦<Session<'s, 'f, 't, F, T> as LineMachine>⟧.state session.new).store.layers result.end }
-    ensures files { (⟦<Session<'s, 'f, 't, F, T> as LineMachine>⟧.state session.new).files ≡ (⟦<Session<'s, 'f, 't, F, T> as LineMachine>⟧.state session.old).files }
-    ensures terminal { (⟦<Session<'s, 'f, 't, F, T> as LineMachine>⟧.state session.new).terminal ≡ (⟦<Session<'s, 'f, 't, F, T> as LineMachine>⟧.state session.old).terminal }
+    ensures finishes { Finishes served.end (session_of state F.files T.link session.old)
+        (session_of state F.files T.link session.new).store.layers result.end }
+    ensures files { (session_of state F.files T.link session.new).files ≡ (session_of state F.files T.link session.old).files }
+    ensures terminal { (session_of state F.files T.link session.new).terminal ≡ (session_of state F.files T.link session.old).terminal }
     ensures code { result.last_code ≡ served.last_code }
-    ensures borrows { ⟦<Session<'s, 'f, 't, F, T> as LineMachine>⟧.borrows session.new ≡ ⟦<Session<'s, 'f, 't, F, T> as LineMachine>⟧.borrows session.old }
+    ensures borrows { borrows_of session.new ≡ borrows_of session.old }
 {
     let Conversation { end, last_code } = served;
     let end = match end {

@@ -1,39 +1,23 @@
 // A session over questions and files, and what a line does to them.
-ghost use Rattle.std.specs.Prelude.{◌≡◌, IfOk, IfErr, length, map as each, true};
+ghost use Rattle.std.specs.Prelude.{◌≡◌, IfOk, IfErr, map as each};
 ghost use Rattle.std.specs.Borrow.{GName};
-ghost use Rattle.std.proofs.Props.{props};
-ghost use Rattle.dc_conf.specs.Plans.{are_disjoint};
 ghost use Rattle.dc_store.specs.Plans.{stored};
-ghost use Rattle.dc_question.specs.Questions.{IsSetOver};
-ghost use Rattle.dc_session.specs.SessionState.{SessionState, nothing_typed};
+ghost use Rattle.dc_session.specs.SessionState.{SessionState, session_of, borrows_of};
 ghost use Rattle.dc_session.specs.Inside.{DoesHeard};
 ghost use Rattle.dc_session.specs.Machine.{Handles as HandlesLine, Aborts as AbortsAt, Steps, DoesShowing};
 
 use crate::asking::Asking;
 use crate::policy::AskPolicy;
 use crate::replies::{says, sent_in};
+use crate::session_questions::SessionQuestions;
 use crate::stepped::{StepError, Stepped, lifted};
 use dc_layer::Layer;
 use dc_outside::{Files, Link};
 use dc_proto::{Command, Heard, read_command};
-use dc_question::Questions;
 use dc_serve::{LineMachine, Response};
 use dc_teletype::Teletype;
-use dc_text::Name;
 use dc_words::Line;
 use std::alloc::Global;
-use std::marker::PhantomData;
-
-/// Questions as a session works on them: by plans that speak of the layers of their store and share none, and for an owner, for whom
-/// questions are registered.
-#[derive(Drop)]
-pub struct SessionQuestions<'s> {
-    pub questions: Questions<'s>,
-    pub owner: &'s Name,
-    of: PhantomData<Box<dyn Layer>>,
-    ghost over: { IsSetOver questions.context (length questions.store.now.layers.items) } by { Prim.hlevel props },
-    ghost apart: { are_disjoint questions.context.config questions.context.templates ≡ true } by { Prim.hlevel props },
-}
 
 /// A session (debconf-devel(7)): the questions that its commands read and change, the files in which it looks for templates, the terminal
 /// on which it asks, how it asks questions, and what was asked for so far.
@@ -48,41 +32,6 @@ pub struct Session<'s, 'f, 't, F: Files, T: Link> {
     pub(crate) asking: &'s mut Asking,
 }
 
-impl<'s> SessionQuestions<'s> {
-    /// These questions, for this owner.
-    pub fn new(questions: Questions<'s>, owner: &'s Name) -> SessionQuestions<'s>
-        requires over { IsSetOver questions.context (length questions.store.now.layers.items) }
-        requires apart { are_disjoint questions.context.config questions.context.templates ≡ true }
-        ensures store { result.questions.store.now ≡ questions.entry.store.now }
-        ensures borrows { result.questions.store.ghost_name ≡ questions.entry.store.ghost_name }
-        ensures context { result.questions.context ≡ questions.entry.context }
-        ensures owner { result.owner.now ≡ owner.now }
-    {
-        SessionQuestions {
-            questions,
-            owner,
-            of: PhantomData,
-        }
-    }
-
-    /// The layers, as the session left them. Their store keeps none.
-    pub fn into_layers(self, alloc: Global) -> Vec<Box<dyn Layer>>
-        ensures { result.items ≡ self.entry.questions.store.now.layers.items }
-    {
-        let SessionQuestions {
-            questions,
-            owner: _,
-            of: _,
-        } = self;
-        let Questions {
-            alloc: _,
-            store,
-            context: _,
-        } = questions;
-        std::mem::replace(&mut store.layers, Vec::new(alloc))
-    }
-}
-
 impl<'s, 'f, 't, F: Files, T: Link> Session<'s, 'f, 't, F, T> {
     /// A session at this desk, that looks for templates in these files and asks questions on this terminal, in this manner. What was asked
     /// for so far is kept where the caller keeps it.
@@ -95,10 +44,10 @@ impl<'s, 'f, 't, F: Files, T: Link> Session<'s, 'f, 't, F, T> {
         policy: AskPolicy,
         asking: &'s mut Asking,
     ) -> Session<'s, 'f, 't, F, T>
-        ensures state { ⟦<Session<'s, 'f, 't, F, T> as LineMachine>⟧.state result ≡ record {
+        ensures state { ⟦<Self as LineMachine>⟧.state result ≡ record {
           store = stored (each (λ b. (Layer-box b).state b.value) desk.entry.questions.store.now.layers.items) desk.entry.questions.store.now.told;
-          files = record { told = F.told files.old; counts = F.counts files.old };
-          terminal = record { link = record { talk = T.talk terminal.old; input = T.left terminal.old; counts = record { faults = T.faults terminal.old; refusals = T.refusals terminal.old } }; ahead = teletype.old.ahead };
+          files = F.files files.old;
+          terminal = record { link = T.link terminal.old; ahead = teletype.old.ahead };
           at = desk.entry.questions.context;
           owner = desk.entry.owner.now;
           policy = policy;
@@ -139,7 +88,7 @@ impl<'s, 'f, 't, F: Files, T: Link> Session<'s, 'f, 't, F, T> {
 
     /// Whether lines are read and replies are sent escaped now.
     pub fn escape(&self) -> bool
-        ensures { result ≡ (⟦<Session<'s, 'f, 't, F, T> as LineMachine>⟧.state self.now).asking.escape }
+        ensures { result ≡ (⟦<Self as LineMachine>⟧.state self.now).asking.escape }
     {
         self.asking.escape
     }
@@ -148,9 +97,9 @@ impl<'s, 'f, 't, F: Files, T: Link> Session<'s, 'f, 't, F, T> {
     /// What a line comes to, and what it leaves. A line is read in the mode that stands before it. After a refusal, of code 10, 20 or
     /// 100, nothing has changed.
     pub fn step(&mut self, line: &Line) -> Result<Stepped, StepError>
-        ensures ok { IfOk result (λ stepped. Steps (⟦<Session<'s, 'f, 't, F, T> as LineMachine>⟧.state self.old) line.now stepped (⟦<Session<'s, 'f, 't, F, T> as LineMachine>⟧.state self.new)) }
-        ensures err { IfErr result (λ error. AbortsAt (⟦<Session<'s, 'f, 't, F, T> as LineMachine>⟧.state self.old) line.now error (⟦<Session<'s, 'f, 't, F, T> as LineMachine>⟧.state self.new)) }
-        ensures borrows { ⟦<Session<'s, 'f, 't, F, T> as LineMachine>⟧.borrows self.new ≡ ⟦<Session<'s, 'f, 't, F, T> as LineMachine>⟧.borrows self.old }
+        ensures ok { IfOk result (λ stepped. Steps (⟦<Self as LineMachine>⟧.state self.old) line.now stepped (⟦<Self as LineMachine>⟧.state self.new)) }
+        ensures err { IfErr result (λ error. AbortsAt (⟦<Self as LineMachine>⟧.state self.old) line.now error (⟦<Self as LineMachine>⟧.state self.new)) }
+        ensures borrows { ⟦<Self as LineMachine>⟧.borrows self.new ≡ ⟦<Self as LineMachine>⟧.borrows self.old }
     {
         match line {
             Line::TooLong => lifted(says(self.alloc, 20, b"line too long")),
@@ -163,8 +112,8 @@ impl<'s, 'f, 't, F: Files, T: Link> Session<'s, 'f, 't, F, T> {
 
     // What a line that was read does.
     fn serve(&mut self, heard: Heard) -> Result<Stepped, StepError>
-        ensures does { DoesHeard heard (⟦<Session<'s, 'f, 't, F, T> as LineMachine>⟧.state self.old) (⟦<Session<'s, 'f, 't, F, T> as LineMachine>⟧.state self.new) result }
-        ensures borrows { ⟦<Session<'s, 'f, 't, F, T> as LineMachine>⟧.borrows self.new ≡ ⟦<Session<'s, 'f, 't, F, T> as LineMachine>⟧.borrows self.old }
+        ensures does { DoesHeard heard (⟦<Self as LineMachine>⟧.state self.old) (⟦<Self as LineMachine>⟧.state self.new) result }
+        ensures borrows { ⟦<Self as LineMachine>⟧.borrows self.new ≡ ⟦<Self as LineMachine>⟧.borrows self.old }
     {
         match heard {
             Heard::Nothing => Ok(Stepped::Silent),
@@ -175,8 +124,8 @@ impl<'s, 'f, 't, F: Files, T: Link> Session<'s, 'f, 't, F, T> {
 
     // What a command is answered, what it shows, and what it does.
     fn run(&mut self, command: &Command) -> Result<Stepped, StepError>
-        ensures does { DoesShowing command.now (⟦<Session<'s, 'f, 't, F, T> as LineMachine>⟧.state self.old) (⟦<Session<'s, 'f, 't, F, T> as LineMachine>⟧.state self.new) result }
-        ensures borrows { ⟦<Session<'s, 'f, 't, F, T> as LineMachine>⟧.borrows self.new ≡ ⟦<Session<'s, 'f, 't, F, T> as LineMachine>⟧.borrows self.old }
+        ensures does { DoesShowing command.now (⟦<Self as LineMachine>⟧.state self.old) (⟦<Self as LineMachine>⟧.state self.new) result }
+        ensures borrows { ⟦<Self as LineMachine>⟧.borrows self.new ≡ ⟦<Self as LineMachine>⟧.borrows self.old }
     {
         match command {
             Command::Version(version) => lifted(self.version(version)),
@@ -224,15 +173,7 @@ impl<'s, 'f, 't, F: Files, T: Link> LineMachine for Session<'s, 'f, 't, F, T> {
 
     ghost State = { SessionState };
 
-    ghost state = { λ s. record {
-      store = stored (each (λ b. (Layer-box b).state b.value) s.desk.questions.store.now.layers.items) s.desk.questions.store.now.told;
-      files = record { told = F.told s.files.now; counts = F.counts s.files.now };
-      terminal = record { link = record { talk = T.talk s.terminal.now; input = T.left s.terminal.now; counts = record { faults = T.faults s.terminal.now; refusals = T.refusals s.terminal.now } }; ahead = s.teletype.now.ahead };
-      at = s.desk.questions.context;
-      owner = s.desk.owner.now;
-      policy = s.policy;
-      asking = s.asking.now;
-    } };
+    ghost state = { session_of (λ b. (Layer-box b).state b.value) F.files T.link };
 
     ghost steps = { HandlesLine };
 
@@ -240,7 +181,7 @@ impl<'s, 'f, 't, F: Files, T: Link> LineMachine for Session<'s, 'f, 't, F, T> {
 
     ghost Borrows = { GName × GName × GName };
 
-    ghost borrows = { λ s. (s.desk.questions.store.ghost_name, s.files.ghost_name, s.terminal.ghost_name) };
+    ghost borrows = { borrows_of };
 
     fn handle(&mut self, line: &Line) -> Result<Response, StepError> {
         let escape = self.escape();

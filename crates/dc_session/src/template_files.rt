@@ -23,8 +23,8 @@ pub enum Found {
 
 /// Reads the template file at the path (debconf-loadtemplate(1)). No two of the templates that are found have the same name.
 pub fn find_templates<F: Files>(alloc: Global, files: &mut F, path: &Text) -> Mem<Found>
-    ensures ok { IfOk result (λ found. Finds path.now (record { told = F.told files.old; counts = F.counts files.old }) found (record { told = F.told files.new; counts = F.counts files.new })) }
-    ensures err { OnErr result (FindsNoMemory path.now (record { told = F.told files.old; counts = F.counts files.old }) (record { told = F.told files.new; counts = F.counts files.new })) }
+    ensures ok { IfOk result (λ found. Finds path.now (F.files files.old) found (F.files files.new)) }
+    ensures err { OnErr result (FindsNoMemory path.now (F.files files.old) (F.files files.new)) }
     ensures distinct { IfOk result HasDistinctNames }
 {
     match files.read(path) {

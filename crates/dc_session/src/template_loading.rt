@@ -8,7 +8,7 @@ ghost use Rattle.dc_session.specs.SessionState.{FilesState, TerminalState};
 ghost use Rattle.dc_session.specs.declared.asking.Asking.{Asking};
 ghost use Rattle.dc_session.specs.declared.policy.AskPolicy.{AskPolicy};
 
-use crate::session::SessionQuestions;
+use crate::session_questions::SessionQuestions;
 use crate::template_files::Found;
 use dc_layer::Layer;
 use dc_question::QuestionError;
@@ -35,8 +35,24 @@ impl<'s> SessionQuestions<'s> {
     pub fn take_templates(&mut self, found: &Found) -> Mem<FileEnd>
         requires distinct { HasDistinctNames found.now }
         ensures takes { (files : FilesState) (terminal : TerminalState) (policy : AskPolicy) (asking : Asking) → Takes found.now
-            (record { store = stored (each state self.old.questions.store.now.layers.items) self.old.questions.store.now.told; files = files; terminal = terminal; at = self.old.questions.context; owner = self.old.owner.now; policy = policy; asking = asking })
-            (record { store = stored (each state self.new.questions.store.now.layers.items) self.new.questions.store.now.told; files = files; terminal = terminal; at = self.new.questions.context; owner = self.new.owner.now; policy = policy; asking = asking }) result }
+            (record {
+              store = stored (each state self.old.questions.store.now.layers.items) self.old.questions.store.now.told;
+              files = files;
+              terminal = terminal;
+              at = self.old.questions.context;
+              owner = self.old.owner.now;
+              policy = policy;
+              asking = asking;
+            })
+            (record {
+              store = stored (each state self.new.questions.store.now.layers.items) self.new.questions.store.now.told;
+              files = files;
+              terminal = terminal;
+              at = self.new.questions.context;
+              owner = self.new.owner.now;
+              policy = policy;
+              asking = asking;
+            }) result }
         ensures owner { self.new.owner.now ≡ self.old.owner.now }
         ensures borrows { self.new.questions.store.ghost_name ≡ self.old.questions.store.ghost_name }
     {

@@ -16,8 +16,8 @@ pub(crate) fn tell_on<T: Link>(
     line: &Text,
 ) -> Result<(), LinkError>
     ensures { HasLine line.now
-        (record { link = record { talk = T.talk link.old; input = T.left link.old; counts = record { faults = T.faults link.old; refusals = T.refusals link.old } }; ahead = teletype.old.ahead })
-        (record { link = record { talk = T.talk link.new; input = T.left link.new; counts = record { faults = T.faults link.new; refusals = T.refusals link.new } }; ahead = teletype.new.ahead })
+        (record { link = T.link link.old; ahead = teletype.old.ahead })
+        (record { link = T.link link.new; ahead = teletype.new.ahead })
         (told result) }
 {
     teletype.tell(link, line)
@@ -31,8 +31,8 @@ pub(crate) fn ask_on<T: Link>(
     questions: &List<Shown>,
 ) -> Result<Asked, LinkError>
     ensures { HasDialogue asking.now questions.now
-        (record { link = record { talk = T.talk link.old; input = T.left link.old; counts = record { faults = T.faults link.old; refusals = T.refusals link.old } }; ahead = teletype.old.ahead })
-        (record { link = record { talk = T.talk link.new; input = T.left link.new; counts = record { faults = T.faults link.new; refusals = T.refusals link.new } }; ahead = teletype.new.ahead })
+        (record { link = T.link link.old; ahead = teletype.old.ahead })
+        (record { link = T.link link.new; ahead = teletype.new.ahead })
         result }
 {
     teletype.ask(link, questions, asking.backup, &asking.title)
@@ -43,18 +43,9 @@ pub(crate) fn ask_on<T: Link>(
 pub struct NoTerminal;
 
 impl Link for NoTerminal {
-    ghost use Rattle.std.specs.Prelude.{None};
-    ghost use Rattle.dc_outside.specs.Programs.{no_program};
+    ghost use Rattle.dc_session.specs.SessionState.{no_terminal};
 
-    ghost talk = { λ _. None };
-
-    ghost left = { λ _. None };
-
-    ghost faults = { λ _. 0 };
-
-    ghost refusals = { λ _. 0 };
-
-    ghost program = { λ _. no_program };
+    ghost link = { λ _. no_terminal.link };
 
     fn read_some(&mut self, _buf: &mut [u8]) -> Result<usize, LinkError> {
         Ok(0)

@@ -2,7 +2,8 @@
 use Rattle.std.proofs.Common.{◌≡◌, ℕ, zero, suc, ◌+◌, ◌<◌, List, [], ◌∷◌, Some, map as each, length, take, drop, get_or, refl, sym, ap, ◌∙◌, arith, Result, Ok, add-one}
 use Rattle.std.specs.Prelude.{slice_get}
 use Rattle.std.proofs.Math.ListN.{set}
-use Rattle.dc_outside.specs.Told.{Told, Counts}
+use Rattle.dc_outside.specs.State.{FilesView}
+use Rattle.dc_outside.specs.Counts.{Counts}
 use Rattle.dc_conf.specs.declared.spec.LayerSpec.{LayerSpec}
 use Rattle.dc_layer.specs.State.{LayerState, blank, set_up}
 use Rattle.dc_save.specs.declared.loading.Loaded.{Loaded}
@@ -36,7 +37,7 @@ module _ {A : Type 0} (f : A → LayerState) where
   before (x ∷ xs) zero y = refl
   before (x ∷ xs) (suc i) y = ap (λ l. f x ∷ l) (before xs i y)
 
-  pub is_loaded_at : (xs : List A) (i : ℕ) (d y : A) → i < length xs → (spec : LayerSpec) (told told_new : Told) (counts now : Counts) (first : Result Loaded LoadError)
+  pub is_loaded_at : (xs : List A) (i : ℕ) (d y : A) → i < length xs → (spec : LayerSpec) (told told_new : FilesView) (counts now : Counts) (first : Result Loaded LoadError)
       → LoadsLayer told.disk spec (f (get_or xs i d)) (f y) first → LoadsFiles told told_new spec first → LoadCounts spec told told_new first counts now
       → IsLoadedAt spec i (each f xs) (each f (set xs i y)) told told_new counts now first
   is_loaded_at xs i d y within spec told told_new counts now first loads files counted = record {
@@ -88,9 +89,9 @@ take_less (suc i) (x ∷ new) (y ∷ old) same =
     let tails : take (suc i) new ≡ take (suc i) old = cc in
     λ k. head k ∷ take_less i new old tails k
 
-module _ (specs : List LayerSpec) (old mid : List LayerState) (i : ℕ) (spec : LayerSpec) (files files_mid : Told) (before_counts counts : Counts)
+module _ (specs : List LayerSpec) (old mid : List LayerState) (i : ℕ) (spec : LayerSpec) (files files_mid : FilesView) (before_counts counts : Counts)
     (within : i < length specs) (is : spec ≡ get_or specs i spec) where
-  pub loads_on : (new : List LayerState) (files_new : Told) (now : Counts) (value : Loaded) (result : Result (Unit {0}) LoadError) → IsLoadedAt spec i old mid files files_mid before_counts counts (Ok value)
+  pub loads_on : (new : List LayerState) (files_new : FilesView) (now : Counts) (value : Loaded) (result : Result (Unit {0}) LoadError) → IsLoadedAt spec i old mid files files_mid before_counts counts (Ok value)
       → LoadsAll (drop (i + 1) specs) (drop (i + 1) mid) (drop (i + 1) new) files_mid files_new counts now result → take (i + 1) new ≡ take (i + 1) mid
       → LoadsAll (drop i specs) (drop i old) (drop i new) files files_new before_counts now result
   loads_on new files_new now value result at more kept =

@@ -1,16 +1,18 @@
 -- Boxes taken from the end of a list, and lists that are handed out from their end.
-use Rattle.std.proofs.Common.{◌≡◌, ℕ, ◌+◌, ◌-◌, ◌≤◌, List, [], ◌∷◌, ◌++◌, length, take, drop, get_or, map as each, refl, sym, ap, subst, ◌∙◌, append_assoc, arith}
+use Rattle.std.proofs.Common.{◌≡◌, ℕ, suc, ◌+◌, ◌-◌, ◌≤◌, ◌<◌, Bool, true, false, ◌&&◌, List, [], ◌∷◌, ◌++◌, length, take, drop, get_or, map as each, refl, sym, ap, subst, ◌∙◌, append_assoc, arith}
 use Rattle.std.proofs.Common.{Result, Ok, Err}
 use Rattle.std.specs.Prelude.{OnOk, IfErr}
 use Rattle.std.proofs.lemmas.List.{map-append}
 use Rattle.dc_text.specs.declared.memory.OutOfMemory.{OutOfMemory}
 use Rattle.dc_shelf.specs.declared.shelf.NotSetUp.{NotSetUp}
+use Rattle.std.proofs.lemmas.List.Sums.{sum_by-cons}
 use Rattle.dc_conf.specs.declared.spec.LayerSort.{LayerSort}
+use Rattle.dc_conf.specs.declared.spec.LayerSort.TheVariants.{File, Tree, Pack}
 use Rattle.dc_conf.specs.declared.spec.LayerSpec.{LayerSpec}
 use Rattle.dc_layer.specs.State.{LayerState, blank}
 use Rattle.dc_layer.specs.declared.image.Image.{Image}
 use Rattle.dc_layer.specs.declared.pattern.PatternError.{PatternError}
-use Rattle.dc_shelf.specs.Shelves.{AreBlank, AreRefusedFor, IsRefusedAt, IsRefusedFrom}
+use Rattle.dc_shelf.specs.Shelves.{AreBlank, has_patterns, all_patterns, count_of, is_sort, of_sort, one_if, AreRefusedFor, IsRefusedAt, IsRefusedFrom}
 
 module _ (sort : LayerSort) where
   blank_last : (front : List LayerState) (last : LayerState) → AreBlank sort (front ++ last ∷ []) → (last ≡ blank sort) × AreBlank sort front
@@ -25,16 +27,20 @@ module _ (sort : LayerSort) where
   blank_more (layer ∷ layers) last all is = (all.0, blank_more layers last all.1 is)
 
   -- a blank box behind blank ones
-  pub put_blank : {A : Type 0} (f : A → LayerState) (items more : List A) (last : A) → more ≡ items ++ last ∷ [] → AreBlank sort (each f items) → f last ≡ blank sort → AreBlank sort (each f more)
-  put_blank f items more last are all is = subst (AreBlank sort) (sym (map-append f items (last ∷ [])) ∙ ap (λ l. each f l) (sym are)) (blank_more (each f items) (f last) all is)
+  pub blank_behind : (old new : List LayerState) (last : LayerState) → new ≡ old ++ last ∷ [] → AreBlank sort old → last ≡ blank sort → AreBlank sort new
+  blank_behind old new last are all is = subst (AreBlank sort) (sym are) (blank_more old last all is)
+
+-- one more box
+pub one_more : {A : Type 0} (f : A → LayerState) (old new : List A) (last : A) → new ≡ old ++ last ∷ [] → each f new ≡ each f old ++ f last ∷ []
+one_more f old new last are = ap (λ l. each f l) are ∙ map-append f old (last ∷ [])
 
 -- the first of these databases is refused
 pub first_refused : (place : ℕ) (spec : LayerSpec) (rest : List LayerSpec) (error : PatternError) → AreRefusedFor spec error → IsRefusedFrom place (spec ∷ rest) place error
-first_refused place spec rest error refused = (0, omega arith, record { before = []; spec = spec; after = rest; whole = refl; place_is = refl; refused = refused })
+first_refused place spec rest error refused = (0, omega arith, record { before = []; spec = spec; after = rest; whole = refl; place_is = refl; built = refl; refused = refused })
 
 -- a later one is
-pub later_refused : (first place : ℕ) (spec : LayerSpec) (rest : List LayerSpec) (error : PatternError) → IsRefusedFrom (first + 1) rest place error → IsRefusedFrom first (spec ∷ rest) place error
-later_refused first place spec rest error from = (
+pub later_refused : (first place : ℕ) (spec : LayerSpec) (rest : List LayerSpec) (error : PatternError) → has_patterns spec ≡ true → IsRefusedFrom (first + 1) rest place error → IsRefusedFrom first (spec ∷ rest) place error
+later_refused first place spec rest error built from = (
   from.0 + 1,
   (let e : place ≡ first + 1 + from.0 = from.1 in omega arith),
   record {
@@ -43,6 +49,7 @@ later_refused first place spec rest error from = (
     after = from.2.after;
     whole = ap (λ (l : List LayerSpec). spec ∷ l) from.2.whole;
     place_is = (let e : from.0 ≡ length from.2.before = from.2.place_is in omega arith);
+    built = ap (λ b. b && all_patterns from.2.before) built ∙ from.2.built;
     refused = from.2.refused;
   },
 )
@@ -71,9 +78,9 @@ gathered f images layers layer old mid new long is first rest =
     rest ∙ ap (λ l. l ++ each images (each f (take (length layers - 1) (drop 1 layers)))) first ∙ append_assoc old (images (f layer) ∷ []) (each images (each f (take (length layers - 1) (drop 1 layers))))
     ∙ ap (λ l. old ++ each images (each f l)) (sym (first_and_rest layers layer long is))
 
-pub refused_behind : (first : ℕ) (specs : List LayerSpec) (spec : LayerSpec) (place : ℕ) (error : PatternError) → 1 ≤ length specs → spec ≡ get_or specs 0 spec → IsRefusedFrom (first + 1) (take (length specs - 1) (drop 1 specs)) place error → IsRefusedFrom first specs place error
-refused_behind first specs spec place error long is from =
-    subst (λ (l : List LayerSpec). IsRefusedFrom first l place error) (sym (first_and_rest specs spec long is)) (later_refused first place spec (take (length specs - 1) (drop 1 specs)) error from)
+pub refused_behind : (first : ℕ) (specs : List LayerSpec) (spec : LayerSpec) (place : ℕ) (error : PatternError) → 1 ≤ length specs → spec ≡ get_or specs 0 spec → has_patterns spec ≡ true → IsRefusedFrom (first + 1) (take (length specs - 1) (drop 1 specs)) place error → IsRefusedFrom first specs place error
+refused_behind first specs spec place error long is built from =
+    subst (λ (l : List LayerSpec). IsRefusedFrom first l place error) (sym (first_and_rest specs spec long is)) (later_refused first place spec (take (length specs - 1) (drop 1 specs)) error built from)
 
 -- ---- by the answer of the calls behind
 
@@ -82,7 +89,34 @@ pub gathered_if : {A : Type 0} (f : A → LayerState) (images : LayerState → L
 gathered_if f images layers layer old mid new long is first (Ok value) rest = gathered f images layers layer old mid new long is first rest
 gathered_if f images layers layer old mid new long is first (Err error) rest = tt
 
-pub refused_if : (first : ℕ) (specs : List LayerSpec) (spec : LayerSpec) → 1 ≤ length specs → spec ≡ get_or specs 0 spec → (result : Result (Unit {0}) NotSetUp)
+pub refused_if : (first : ℕ) (specs : List LayerSpec) (spec : LayerSpec) → 1 ≤ length specs → spec ≡ get_or specs 0 spec → has_patterns spec ≡ true → (result : Result (Unit {0}) NotSetUp)
     → IfErr result (λ refused. IsRefusedFrom (first + 1) (take (length specs - 1) (drop 1 specs)) refused.place refused.error) → IfErr result (λ refused. IsRefusedFrom first specs refused.place refused.error)
-refused_if first specs spec long is (Ok value) from = tt
-refused_if first specs spec long is (Err refused) from = refused_behind first specs spec refused.place refused.error long is from
+refused_if first specs spec long is built (Ok value) from = tt
+refused_if first specs spec long is built (Err refused) from = refused_behind first specs spec refused.place refused.error long is built from
+
+-- ---- boxes of a sort for the databases of the sort
+
+-- so many boxes of each sort have one for the first database
+left_for : (sort : LayerSort) (files trees packs a b c : ℕ) → one_if (is_sort File sort) + a ≤ files → one_if (is_sort Tree sort) + b ≤ trees → one_if (is_sort Pack sort) + c ≤ packs → 0 < of_sort sort files trees packs
+left_for File files trees packs a b c f t p = omega arith
+left_for Tree files trees packs a b c f t p = omega arith
+left_for Pack files trees packs a b c f t p = omega arith
+
+module _ (specs : List LayerSpec) (spec : LayerSpec) (long : 1 ≤ length specs) (is : spec ≡ get_or specs 0 spec) where
+  counted : (sort : LayerSort) → count_of sort specs ≡ one_if (is_sort sort spec.sort) + count_of sort (take (length specs - 1) (drop 1 specs))
+  counted sort = ap (λ (l : List LayerSpec). count_of sort l) (first_and_rest specs spec long is)
+      ∙ sum_by-cons (λ (s : LayerSpec). one_if (is_sort sort s.sort)) spec (take (length specs - 1) (drop 1 specs))
+
+  pub box_left : (files trees packs : ℕ) → count_of File specs ≤ files → count_of Tree specs ≤ trees → count_of Pack specs ≤ packs → 0 < of_sort spec.sort files trees packs
+  box_left files trees packs f t p =
+      left_for spec.sort files trees packs (count_of File (take (length specs - 1) (drop 1 specs))) (count_of Tree (take (length specs - 1) (drop 1 specs))) (count_of Pack (take (length specs - 1) (drop 1 specs)))
+      (subst (λ (n : ℕ). n ≤ files) (counted File) f) (subst (λ (n : ℕ). n ≤ trees) (counted Tree) t) (subst (λ (n : ℕ). n ≤ packs) (counted Pack) p)
+
+  pub boxes_left : (sort : LayerSort) (old new : ℕ) → count_of sort specs ≤ old → old ≡ new + one_if (is_sort sort spec.sort) → count_of sort (take (length specs - 1) (drop 1 specs)) ≤ new
+  boxes_left sort old new few taken =
+      let parts : count_of sort specs ≡ one_if (is_sort sort spec.sort) + count_of sort (take (length specs - 1) (drop 1 specs)) = counted sort in
+      omega arith
+
+  pub patterns_behind : has_patterns spec ≡ true → all_patterns (take (length specs - 1) (drop 1 specs)) ≡ true → all_patterns specs ≡ true
+  patterns_behind here later =
+      ap (λ (l : List LayerSpec). all_patterns l) (first_and_rest specs spec long is) ∙ ap (λ b. b && all_patterns (take (length specs - 1) (drop 1 specs))) here ∙ later

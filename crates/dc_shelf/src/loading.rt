@@ -18,7 +18,8 @@ pub fn load_all<F: Files>(
     layers: &mut [Box<dyn Layer>],
 ) -> Result<(), LoadError>
     requires { each state layers.old ≡ all_set_up specs.now }
-    ensures { LoadsAll specs.now (each state layers.old) (each state layers.new) (F.told files.old) (F.told files.new) (F.counts files.old) (F.counts files.new) result }
+    ensures { LoadsAll specs.now (each state layers.old) (each state layers.new)
+        (F.files files.old).view (F.files files.new).view (F.files files.old).counts (F.files files.new).counts result }
 {
     load_from(alloc, files, specs, layers, 0)
 }
@@ -33,7 +34,8 @@ fn load_from<F: Files>(
 ) -> Result<(), LoadError>
     requires same { length layers.old ≡ length specs.now }
     requires set { drop place (each state layers.old) ≡ all_set_up (drop place specs.now) }
-    ensures loads { LoadsAll (drop place specs.now) (drop place (each state layers.old)) (drop place (each state layers.new)) (F.told files.old) (F.told files.new) (F.counts files.old) (F.counts files.new) result }
+    ensures loads { LoadsAll (drop place specs.now) (drop place (each state layers.old)) (drop place (each state layers.new))
+        (F.files files.old).view (F.files files.new).view (F.files files.old).counts (F.files files.new).counts result }
     ensures kept { take place (each state layers.new) ≡ take place (each state layers.old) }
 {
     if place >= specs.len() {
@@ -56,7 +58,8 @@ fn load_at<F: Files>(
 ) -> Result<Loaded, LoadError>
     requires within { place < length layers.old }
     requires set { (layer : LayerState) → slice_get (each state layers.old) place ≡ Some layer → layer ≡ set_up (blank spec.now.sort) spec.now }
-    ensures { IsLoadedAt spec.now place (each state layers.old) (each state layers.new) (F.told files.old) (F.told files.new) (F.counts files.old) (F.counts files.new) result }
+    ensures { IsLoadedAt spec.now place (each state layers.old) (each state layers.new)
+        (F.files files.old).view (F.files files.new).view (F.files files.old).counts (F.files files.new).counts result }
 {
     let layer = &mut layers[place];
     load_one(alloc, files, spec, layer)
@@ -69,9 +72,9 @@ fn load_one<F: Files>(
     layer: &mut Box<dyn Layer>,
 ) -> Result<Loaded, LoadError>
     requires { state layer.old ≡ set_up (blank spec.now.sort) spec.now }
-    ensures loads { LoadsLayer (F.told files.old).disk spec.now (state layer.old) (state layer.new) result }
-    ensures files { LoadsFiles (F.told files.old) (F.told files.new) spec.now result }
-    ensures counts { LoadCounts spec.now (F.told files.old) (F.told files.new) result (F.counts files.old) (F.counts files.new) }
+    ensures loads { LoadsLayer (F.files files.old).view.disk spec.now (state layer.old) (state layer.new) result }
+    ensures files { LoadsFiles (F.files files.old).view (F.files files.new).view spec.now result }
+    ensures counts { LoadCounts spec.now (F.files files.old).view (F.files files.new).view result (F.files files.old).counts (F.files files.new).counts }
 {
     load(alloc, files, spec, layer)
 }

@@ -1,7 +1,7 @@
 // The shelf, and how its boxes are set up.
-ghost use Rattle.std.specs.Prelude.{◌≡◌, ◌≤◌, ◌<◌, ◌+◌, ◌++◌, ◌∷◌, [], length, IfErr, OnErr, OnOk, map as each};
+ghost use Rattle.std.specs.Prelude.{◌≡◌, ◌≤◌, ◌<◌, ◌+◌, ◌^◌, ◌++◌, ◌∷◌, [], length, true, IfErr, OnOk, map as each};
 ghost use Rattle.dc_layer.specs.State.{blank, set_up as set_up_with};
-ghost use Rattle.dc_shelf.specs.Shelves.{AreBlank, all_set_up, AreRefusedFor, IsRefusedAt, IsRefusedFrom};
+ghost use Rattle.dc_shelf.specs.Shelves.{AreBlank, all_set_up, has_patterns, all_patterns, count_of, is_sort, of_sort, one_if, AreRefusedFor, IsRefusedAt, IsRefusedFrom};
 
 use dc_conf::spec::{LayerSort, LayerSpec};
 use dc_layer::{Layer, PatternError};
@@ -42,6 +42,7 @@ impl Shelf {
         }
     }
 
+    #[tactic(auto, using(crate::proofs::ShelfLemmas::blank_behind))]
     /// Takes one more blank layer of each sort. Where memory fails it may have taken the first of them.
     pub fn take_each(
         &mut self,
@@ -63,9 +64,9 @@ impl Shelf {
         ensures count_packs { OnOk result (length self.new.packs.items ≡ length self.old.packs.items + 1) }
         ensures used { self.new.used.items ≡ self.old.used.items }
     {
-        put_file(&mut self.files, file)?;
-        put_tree(&mut self.trees, tree)?;
-        put_pack(&mut self.packs, pack)
+        put_behind(&mut self.files, file)?;
+        put_behind(&mut self.trees, tree)?;
+        put_behind(&mut self.packs, pack)
     }
 
     // A blank box of the sort, taken from the others.
@@ -73,16 +74,14 @@ impl Shelf {
         requires files { AreBlank File (each state self.old.files.items) }
         requires trees { AreBlank Tree (each state self.old.trees.items) }
         requires packs { AreBlank Pack (each state self.old.packs.items) }
-        requires some_files { 0 < length self.old.files.items }
-        requires some_trees { 0 < length self.old.trees.items }
-        requires some_packs { 0 < length self.old.packs.items }
+        requires some { 0 < of_sort sort (length self.old.files.items) (length self.old.trees.items) (length self.old.packs.items) }
         ensures taken { state result ≡ blank sort }
         ensures files { AreBlank File (each state self.new.files.items) }
         ensures trees { AreBlank Tree (each state self.new.trees.items) }
         ensures packs { AreBlank Pack (each state self.new.packs.items) }
-        ensures count_files { length self.old.files.items ≤ length self.new.files.items + 1 }
-        ensures count_trees { length self.old.trees.items ≤ length self.new.trees.items + 1 }
-        ensures count_packs { length self.old.packs.items ≤ length self.new.packs.items + 1 }
+        ensures count_files { length self.old.files.items ≡ length self.new.files.items + one_if (is_sort File sort) }
+        ensures count_trees { length self.old.trees.items ≡ length self.new.trees.items + one_if (is_sort Tree sort) }
+        ensures count_packs { length self.old.packs.items ≡ length self.new.packs.items + one_if (is_sort Pack sort) }
         ensures used { self.new.used.items ≡ self.old.used.items }
     {
         match sort {
@@ -93,39 +92,13 @@ impl Shelf {
     }
 }
 
-// One more blank layer in a file behind the others.
-#[tactic(auto, using(crate::proofs::ShelfLemmas::put_blank))]
-fn put_file(layers: &mut Vec<Box<dyn Layer>>, layer: Box<dyn Layer>) -> Mem<()>
-    requires blank { AreBlank LayerSort.File (each state layers.old.items) }
-    requires layer { state layer ≡ blank LayerSort.File }
-    ensures blank { OnOk result (AreBlank LayerSort.File (each state layers.new.items)) }
-    ensures count { OnOk result (length layers.new.items ≡ length layers.old.items + 1) }
+// One more box behind the others.
+#[tactic(auto, using(crate::proofs::ShelfLemmas::one_more))]
+fn put_behind(boxes: &mut Vec<Box<dyn Layer>>, layer: Box<dyn Layer>) -> Mem<()>
+    ensures layers { OnOk result (each state boxes.new.items ≡ each state boxes.old.items ++ state layer ∷ []) }
+    ensures count { OnOk result (length boxes.new.items ≡ length boxes.old.items + 1) }
 {
-    layers.push(layer)?;
-    Ok(())
-}
-
-// One more blank layer in a tree behind the others.
-#[tactic(auto, using(crate::proofs::ShelfLemmas::put_blank))]
-fn put_tree(layers: &mut Vec<Box<dyn Layer>>, layer: Box<dyn Layer>) -> Mem<()>
-    requires blank { AreBlank LayerSort.Tree (each state layers.old.items) }
-    requires layer { state layer ≡ blank LayerSort.Tree }
-    ensures blank { OnOk result (AreBlank LayerSort.Tree (each state layers.new.items)) }
-    ensures count { OnOk result (length layers.new.items ≡ length layers.old.items + 1) }
-{
-    layers.push(layer)?;
-    Ok(())
-}
-
-// One more blank layer in a pack behind the others.
-#[tactic(auto, using(crate::proofs::ShelfLemmas::put_blank))]
-fn put_pack(layers: &mut Vec<Box<dyn Layer>>, layer: Box<dyn Layer>) -> Mem<()>
-    requires blank { AreBlank LayerSort.Pack (each state layers.old.items) }
-    requires layer { state layer ≡ blank LayerSort.Pack }
-    ensures blank { OnOk result (AreBlank LayerSort.Pack (each state layers.new.items)) }
-    ensures count { OnOk result (length layers.new.items ≡ length layers.old.items + 1) }
-{
-    layers.push(layer)?;
+    boxes.push(layer)?;
     Ok(())
 }
 
@@ -142,17 +115,18 @@ fn take_last(layers: &mut Vec<Box<dyn Layer>>) -> Box<dyn Layer>
     }
 }
 
-/// Moves a blank box of the shelf into `used` for each database, in order, and sets it up.
+/// Moves a blank box of the shelf into `used` for each database, in order, and sets it up. The first whose patterns are refused is
+/// named.
 pub fn set_up_all(shelf: &mut Shelf, specs: &[LayerSpec]) -> Result<(), NotSetUp>
     requires files { AreBlank LayerSort.File (each state shelf.old.files.items) }
     requires trees { AreBlank LayerSort.Tree (each state shelf.old.trees.items) }
     requires packs { AreBlank LayerSort.Pack (each state shelf.old.packs.items) }
-    requires some_files { length specs.now ≤ length shelf.old.files.items }
-    requires some_trees { length specs.now ≤ length shelf.old.trees.items }
-    requires some_packs { length specs.now ≤ length shelf.old.packs.items }
-    requires few { length specs.now ≤ 16 }
+    requires some_files { count_of LayerSort.File specs.now ≤ length shelf.old.files.items }
+    requires some_trees { count_of LayerSort.Tree specs.now ≤ length shelf.old.trees.items }
+    requires some_packs { count_of LayerSort.Pack specs.now ≤ length shelf.old.packs.items }
     requires used { shelf.old.used.items ≡ [] }
     ensures ok { OnOk result (each state shelf.new.used.items ≡ all_set_up specs.now) }
+    ensures built { OnOk result (all_patterns specs.now ≡ true) }
     ensures refused { IfErr result (λ refused. IsRefusedAt specs.now refused.place refused.error) }
 {
     set_up_from(shelf, specs, 0)
@@ -163,11 +137,12 @@ fn set_up_from(shelf: &mut Shelf, specs: &[LayerSpec], place: usize) -> Result<(
     requires files { AreBlank LayerSort.File (each state shelf.old.files.items) }
     requires trees { AreBlank LayerSort.Tree (each state shelf.old.trees.items) }
     requires packs { AreBlank LayerSort.Pack (each state shelf.old.packs.items) }
-    requires some_files { length specs.now ≤ length shelf.old.files.items }
-    requires some_trees { length specs.now ≤ length shelf.old.trees.items }
-    requires some_packs { length specs.now ≤ length shelf.old.packs.items }
-    requires few { place + length specs.now ≤ 16 }
+    requires some_files { count_of LayerSort.File specs.now ≤ length shelf.old.files.items }
+    requires some_trees { count_of LayerSort.Tree specs.now ≤ length shelf.old.trees.items }
+    requires some_packs { count_of LayerSort.Pack specs.now ≤ length shelf.old.packs.items }
+    requires fits { place + length specs.now < 2 ^ 64 }
     ensures ok { OnOk result (each state shelf.new.used.items ≡ each state shelf.old.used.items ++ all_set_up specs.now) }
+    ensures built { OnOk result (all_patterns specs.now ≡ true) }
     ensures refused { IfErr result (λ refused. IsRefusedFrom place specs.now refused.place refused.error) }
 {
     match specs {
@@ -190,16 +165,17 @@ fn set_up_into(
 ) -> Result<(), PatternError>
     requires blank { state layer ≡ blank spec.now.sort }
     ensures ok { OnOk result (each state used.new.items ≡ each state used.old.items ++ set_up_with (blank spec.now.sort) spec.now ∷ []) }
+    ensures built { OnOk result (has_patterns spec.now ≡ true) }
     ensures err { IfErr result (AreRefusedFor spec.now) }
 {
     let mut layer = layer;
     match set_up_box(&mut layer, spec) {
-        Ok(()) => match used.push(layer) {
+        Ok(()) => match put_behind(used, layer) {
             Ok(()) => Ok(()),
             Err(_) => Err(PatternError::OutOfMemory),
         },
         Err(error) => {
-            let _ = used.push(layer);
+            let _ = put_behind(used, layer);
             Err(error)
         }
     }
@@ -208,6 +184,7 @@ fn set_up_into(
 fn set_up_box(layer: &mut Box<dyn Layer>, spec: &LayerSpec) -> Result<(), PatternError>
     requires blank { state layer.old ≡ blank spec.now.sort }
     ensures ok { OnOk result (state layer.new ≡ set_up_with (blank spec.now.sort) spec.now) }
+    ensures built { OnOk result (has_patterns spec.now ≡ true) }
     ensures err { IfErr result (AreRefusedFor spec.now) }
 {
     match spec.copied() {

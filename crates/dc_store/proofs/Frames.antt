@@ -1,10 +1,11 @@
 -- What no write changes.
-use Rattle.std.proofs.Common.{◌≡◌, ℕ, zero, suc, false, cond, List, [], ◌∷◌, Option, Some, None, refl, sym, ap, subst, ◌∙◌}
+use Rattle.std.proofs.Common.{◌≡◌, ℕ, zero, suc, false, cond, List, [], ◌∷◌, length, map, Option, Some, None, refl, sym, ap, subst, ◌∙◌}
 use Rattle.std.specs.Prelude.{unwrap_or, option_map, ◌++◌}
 use Rattle.std.specs.declared.cmp.Ordering.TheVariants.{Less, Equal, Greater}
 use Rattle.std.specs.Ordering.{is_eq, eq_by_cmp}
 use Rattle.std.specs.Cmp.Lexicographic.{nat_list_cmp_total}
-use Rattle.std.specs.FinMap as map
+use Rattle.std.proofs.lemmas.List.{length-map}
+use Rattle.std.specs.FinMap as fin_map
 use Rattle.dc_text.specs.Maps.{text_cmp}
 use Rattle.dc_conf.specs.declared.plans.Base.{Base}
 use Rattle.dc_conf.specs.declared.plans.Plan.{Plan}
@@ -17,7 +18,7 @@ use Rattle.dc_layer.specs.State.{LayerState, with_made}
 use Rattle.dc_store.specs.Holders.{look_of}
 use Rattle.dc_conf.specs.Plans.{places}
 use Rattle.dc_store.specs.Plans.{StoreState, stored, backup_op, tried, backed_up, told_line, write}
-use Rattle.dc_store.specs.StoreLaws.{IsSameBut, AreSameBut}
+use Rattle.dc_store.specs.StoreLaws.{IsSameBut, AreSameBut, IsSameStoreBut}
 use Rattle.dc_store.specs.Writes.{copy_target, put_at, writable_holder, by_case, write_of}
 
 -- names that differ don't tie
@@ -25,7 +26,7 @@ apart : (q k : List ℕ) → (q ≡ k → ⊥) → eq_by_cmp text_cmp q k ≡ fa
 apart q k other =
     elim (text_cmp q k) as (λ o. text_cmp q k ≡ o → is_eq o ≡ false) [
       | Less ↦ λ _. refl
-      | Equal ↦ λ e. absurd (other (map.slice_cmp-IsAntisymmetric map.nat_cmp-IsAntisymmetric q k e))
+      | Equal ↦ λ e. absurd (other (fin_map.slice_cmp-IsAntisymmetric fin_map.nat_cmp-IsAntisymmetric q k e))
       | Greater ↦ λ _. refl
     ] refl
 
@@ -60,14 +61,14 @@ made_same n l (Changed item) = record {
   spec = refl;
   left_out = refl;
   text = refl;
-  items = λ other d. map.get-insert nat_list_cmp_total l.table n item other ∙ ap (λ b. cond b (Some item) (map.get l.table other)) (apart other n d);
+  items = λ other d. fin_map.get-insert nat_list_cmp_total l.table n item other ∙ ap (λ b. cond b (Some item) (fin_map.get l.table other)) (apart other n d);
 }
 made_same n l Gone = record {
   sort = refl;
   spec = refl;
   left_out = refl;
   text = refl;
-  items = λ other d. map.get-remove nat_list_cmp_total l.table n other ∙ ap (λ b. cond b None (map.get l.table other)) (apart other n d);
+  items = λ other d. fin_map.get-remove nat_list_cmp_total l.table n other ∙ ap (λ b. cond b None (fin_map.get l.table other)) (apart other n d);
 }
 
 pub put_same : (n : List ℕ) (ls : List LayerState) (p : ℕ) (made : After) → AreSameBut n ls (put_at ls p n made)
@@ -103,6 +104,20 @@ tried_keeps ls ps n k (Some op) = or_same n ls (write_of ls ps n k op) (λ new h
 pub backed_up_keeps : (ls : List LayerState) (base : Base) (backup : Option Base) (n : List ℕ) (k : Option Kind) → AreSameBut n ls (backed_up ls base backup n k)
 backed_up_keeps ls base None n k = same_layers n ls
 backed_up_keeps ls base (Some backup) n k = tried_keeps ls (places backup) n k (backup_op (look_of ls (places base) n) (look_of ls (places backup) n))
+
+-- layers that are the same but for one item are as many
+as_many : (n : List ℕ) (xs ys : List LayerState) → AreSameBut n xs ys → length ys ≡ length xs
+as_many n [] [] same = refl
+as_many n [] (y ∷ ys) same = absurd same
+as_many n (x ∷ xs) [] same = absurd same
+as_many n (x ∷ xs) (y ∷ ys) same = ap suc (as_many n xs ys same.1)
+
+pub framed : (n : List ℕ) (old new : StoreState) → AreSameBut n old.layers new.layers → IsSameStoreBut n old new
+framed n old new same = record { others = same; count = as_many n old.layers new.layers same }
+
+-- as many layers have as many boxes
+pub same_count : {A : Type 0} (f : A → LayerState) (xs ys : List A) → length (map f ys) ≡ length (map f xs) → length ys ≡ length xs
+same_count f xs ys same = sym (length-map ys f) ∙ same ∙ length-map xs f
 
 -- from equations that a contract gives
 pub kept : (n : List ℕ) (ls new : List LayerState) → new ≡ ls → AreSameBut n ls new

@@ -1,5 +1,5 @@
 -- Rows of writes.
-use Rattle.std.proofs.Common.{◌≡◌, ℕ, suc, Bool, true, false, not, List, [], ◌∷◌, ◌++◌, Option, Some, None, is_some, refl, sym, ap, subst, ◌∙◌, arith}
+use Rattle.std.proofs.Common.{◌≡◌, ℕ, suc, Bool, true, false, not, List, [], ◌∷◌, ◌++◌, length, Option, Some, None, is_some, refl, sym, ap, subst, ◌∙◌, arith}
 use Rattle.std.specs.Prelude.{◌||◌, option_map, unwrap_or, if◌then◌else◌}
 use Rattle.std.specs.List.{All, Contains, list_any}
 use Rattle.std.proofs.Math.ListN.{get_or}
@@ -8,7 +8,7 @@ use Rattle.dc_layer.specs.State.{LayerState}
 use Rattle.dc_conf.specs.Plans.{places}
 use Rattle.dc_store.specs.Plans.{StoreState, stored, backed_up, told_line, write}
 use Rattle.dc_store.specs.Batches.{Write, AllDistinct, names_of, is_refused, all_done, commit}
-use Rattle.dc_store.specs.StoreLaws.{AreSameBut, AreSameButAll}
+use Rattle.dc_store.specs.StoreLaws.{AreSameBut, AreSameButAll, IsSameStoreButAll}
 use Rattle.dc_store.specs.Writes.{write_of}
 use Rattle.dc_store.proofs.TestLemmas.{tests_apart}
 
@@ -73,6 +73,18 @@ same_all ns n (x ∷ xs) (y ∷ ys) in' s = (
 pub same_all_refl : (ns : List (List ℕ)) (xs : List LayerState) → AreSameButAll ns xs xs
 same_all_refl ns [] = tt
 same_all_refl ns (x ∷ xs) = (record { sort = refl; spec = refl; left_out = refl; text = refl; items = λ other out. refl }, same_all_refl ns xs)
+
+all_as_many : (ns : List (List ℕ)) (xs ys : List LayerState) → AreSameButAll ns xs ys → length ys ≡ length xs
+all_as_many ns [] [] same = refl
+all_as_many ns [] (y ∷ ys) same = absurd same
+all_as_many ns (x ∷ xs) [] same = absurd same
+all_as_many ns (x ∷ xs) (y ∷ ys) same = ap suc (all_as_many ns xs ys same.1)
+
+pub all_framed : (ns : List (List ℕ)) (old new : StoreState) → AreSameButAll ns old.layers new.layers → IsSameStoreButAll ns old new
+all_framed ns old new same = record { others = same; count = all_as_many ns old.layers new.layers same }
+
+pub same_store_refl : (ns : List (List ℕ)) (store : StoreState) → IsSameStoreButAll ns store store
+same_store_refl ns store = record { others = same_all_refl ns store.layers; count = refl }
 
 pub same_all_then : (ns : List (List ℕ)) (xs ys zs : List LayerState) → AreSameButAll ns xs ys → AreSameButAll ns ys zs → AreSameButAll ns xs zs
 same_all_then ns [] [] [] p q = tt

@@ -30,10 +30,14 @@ names_for name (Names others) = others
 abbrev pub is_refused : List LayerState → Write → Bool
 is_refused layers w = not (would_take layers w.plan w.name w.kind w.op)
 
+-- what the write leaves, unless it is refused
+abbrev pub write_done : StoreState → Write → Option StoreState
+write_done store w = write store w.plan w.name w.kind w.op
+
 -- the writes done in order, of which one that is refused changes nothing
 abbrev pub all_done : StoreState → List Write → StoreState
 all_done store [] = store
-all_done store (w ∷ batch) = all_done (unwrap_or (write store w.plan w.name w.kind w.op) store) batch
+all_done store (w ∷ batch) = all_done (unwrap_or (write_done store w) store) batch
 
 -- A row of writes: each is tested on the layers before the row, and all are done in order, or none where one is refused.
 abbrev pub commit : StoreState → List Write → Option StoreState

@@ -1,7 +1,8 @@
+pub mod Batches
 pub mod Holders
-pub mod Targets
 pub mod Listings
 pub mod Plans
-pub mod Batches
 pub mod StoreLaws
+pub mod Targets
+pub mod Views
 pub mod Writes

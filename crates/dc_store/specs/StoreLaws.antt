@@ -1,5 +1,5 @@
 -- What a write leaves as it was, and where it changes something.
-use Rattle.std.specs.Prelude.{◌≡◌, ℕ, true, false, List, [], ◌∷◌, ◌++◌, ◌⊎◌, Option, Some, None, slice_get}
+use Rattle.std.specs.Prelude.{◌≡◌, ℕ, true, false, List, [], ◌∷◌, ◌++◌, ◌⊎◌, Option, Some, None, length, slice_get}
 use Rattle.std.specs.List.{All, Contains}
 use Rattle.std.specs.FinMap as map
 use Rattle.dc_item.specs.After.{after_at}
@@ -9,6 +9,7 @@ use Rattle.dc_item.specs.declared.op.After.TheVariants.{Same, Gone}
 use Rattle.dc_template.specs.declared.kinds.Kind.{Kind}
 use Rattle.dc_layer.specs.State.{LayerState, is_writable, admits, with_made}
 use Rattle.dc_store.specs.Holders.{has_at, look_of}
+use Rattle.dc_store.specs.Plans.{StoreState}
 use Rattle.dc_store.specs.Writes.{change_at, writable_holder, copy_target}
 
 -- two states of a layer differ in the item of one name, and in which names were touched, alone
@@ -40,6 +41,16 @@ AreSameButAll names [] [] = Unit {0}
 AreSameButAll names [] (new ∷ news) = ⊥
 AreSameButAll names (old ∷ olds) [] = ⊥
 AreSameButAll names (old ∷ olds) (new ∷ news) = IsSameButAll names old new × AreSameButAll names olds news
+
+-- two states of a store, which has as many layers, differ in the item of one name, in which names were touched, and in what was told, alone
+pub record IsSameStoreBut (name : List ℕ) (old new : StoreState) : Type 0 where
+  pub others : AreSameBut name old.layers new.layers
+  pub count : length new.layers ≡ length old.layers
+
+-- the same of the items of some names
+pub record IsSameStoreButAll (names : List (List ℕ)) (old new : StoreState) : Type 0 where
+  pub others : AreSameButAll names old.layers new.layers
+  pub count : length new.layers ≡ length old.layers
 
 -- the place is the topmost whose layer has the item
 pub record IsTopmost (layers : List LayerState) (places : List ℕ) (name : List ℕ) (place : ℕ) : Type 0 where

@@ -60,6 +60,10 @@ by_case layers (Some holder) copy_target name Gone = Some (put_at layers holder 
 by_case layers None copy_target name Gone = None
 by_case layers None copy_target name (Changed item) = put_up layers copy_target name item
 
+-- the same where no writable layer has the item
+abbrev pub by_copy : List LayerState → List ℕ → List ℕ → Option Kind → After → Option (List LayerState)
+by_copy layers places name kind made = by_case layers None (copy_target layers places name kind) name made
+
 -- A write of an operation on the item of a name, of which the kind may be known.
 abbrev pub write_of : List LayerState → List ℕ → List ℕ → Option Kind → Op → Option (List LayerState)
 write_of layers places name kind op =

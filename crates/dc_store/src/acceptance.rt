@@ -4,7 +4,7 @@ ghost use Rattle.dc_conf.specs.Plans.{AreWithin};
 ghost use Rattle.dc_item.specs.After.{after_none, effect_of};
 ghost use Rattle.dc_item.specs.declared.op.After.{After as AfterOf};
 ghost use Rattle.dc_store.specs.Holders.{holder_of};
-ghost use Rattle.dc_store.specs.Writes.{by_case, can_change_of, copy_target, write_of};
+ghost use Rattle.dc_store.specs.Writes.{by_copy, can_change_of, write_of};
 
 use crate::boxes::is_open_at;
 use crate::search::{copy_target_in, find_in};
@@ -81,7 +81,7 @@ fn would_make_in(
 ) -> Mem<bool>
     requires within { AreWithin places.now (length layers.now) }
     requires none { None ≡ holder_of (each state layers.now) places.now name.now }
-    ensures { IfOk result (λ is. is ≡ is_some (by_case (each state layers.now) None (copy_target (each state layers.now) places.now name.now kind) name.now (after_none op.now))) }
+    ensures { IfOk result (λ is. is ≡ is_some (by_copy (each state layers.now) places.now name.now kind (after_none op.now))) }
 {
     if !is_put_op(op) {
         return Ok(true);
@@ -100,7 +100,7 @@ fn would_copy_in(
 ) -> Mem<bool>
     requires within { AreWithin places.now (length layers.now) }
     requires holder { Some holder ≡ holder_of (each state layers.now) places.now name.now }
-    ensures { IfOk result (λ is. (made : AfterOf) → effect ≡ effect_of made → is ≡ is_some (by_case (each state layers.now) None (copy_target (each state layers.now) places.now name.now kind) name.now made)) }
+    ensures { IfOk result (λ is. (made : AfterOf) → effect ≡ effect_of made → is ≡ is_some (by_copy (each state layers.now) places.now name.now kind made)) }
 {
     match effect {
         Effect::Same => Ok(true),

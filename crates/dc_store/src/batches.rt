@@ -5,11 +5,12 @@ ghost use Rattle.std.specs.Option.{option_copied};
 ghost use Rattle.std.specs.Str.{bytes_eq};
 ghost use Rattle.dc_conf.specs.Plans.{IsOver, places as places_of};
 ghost use Rattle.dc_item.specs.declared.op.Op.TheVariants.{Put};
-ghost use Rattle.dc_store.specs.Plans.{write as write_of, stored, would_take};
-ghost use Rattle.dc_store.specs.Batches.{is_refused, refused_names, first_refused, all_done, commit, AllDistinct, AreOver, names_of};
-ghost use Rattle.dc_layer.specs.State.{LayerState, made_at, refusal, with_made};
+ghost use Rattle.dc_store.specs.Plans.{write as write_of, would_take};
+ghost use Rattle.dc_store.specs.Batches.{is_refused, refused_names, first_refused, write_done, all_done, commit, AllDistinct, AreOver, names_of};
+ghost use Rattle.dc_layer.specs.State.{LayerState, after_change, refusal};
 ghost use Rattle.dc_store.specs.Targets.{IsTarget, AreTargets, LandsAt};
-ghost use Rattle.dc_store.specs.StoreLaws.{AreSameBut, AreSameButAll};
+ghost use Rattle.dc_store.specs.StoreLaws.{IsSameStoreBut, IsSameStoreButAll};
+ghost use Rattle.dc_store.specs.Views.{store_of};
 ghost use Rattle.dc_store.specs.Writes.{change_at, put_target};
 
 use crate::bases::places;
@@ -25,18 +26,16 @@ use dc_template::Kind;
 use dc_text::{List, Mem, Name, OutOfMemory};
 
 impl Store {
-    #[tactic(auto, using(crate::proofs::RowLemmas::same_all_refl))]
     /// Does all the writes in order, or none where one of them would be refused. They are on different items. They are taken out of
     /// the row where they are done, and stay in it after a refusal.
     pub fn commit(&mut self, batch: &mut Batch<'_>) -> Result<(), StoreError>
         requires over { AreOver batch.old (length self.old.layers.items) }
         requires distinct { AllDistinct batch.old }
-        ensures ok { OnOk result (commit (stored (each state self.old.layers.items) self.old.told) batch.old ≡ Some (stored (each state self.new.layers.items) self.new.told)) }
-        ensures refused { result ≡ Err StoreError.Refused → commit (stored (each state self.old.layers.items) self.old.told) batch.old ≡ None }
-        ensures unchanged { result ≡ Err StoreError.Refused → stored (each state self.new.layers.items) self.new.told ≡ stored (each state self.old.layers.items) self.old.told }
+        ensures ok { OnOk result (commit (store_of state self.old) batch.old ≡ Some (store_of state self.new)) }
+        ensures refused { result ≡ Err StoreError.Refused → commit (store_of state self.old) batch.old ≡ None }
+        ensures unchanged { result ≡ Err StoreError.Refused → store_of state self.new ≡ store_of state self.old }
         ensures stays { result ≡ Err StoreError.Refused → batch.new ≡ batch.old }
-        ensures others { AreSameButAll (names_of batch.old) (each state self.old.layers.items) (each state self.new.layers.items) }
-        ensures count { length self.new.layers.items ≡ length self.old.layers.items }
+        ensures frame { IsSameStoreButAll (names_of batch.old) (store_of state self.old) (store_of state self.new) }
     {
         let Some(targets) = self.targets(batch.as_slice())? else {
             return Err(StoreError::Refused);
@@ -48,9 +47,9 @@ impl Store {
     // Where the writes land, or nothing where one of them would be refused.
     fn targets(&self, batch: &[Write<'_>]) -> Mem<Option<Vec<Target>>>
         requires { AreOver batch.now (length self.now.layers.items) }
-        ensures refused { result ≡ Ok None → list_any (is_refused (each state self.now.layers.items)) batch.now ≡ true }
-        ensures taken { IfOk result (λ found. IfSome found (λ _. list_any (is_refused (each state self.now.layers.items)) batch.now ≡ false)) }
-        ensures targets { IfOk result (λ found. IfSome found (λ targets. AreTargets (each state self.now.layers.items) batch.now targets.items)) }
+        ensures refused { result ≡ Ok None → list_any (is_refused (store_of state self.now).layers) batch.now ≡ true }
+        ensures taken { IfOk result (λ found. IfSome found (λ _. list_any (is_refused (store_of state self.now).layers) batch.now ≡ false)) }
+        ensures targets { IfOk result (λ found. IfSome found (λ targets. AreTargets (store_of state self.now).layers batch.now targets.items)) }
     {
         let mut targets = Vec::with_capacity(self.alloc, batch.len())?;
         for write in batch {
@@ -65,7 +64,7 @@ impl Store {
     // Where the write lands.
     fn put_target(&self, write: &Write<'_>) -> Mem<Target>
         requires { IsOver write.now.plan (length self.now.layers.items) }
-        ensures { IfOk result (λ found. IsTarget (each state self.now.layers.items) write.now found) }
+        ensures { IfOk result (λ found. IsTarget (store_of state self.now).layers write.now found) }
     {
         if let (Op::Put(_), None, false) = (&write.op, &write.plan.backup, write.plan.debug) {
             if let Some(place) = self.landing_of(write)? {
@@ -90,7 +89,7 @@ impl Store {
     /// The first of the names for which a write of the row would be refused.
     pub fn first_refused<'n>(&self, names: &'n [Name], batch: &[Write<'_>]) -> Mem<Option<&'n Name>>
         requires { AreOver batch.now (length self.now.layers.items) }
-        ensures { IfOk result (λ found. option_copied found ≡ first_refused (each state self.now.layers.items) names.now batch.now) }
+        ensures { IfOk result (λ found. option_copied found ≡ first_refused (store_of state self.now).layers names.now batch.now) }
     {
         let held = self.refused_names(batch)?;
         for name in names {
@@ -104,7 +103,7 @@ impl Store {
     // The names for which a write of the row would be refused.
     fn refused_names(&self, batch: &[Write<'_>]) -> Mem<List<Name>>
         requires { AreOver batch.now (length self.now.layers.items) }
-        ensures { IfOk result (λ names. names ≡ refused_names (each state self.now.layers.items) batch.now) }
+        ensures { IfOk result (λ names. names ≡ refused_names (store_of state self.now).layers batch.now) }
     {
         let mut names = List::new(self.alloc);
         for write in batch {
@@ -117,7 +116,7 @@ impl Store {
 
     fn refuses(&self, write: &Write<'_>) -> Mem<bool>
         requires { IsOver write.now.plan (length self.now.layers.items) }
-        ensures { IfOk result (λ is. is ≡ is_refused (each state self.now.layers.items) write.now) }
+        ensures { IfOk result (λ is. is ≡ is_refused (store_of state self.now).layers write.now) }
     {
         Ok(!self.would_take(write.plan, &write.name, write.kind, &write.op)?)
     }
@@ -126,11 +125,10 @@ impl Store {
     fn do_all(&mut self, batch: Vec<Write<'_>>, targets: &[Target]) -> Mem<()>
         requires over { AreOver batch.items (length self.old.layers.items) }
         requires distinct { AllDistinct batch.items }
-        requires taken { list_any (is_refused (each state self.old.layers.items)) batch.items ≡ false }
-        requires targets { AreTargets (each state self.old.layers.items) batch.items targets.now }
-        ensures ok { OnOk result (all_done (stored (each state self.old.layers.items) self.old.told) batch.entry.items ≡ stored (each state self.new.layers.items) self.new.told) }
-        ensures others { AreSameButAll (names_of batch.entry.items) (each state self.old.layers.items) (each state self.new.layers.items) }
-        ensures count { length self.new.layers.items ≡ length self.old.layers.items }
+        requires taken { list_any (is_refused (store_of state self.old).layers) batch.items ≡ false }
+        requires targets { AreTargets (store_of state self.old).layers batch.items targets.now }
+        ensures ok { OnOk result (all_done (store_of state self.old) batch.entry.items ≡ store_of state self.new) }
+        ensures frame { IsSameStoreButAll (names_of batch.entry.items) (store_of state self.old) (store_of state self.new) }
     {
         let mut writes = batch.into_iter();
         let mut rest = targets;
@@ -145,11 +143,10 @@ impl Store {
     // Does a write that isn't refused, and that lands there if its landing is told.
     fn do_one(&mut self, write: Write<'_>, put_target: Option<Target>) -> Mem<()>
         requires over { IsOver write.plan (length self.old.layers.items) }
-        requires taken { is_refused (each state self.old.layers.items) write ≡ false }
-        requires put_target { IfSome put_target (IsTarget (each state self.old.layers.items) write) }
-        ensures ok { OnOk result (write_of (stored (each state self.old.layers.items) self.old.told) write.entry.plan write.entry.name write.entry.kind write.entry.op ≡ Some (stored (each state self.new.layers.items) self.new.told)) }
-        ensures others { AreSameBut write.entry.name (each state self.old.layers.items) (each state self.new.layers.items) }
-        ensures count { length self.new.layers.items ≡ length self.old.layers.items }
+        requires taken { is_refused (store_of state self.old).layers write ≡ false }
+        requires put_target { IfSome put_target (IsTarget (store_of state self.old).layers write) }
+        ensures ok { OnOk result (write_done (store_of state self.old) write.entry ≡ Some (store_of state self.new)) }
+        ensures frame { IsSameStoreBut write.entry.name (store_of state self.old) (store_of state self.new) }
     {
         match put_target {
             Some(Target::At(place)) => self.land(place, write),
@@ -160,10 +157,9 @@ impl Store {
     // Does a write that lands at the place. Its item isn't copied.
     fn land(&mut self, place: usize, write: Write<'_>) -> Mem<()>
         requires over { IsOver write.plan (length self.old.layers.items) }
-        requires lands { LandsAt (each state self.old.layers.items) write place }
-        ensures ok { OnOk result (write_of (stored (each state self.old.layers.items) self.old.told) write.entry.plan write.entry.name write.entry.kind write.entry.op ≡ Some (stored (each state self.new.layers.items) self.new.told)) }
-        ensures others { AreSameBut write.entry.name (each state self.old.layers.items) (each state self.new.layers.items) }
-        ensures count { length self.new.layers.items ≡ length self.old.layers.items }
+        requires lands { LandsAt (store_of state self.old).layers write place }
+        ensures ok { OnOk result (write_done (store_of state self.old) write.entry ≡ Some (store_of state self.new)) }
+        ensures frame { IsSameStoreBut write.entry.name (store_of state self.old) (store_of state self.new) }
     {
         let Write {
             plan: _,
@@ -185,7 +181,8 @@ impl Store {
     fn put_at(&mut self, place: usize, name: Name, item: Item) -> Mem<()>
         requires within { place < length self.old.layers.items }
         requires taken { (layer : LayerState) → slice_get (each state self.old.layers.items) place ≡ Some layer → refusal layer name (Put item) ≡ None }
-        ensures ok { OnOk result (each state self.new.layers.items ≡ change_at (each state self.old.layers.items) place (λ layer. with_made layer name (made_at layer name (Put item)))) }
+        ensures ok { OnOk result (each state self.new.layers.items ≡ change_at (each state self.old.layers.items) place
+            (λ layer. after_change layer name (Put item))) }
         ensures err { OnErr result (each state self.new.layers.items ≡ each state self.old.layers.items) }
         ensures told { self.new.told ≡ self.old.told }
         ensures count { length self.new.layers.items ≡ length self.old.layers.items }
@@ -196,10 +193,9 @@ impl Store {
     // Does an operation, by a write that isn't refused.
     fn do_op(&mut self, plan: &Plan, name: &Name, kind: Option<Kind>, op: &Op) -> Mem<()>
         requires over { IsOver plan.now (length self.old.layers.items) }
-        requires taken { would_take (each state self.old.layers.items) plan.now name.now kind op.now ≡ true }
-        ensures ok { OnOk result (write_of (stored (each state self.old.layers.items) self.old.told) plan.now name.now kind op.now ≡ Some (stored (each state self.new.layers.items) self.new.told)) }
-        ensures others { AreSameBut name.now (each state self.old.layers.items) (each state self.new.layers.items) }
-        ensures count { length self.new.layers.items ≡ length self.old.layers.items }
+        requires taken { would_take (store_of state self.old).layers plan.now name.now kind op.now ≡ true }
+        ensures ok { OnOk result (write_of (store_of state self.old) plan.now name.now kind op.now ≡ Some (store_of state self.new)) }
+        ensures frame { IsSameStoreBut name.now (store_of state self.old) (store_of state self.new) }
     {
         match self.change(plan, name, kind, op) {
             Ok(()) => Ok(()),

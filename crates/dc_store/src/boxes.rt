@@ -3,7 +3,7 @@ ghost use Rattle.std.specs.Prelude.{◌≡◌, ◌<◌, Some, None, Ok, IfOk, On
 ghost use Rattle.std.specs.FinMap as map;
 ghost use Rattle.std.specs.Option.{option_copied};
 ghost use Rattle.dc_item.specs.declared.op.Op.TheVariants.{Put};
-ghost use Rattle.dc_layer.specs.State.{LayerState, is_writable, is_put, admits, with_made, made_at, refusal, owned};
+ghost use Rattle.dc_layer.specs.State.{LayerState, is_writable, is_put, admits, after_change, refusal, owned};
 ghost use Rattle.dc_store.specs.Holders.{item_at as item_of, has_at as has_of};
 ghost use Rattle.dc_store.specs.Listings.{owned_at as owned_of};
 ghost use Rattle.dc_store.specs.Plans.{names_at as names_of};
@@ -53,7 +53,7 @@ fn owned_in(layer: &Box<dyn Layer>, owner: &Name) -> Mem<List<Name>>
 // Changes a layer that takes the change.
 fn change(layer: &mut Box<dyn Layer>, name: &Name, op: &Op) -> Mem<()>
     requires { refusal (state layer.old) name.now op.now ≡ None }
-    ensures ok { OnOk result (state layer.new ≡ with_made (state layer.old) name.now (made_at (state layer.old) name.now op.now)) }
+    ensures ok { OnOk result (state layer.new ≡ after_change (state layer.old) name.now op.now) }
     ensures err { OnErr result (state layer.new ≡ state layer.old) }
 {
     match layer.change(name, op) {
@@ -66,7 +66,7 @@ fn change(layer: &mut Box<dyn Layer>, name: &Name, op: &Op) -> Mem<()>
 // Puts an item to a layer that takes it.
 fn put(layer: &mut Box<dyn Layer>, name: Name, item: Item) -> Mem<()>
     requires { refusal (state layer.old) name (Put item) ≡ None }
-    ensures ok { OnOk result (state layer.new ≡ with_made (state layer.old) name (made_at (state layer.old) name (Put item))) }
+    ensures ok { OnOk result (state layer.new ≡ after_change (state layer.old) name (Put item)) }
     ensures err { OnErr result (state layer.new ≡ state layer.old) }
 {
     match layer.put(name, item) {
@@ -82,7 +82,7 @@ fn try_change(layer: &mut Box<dyn Layer>, name: &Name, op: &Op) -> Mem<bool>
     requires { is_put op.now ≡ false }
     ensures writable { result ≡ Ok true → is_writable (state layer.old) ≡ true }
     ensures there { result ≡ Ok true → map.contains_key (state layer.old).table name.now ≡ true }
-    ensures done { result ≡ Ok true → state layer.new ≡ with_made (state layer.old) name.now (made_at (state layer.old) name.now op.now) }
+    ensures done { result ≡ Ok true → state layer.new ≡ after_change (state layer.old) name.now op.now }
     ensures not_taken { result ≡ Ok false → state layer.new ≡ state layer.old }
     ensures err { OnErr result (state layer.new ≡ state layer.old) }
 {
@@ -151,7 +151,7 @@ pub fn owned_at(layers: &[Box<dyn Layer>], place: usize, owner: &Name) -> Mem<Li
 pub fn change_in(layers: &mut [Box<dyn Layer>], place: usize, name: &Name, op: &Op) -> Mem<()>
     requires within { place < length layers.old }
     requires taken { (layer : LayerState) → slice_get (each state layers.old) place ≡ Some layer → refusal layer name.now op.now ≡ None }
-    ensures ok { OnOk result (each state layers.new ≡ change_at (each state layers.old) place (λ layer. with_made layer name.now (made_at layer name.now op.now))) }
+    ensures ok { OnOk result (each state layers.new ≡ change_at (each state layers.old) place (λ layer. after_change layer name.now op.now)) }
     ensures err { OnErr result (each state layers.new ≡ each state layers.old) }
 {
     let layer = &mut layers[place];
@@ -165,7 +165,7 @@ pub fn change_in(layers: &mut [Box<dyn Layer>], place: usize, name: &Name, op: &
 pub fn land_in(layers: &mut [Box<dyn Layer>], place: usize, name: Name, item: Item) -> Mem<()>
     requires within { place < length layers.old }
     requires taken { (layer : LayerState) → slice_get (each state layers.old) place ≡ Some layer → refusal layer name (Put item) ≡ None }
-    ensures ok { OnOk result (each state layers.new ≡ change_at (each state layers.old) place (λ layer. with_made layer name (made_at layer name (Put item)))) }
+    ensures ok { OnOk result (each state layers.new ≡ change_at (each state layers.old) place (λ layer. after_change layer name (Put item))) }
     ensures err { OnErr result (each state layers.new ≡ each state layers.old) }
 {
     let layer = &mut layers[place];
@@ -182,7 +182,7 @@ pub fn try_change_in(layers: &mut [Box<dyn Layer>], place: usize, name: &Name, o
     requires change { is_put op.now ≡ false }
     ensures writable { result ≡ Ok true → writable_of (each state layers.old) place ≡ true }
     ensures there { result ≡ Ok true → has_of (each state layers.old) name.now place ≡ true }
-    ensures done { result ≡ Ok true → each state layers.new ≡ change_at (each state layers.old) place (λ layer. with_made layer name.now (made_at layer name.now op.now)) }
+    ensures done { result ≡ Ok true → each state layers.new ≡ change_at (each state layers.old) place (λ layer. after_change layer name.now op.now) }
     ensures not_taken { result ≡ Ok false → each state layers.new ≡ each state layers.old }
     ensures err { OnErr result (each state layers.new ≡ each state layers.old) }
 {

@@ -2,9 +2,10 @@
 ghost use Rattle.std.specs.Prelude.{◌≡◌, ◌++◌, Option, Some, None, Ok, Err, IfOk, OnOk, OnErr, [], is_some, length, true, false, map as each};
 ghost use Rattle.std.specs.Option.{option_copied, IfSome};
 ghost use Rattle.dc_conf.specs.Plans.{IsOver, AreWithin, places as places_of};
-ghost use Rattle.dc_store.specs.Plans.{holder, look, look_below, has_below, can_change, would_take, names, owned, backed_up, told_line, write, stored};
+ghost use Rattle.dc_store.specs.Plans.{holder, look, look_below, has_below, can_change, would_take, names, owned, backed_up, told_line, write};
 ghost use Rattle.dc_store.specs.Holders.{look_of};
-ghost use Rattle.dc_store.specs.StoreLaws.{AreSameBut};
+ghost use Rattle.dc_store.specs.StoreLaws.{IsSameStoreBut};
+ghost use Rattle.dc_store.specs.Views.{store_of};
 ghost use Rattle.dc_store.specs.Writes.{write_of};
 ghost use Rattle.dc_template.specs.declared.kinds.Kind.{Kind as KindOf};
 
@@ -66,7 +67,7 @@ impl Store {
     /// The topmost layer of the base that has the item.
     pub fn holder(&self, plan: &Plan, name: &Name) -> Option<usize>
         requires { IsOver plan.now (length self.now.layers.items) }
-        ensures { result ≡ holder (each state self.now.layers.items) plan.now name.now }
+        ensures { result ≡ holder (store_of state self.now).layers plan.now name.now }
     {
         holder_in(self.layers.as_slice(), places(&plan.base), name)
     }
@@ -74,7 +75,7 @@ impl Store {
     /// The item of the topmost layer of the base that has it.
     pub fn look(&self, plan: &Plan, name: &Name) -> Option<&Item>
         requires { IsOver plan.now (length self.now.layers.items) }
-        ensures { option_copied result ≡ look (each state self.now.layers.items) plan.now name.now }
+        ensures { option_copied result ≡ look (store_of state self.now).layers plan.now name.now }
     {
         look_in(self.layers.as_slice(), places(&plan.base), name)
     }
@@ -82,7 +83,7 @@ impl Store {
     /// The same for bytes that needn't be a name, as where a field names an item.
     pub fn seek(&self, plan: &Plan, name: &[u8]) -> Option<&Item>
         requires { IsOver plan.now (length self.now.layers.items) }
-        ensures { option_copied result ≡ look (each state self.now.layers.items) plan.now name.now }
+        ensures { option_copied result ≡ look (store_of state self.now).layers plan.now name.now }
     {
         seek_in(self.layers.as_slice(), places(&plan.base), name)
     }
@@ -90,7 +91,7 @@ impl Store {
     /// The item that is seen below the topmost layer of the base that has it.
     pub fn look_below(&self, plan: &Plan, name: &Name) -> Option<&Item>
         requires { IsOver plan.now (length self.now.layers.items) }
-        ensures { option_copied result ≡ look_below (each state self.now.layers.items) plan.now name.now }
+        ensures { option_copied result ≡ look_below (store_of state self.now).layers plan.now name.now }
     {
         look_below_in(self.layers.as_slice(), places(&plan.base), name)
     }
@@ -98,7 +99,7 @@ impl Store {
     /// Whether a layer of the base below the holder has an item of this name too.
     pub fn has_below(&self, plan: &Plan, name: &Name) -> bool
         requires { IsOver plan.now (length self.now.layers.items) }
-        ensures { result ≡ has_below (each state self.now.layers.items) plan.now name.now }
+        ensures { result ≡ has_below (store_of state self.now).layers plan.now name.now }
     {
         has_below_in(self.layers.as_slice(), places(&plan.base), name)
     }
@@ -106,7 +107,7 @@ impl Store {
     /// Whether the holder is writable, or a layer above it takes the item. It is false without a holder.
     pub fn can_change(&self, plan: &Plan, name: &Name, kind: Option<Kind>) -> Mem<bool>
         requires { IsOver plan.now (length self.now.layers.items) }
-        ensures { IfOk result (λ is. is ≡ can_change (each state self.now.layers.items) plan.now name.now kind) }
+        ensures { IfOk result (λ is. is ≡ can_change (store_of state self.now).layers plan.now name.now kind) }
     {
         can_change_in(self.layers.as_slice(), places(&plan.base), name, kind)
     }
@@ -114,7 +115,7 @@ impl Store {
     /// Whether a write would be taken.
     pub fn would_take(&self, plan: &Plan, name: &Name, kind: Option<Kind>, op: &Op) -> Mem<bool>
         requires { IsOver plan.now (length self.now.layers.items) }
-        ensures { IfOk result (λ is. is ≡ would_take (each state self.now.layers.items) plan.now name.now kind op.now) }
+        ensures { IfOk result (λ is. is ≡ would_take (store_of state self.now).layers plan.now name.now kind op.now) }
     {
         would_take_in(self.layers.as_slice(), places(&plan.base), name, kind, op)
     }
@@ -129,11 +130,10 @@ impl Store {
         op: &Op,
     ) -> Result<(), StoreError>
         requires { IsOver plan.now (length self.old.layers.items) }
-        ensures ok { OnOk result (write (stored (each state self.old.layers.items) self.old.told) plan.now name.now kind op.now ≡ Some (stored (each state self.new.layers.items) self.new.told)) }
-        ensures refused { result ≡ Err StoreError.Refused → would_take (each state self.old.layers.items) plan.now name.now kind op.now ≡ false }
-        ensures unchanged { result ≡ Err StoreError.Refused → stored (each state self.new.layers.items) self.new.told ≡ stored (each state self.old.layers.items) self.old.told }
-        ensures others { AreSameBut name.now (each state self.old.layers.items) (each state self.new.layers.items) }
-        ensures count { length self.new.layers.items ≡ length self.old.layers.items }
+        ensures ok { OnOk result (write (store_of state self.old) plan.now name.now kind op.now ≡ Some (store_of state self.new)) }
+        ensures refused { result ≡ Err StoreError.Refused → would_take (store_of state self.old).layers plan.now name.now kind op.now ≡ false }
+        ensures unchanged { result ≡ Err StoreError.Refused → store_of state self.new ≡ store_of state self.old }
+        ensures frame { IsSameStoreBut name.now (store_of state self.old) (store_of state self.new) }
     {
         self.change_base(&plan.base, name, kind, op)?;
         self.back_up(plan, name, kind)?;
@@ -145,11 +145,11 @@ impl Store {
     /// item, and the layer is writable and has one. Then it is the change of an item of any kind. Where it isn't done, nothing changed.
     pub fn change_on_top(&mut self, plan: &Plan, name: &Name, op: &Op) -> Mem<bool>
         requires { IsOver plan.now (length self.old.layers.items) }
-        ensures there { result ≡ Ok true → is_some (look (each state self.old.layers.items) plan.now name.now) ≡ true }
-        ensures done { result ≡ Ok true → (kind : Option KindOf) → write (stored (each state self.old.layers.items) self.old.told) plan.now name.now kind op.now ≡ Some (stored (each state self.new.layers.items) self.new.told) }
-        ensures not_done { result ≡ Ok false → stored (each state self.new.layers.items) self.new.told ≡ stored (each state self.old.layers.items) self.old.told }
-        ensures others { AreSameBut name.now (each state self.old.layers.items) (each state self.new.layers.items) }
-        ensures count { length self.new.layers.items ≡ length self.old.layers.items }
+        ensures there { result ≡ Ok true → is_some (look (store_of state self.old).layers plan.now name.now) ≡ true }
+        ensures done { result ≡ Ok true → (kind : Option KindOf)
+            → write (store_of state self.old) plan.now name.now kind op.now ≡ Some (store_of state self.new) }
+        ensures not_done { result ≡ Ok false → store_of state self.new ≡ store_of state self.old }
+        ensures frame { IsSameStoreBut name.now (store_of state self.old) (store_of state self.new) }
     {
         if plan.backup.is_some() {
             return Ok(false);
@@ -167,7 +167,7 @@ impl Store {
     /// Each name that a layer of the base has, once, in byte order.
     pub fn names(&self, plan: &Plan) -> Mem<List<Name>>
         requires { IsOver plan.now (length self.now.layers.items) }
-        ensures { IfOk result (λ list. list ≡ names (each state self.now.layers.items) plan.now) }
+        ensures { IfOk result (λ list. list ≡ names (store_of state self.now).layers plan.now) }
     {
         let names = names_in(self.alloc, self.layers.as_slice(), places(&plan.base))?;
         in_order(self.alloc, names)
@@ -177,7 +177,7 @@ impl Store {
     /// are copied.
     pub fn owned(&self, plan: &Plan, owner: &Name) -> Mem<List<Name>>
         requires { IsOver plan.now (length self.now.layers.items) }
-        ensures { IfOk result (λ list. list ≡ owned (each state self.now.layers.items) plan.now owner.now) }
+        ensures { IfOk result (λ list. list ≡ owned (store_of state self.now).layers plan.now owner.now) }
     {
         let layers = self.layers.as_slice();
         let places = places(&plan.base);
@@ -195,11 +195,11 @@ impl Store {
         op: &Op,
     ) -> Result<(), StoreError>
         requires { AreWithin (places_of base.now) (length self.old.layers.items) }
-        ensures ok { OnOk result (write_of (each state self.old.layers.items) (places_of base.now) name.now kind op.now ≡ Some (each state self.new.layers.items)) }
+        ensures ok { OnOk result (write_of (each state self.old.layers.items) (places_of base.now) name.now kind op.now
+            ≡ Some (each state self.new.layers.items)) }
         ensures refused { result ≡ Err StoreError.Refused → write_of (each state self.old.layers.items) (places_of base.now) name.now kind op.now ≡ None }
         ensures unchanged { OnErr result (each state self.new.layers.items ≡ each state self.old.layers.items) }
-        ensures others { AreSameBut name.now (each state self.old.layers.items) (each state self.new.layers.items) }
-        ensures count { length self.new.layers.items ≡ length self.old.layers.items }
+        ensures frame { IsSameStoreBut name.now (store_of state self.old) (store_of state self.new) }
         ensures told { self.new.told ≡ self.old.told }
     {
         write_in(self.layers.as_mut_slice(), places(base), name, kind, op)?;
@@ -209,10 +209,11 @@ impl Store {
     // Tries an operation on the topmost layer of the base.
     fn change_base_on_top(&mut self, base: &Base, name: &Name, op: &Op) -> Mem<bool>
         requires { AreWithin (places_of base.now) (length self.old.layers.items) }
-        ensures there { result ≡ Ok true → is_some (look_of (each state self.old.layers.items) (places_of base.now) name.now) ≡ true }
-        ensures done { result ≡ Ok true → (kind : Option KindOf) → write_of (each state self.old.layers.items) (places_of base.now) name.now kind op.now ≡ Some (each state self.new.layers.items) }
-        ensures not_done { result ≡ Ok false → each state self.new.layers.items ≡ each state self.old.layers.items }
-        ensures err { OnErr result (each state self.new.layers.items ≡ each state self.old.layers.items) }
+        ensures there { result ≡ Ok true → is_some (look_of (store_of state self.old).layers (places_of base.now) name.now) ≡ true }
+        ensures done { result ≡ Ok true → (kind : Option KindOf)
+            → write_of (store_of state self.old).layers (places_of base.now) name.now kind op.now ≡ Some (store_of state self.new).layers }
+        ensures not_done { result ≡ Ok false → (store_of state self.new).layers ≡ (store_of state self.old).layers }
+        ensures err { OnErr result ((store_of state self.new).layers ≡ (store_of state self.old).layers) }
         ensures count { length self.new.layers.items ≡ length self.old.layers.items }
         ensures told { self.new.told ≡ self.old.told }
     {
@@ -222,9 +223,8 @@ impl Store {
     // Brings the backup up to the base, where there is one.
     fn back_up(&mut self, plan: &Plan, name: &Name, kind: Option<Kind>) -> Mem<()>
         requires { IsOver plan.now (length self.old.layers.items) }
-        ensures ok { OnOk result (each state self.new.layers.items ≡ backed_up (each state self.old.layers.items) plan.now.base plan.now.backup name.now kind) }
-        ensures others { AreSameBut name.now (each state self.old.layers.items) (each state self.new.layers.items) }
-        ensures count { length self.new.layers.items ≡ length self.old.layers.items }
+        ensures ok { OnOk result ((store_of state self.new).layers ≡ backed_up (store_of state self.old).layers plan.now.base plan.now.backup name.now kind) }
+        ensures frame { IsSameStoreBut name.now (store_of state self.old) (store_of state self.new) }
         ensures told { self.new.told ≡ self.old.told }
     {
         back_up_in(

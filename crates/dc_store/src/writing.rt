@@ -5,7 +5,7 @@ ghost use Rattle.dc_item.specs.After.{after_none};
 ghost use Rattle.dc_layer.specs.State.{is_put};
 ghost use Rattle.dc_store.specs.Holders.{holder_of, look_of};
 ghost use Rattle.dc_store.specs.StoreLaws.{AreSameBut};
-ghost use Rattle.dc_store.specs.Writes.{by_case, copy_target, is_writable_at, put_target, write_of};
+ghost use Rattle.dc_store.specs.Writes.{by_copy, is_writable_at, put_target, write_of};
 ghost use Rattle.dc_template.specs.declared.kinds.Kind.{Kind as KindOf};
 
 use crate::boxes::{change_in, is_open_at, try_change_in};
@@ -28,8 +28,8 @@ fn put_up_in(
     requires within { AreWithin places.now (length layers.old) }
     requires holder { holder ≡ holder_of (each state layers.old) places.now name.now }
     requires put { is_put put.now ≡ true }
-    ensures ok { OnOk result (by_case (each state layers.old) None (copy_target (each state layers.old) places.now name.now kind) name.now (after_none put.now) ≡ Some (each state layers.new)) }
-    ensures refused { result ≡ Err StoreError.Refused → by_case (each state layers.old) None (copy_target (each state layers.old) places.now name.now kind) name.now (after_none put.now) ≡ None }
+    ensures ok { OnOk result (by_copy (each state layers.old) places.now name.now kind (after_none put.now) ≡ Some (each state layers.new)) }
+    ensures refused { result ≡ Err StoreError.Refused → by_copy (each state layers.old) places.now name.now kind (after_none put.now) ≡ None }
     ensures unchanged { OnErr result (each state layers.new ≡ each state layers.old) }
 {
     match copy_target_in(layers, places, name, kind, holder)? {
@@ -51,8 +51,8 @@ fn write_new_in(
 ) -> Result<(), StoreError>
     requires within { AreWithin places.now (length layers.old) }
     requires none { None ≡ holder_of (each state layers.old) places.now name.now }
-    ensures ok { OnOk result (by_case (each state layers.old) None (copy_target (each state layers.old) places.now name.now kind) name.now (after_none op.now) ≡ Some (each state layers.new)) }
-    ensures refused { result ≡ Err StoreError.Refused → by_case (each state layers.old) None (copy_target (each state layers.old) places.now name.now kind) name.now (after_none op.now) ≡ None }
+    ensures ok { OnOk result (by_copy (each state layers.old) places.now name.now kind (after_none op.now) ≡ Some (each state layers.new)) }
+    ensures refused { result ≡ Err StoreError.Refused → by_copy (each state layers.old) places.now name.now kind (after_none op.now) ≡ None }
     ensures unchanged { OnErr result (each state layers.new ≡ each state layers.old) }
 {
     if !is_put_op(op) {
@@ -72,8 +72,8 @@ fn write_above_in(
 ) -> Result<(), StoreError>
     requires within { AreWithin places.now (length layers.old) }
     requires holder { Some holder ≡ holder_of (each state layers.old) places.now name.now }
-    ensures ok { OnOk result (by_case (each state layers.old) None (copy_target (each state layers.old) places.now name.now kind) name.now made ≡ Some (each state layers.new)) }
-    ensures refused { result ≡ Err StoreError.Refused → by_case (each state layers.old) None (copy_target (each state layers.old) places.now name.now kind) name.now made ≡ None }
+    ensures ok { OnOk result (by_copy (each state layers.old) places.now name.now kind made ≡ Some (each state layers.new)) }
+    ensures refused { result ≡ Err StoreError.Refused → by_copy (each state layers.old) places.now name.now kind made ≡ None }
     ensures unchanged { OnErr result (each state layers.new ≡ each state layers.old) }
 {
     match made {

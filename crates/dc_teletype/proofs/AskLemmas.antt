@@ -7,7 +7,8 @@ use Rattle.dc_outside.specs.declared.link.LinkError.{LinkError}
 use Rattle.dc_outside.specs.declared.link.LinkError.TheVariants.{OutOfMemory}
 use Rattle.dc_outside.specs.declared.link.Piece.{Piece}
 use Rattle.dc_outside.specs.declared.link.Piece.TheVariants.{Sent}
-use Rattle.dc_outside.specs.Talk.{then_pieces, got, AddsWrite}
+use Rattle.dc_outside.specs.Talk.{then_pieces, got}
+use Rattle.dc_outside.proofs.LinkLemmas.{AddsWrite}
 use Rattle.std.specs.Io.KnownBytes.{prepend_known}
 use Rattle.dc_serve.proofs.Talks.{prepend-nil}
 use Rattle.dc_teletype.specs.Dialogue.{Step, Stage, Waits, Over, Stops, IsDialogue, puts}

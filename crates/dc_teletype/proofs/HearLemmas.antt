@@ -7,7 +7,8 @@ use Rattle.dc_outside.specs.declared.link.LinkError.{LinkError}
 use Rattle.dc_outside.specs.declared.link.LinkError.TheVariants.{Failed, OutOfMemory}
 use Rattle.dc_outside.specs.declared.link.Piece.{Piece}
 use Rattle.dc_outside.specs.declared.link.Piece.TheVariants.{Got, Sent, Cut as CutPiece, Lost}
-use Rattle.dc_outside.specs.Talk.{then_pieces, AddsWrite}
+use Rattle.dc_outside.specs.Talk.{then_pieces}
+use Rattle.dc_outside.proofs.LinkLemmas.{AddsWrite}
 use Rattle.dc_teletype.specs.Dialogue.{Step, Stage, Waits, Goes, Stops, after_reading, reading_of}
 use Rattle.dc_teletype.specs.Prompts.{prompt}
 use Rattle.dc_teletype.specs.TerminalLines.{TypeAhead, Reads, ReadsUntil, with_bytes, HasRead}

@@ -7,10 +7,12 @@ use Rattle.dc_outside.specs.declared.link.LinkError.{LinkError}
 use Rattle.dc_outside.specs.declared.link.LinkError.TheVariants.{Failed, OutOfMemory}
 use Rattle.dc_outside.specs.declared.link.Piece.{Piece}
 use Rattle.dc_outside.specs.declared.link.Piece.TheVariants as piece
+use Rattle.dc_outside.specs.LinkCalls.{IsCutAt}
+use Rattle.dc_outside.specs.State.{LinkState}
 use Rattle.dc_outside.specs.Talk.{then_pieces, got}
 use Rattle.dc_teletype.specs.Answers.{answer_to}
 use Rattle.dc_teletype.specs.Prompts.{heading, introduction, prompt}
-use Rattle.dc_teletype.specs.TerminalLines.{TypeAhead, Reads, ReadsUntil}
+use Rattle.dc_teletype.specs.TerminalLines.{TypeAhead, TerminalState, Reads, ReadsUntil, CallCounts}
 use Rattle.dc_teletype.specs.declared.answering.Reading.{Reading}
 use Rattle.dc_teletype.specs.declared.answering.Reading.TheVariants as reading
 use Rattle.dc_teletype.specs.declared.teletype.Answer.{Answer}
@@ -116,3 +118,13 @@ pub record IsDialogue (backup : Bool) (start : Step) (old new : TypeAhead) (talk
   pub ahead : TypeAhead
   pub goes : Goes backup start old came gone step ahead
   pub ends : EndsBy result step ahead last new
+
+-- the same of a terminal
+abbrev pub HoldsDialogue : Bool → Step → TerminalState → TerminalState → Result Asked LinkError → Type 0
+HoldsDialogue backup start old new result = IsDialogue backup start old.ahead new.ahead old.link.talk new.link.talk old.link.input new.link.input result
+
+-- what writing a text does to the link, by the answer
+abbrev pub SendsText : {T : Type 0} → List ℕ → LinkState → LinkState → Result T LinkError → Type 0
+SendsText text old new (Ok done) = new ≡ record old { talk = then_pieces old.talk (piece.Sent text ∷ []) }
+SendsText text old new (Err Failed) = IsCutAt text old new
+SendsText text old new (Err OutOfMemory) = (new ≡ record old { counts = new.counts }) × CallCounts {T = Unit {0}} (Err OutOfMemory) old.counts new.counts

@@ -10,7 +10,7 @@ use Rattle.dc_outside.specs.declared.link.Piece.TheVariants as piece
 use Rattle.dc_outside.specs.Talk.{then_pieces, got}
 use Rattle.dc_teletype.specs.Columns.{filled, paragraph}
 use Rattle.dc_teletype.specs.Dialogue.{Step, Over, Goes, Stops, answered, reading_of, most_unusable}
-use Rattle.dc_teletype.specs.TerminalLines.{TypeAhead, Reads, ReadsUntil, first_line, with_bytes}
+use Rattle.dc_teletype.specs.TerminalLines.{TypeAhead, TerminalState, Reads, ReadsUntil, first_line, with_bytes}
 use Rattle.dc_teletype.specs.declared.answering.Reading.{Reading}
 use Rattle.dc_teletype.specs.declared.answering.Reading.TheVariants as reading
 use Rattle.dc_teletype.specs.declared.teletype.Answer.{Answer}
@@ -51,6 +51,9 @@ pub record HasBrought (old new : TypeAhead) (talk new_talk : Option (List Piece)
   pub took : input ≡ prepend_known (got pieces) left
   pub brings : BringsBy result old pieces new
 
+abbrev pub BringsPiece : TerminalState → TerminalState → Result (Unit {0}) LinkError → Type 0
+BringsPiece old new result = HasBrought old.ahead new.ahead old.link.talk new.link.talk old.link.input new.link.input result
+
 -- the step to which the answer of a question leads
 abbrev pub answered_or_back : Option Answer → List Shown → List Answer → Step
 answered_or_back None others answers = record { said = newline ∷ []; stage = Over Back }
@@ -70,6 +73,10 @@ pub record HasHeard (backup : Bool) (start : Step) (old new : TypeAhead) (talk n
   pub took : input ≡ prepend_known (got pieces) left
   pub hears : HearsBy backup start old pieces result others answers new
 
+abbrev pub Hears : Bool → Step → TerminalState → TerminalState → Result (Option Answer) LinkError → List Shown → List Answer → Type 0
+Hears backup start old new result others answers =
+    HasHeard backup start old.ahead new.ahead old.link.talk new.link.talk old.link.input new.link.input result others answers
+
 -- a line was read so, or none came until the terminal stopped
 abbrev pub RepliesBy : Bool → Shown → TypeAhead → List Piece → Result Reading LinkError → TypeAhead → Type 0
 RepliesBy backup shown old pieces (Ok reading) new =
@@ -81,6 +88,9 @@ pub record HasReplied (backup : Bool) (shown : Shown) (old new : TypeAhead) (tal
   pub told_is : new_talk ≡ then_pieces talk pieces
   pub took : input ≡ prepend_known (got pieces) left
   pub replies : RepliesBy backup shown old pieces result new
+
+abbrev pub Replies : Bool → Shown → TerminalState → TerminalState → Result Reading LinkError → Type 0
+Replies backup shown old new result = HasReplied backup shown old.ahead new.ahead old.link.talk new.link.talk old.link.input new.link.input result
 
 -- the answer of a reading that ends a question, none where the user goes back
 abbrev pub answer_of : Reading → Option Answer

@@ -8,7 +8,8 @@ use Rattle.dc_outside.specs.declared.link.Piece.{Piece}
 use Rattle.dc_outside.specs.declared.link.Piece.TheVariants as piece
 use Rattle.dc_outside.specs.declared.link.LinkError.{LinkError}
 use Rattle.dc_outside.specs.declared.link.LinkError.TheVariants.{Failed, OutOfMemory}
-use Rattle.dc_outside.specs.Counts.{Rose}
+use Rattle.dc_outside.specs.Counts.{Counts, FaultRose, RefusalRose}
+use Rattle.dc_outside.specs.State.{LinkState}
 use Rattle.dc_outside.specs.Talk.{then_pieces, got}
 use Rattle.dc_teletype.specs.declared.terminal.TerminalLine.{TerminalLine}
 use Rattle.dc_teletype.specs.declared.terminal.TerminalLine.TheVariants.{Whole, Cut}
@@ -82,11 +83,12 @@ abbrev pub ReadsBy : Result (Option TerminalLine) LinkError → TypeAhead → Li
 ReadsBy (Ok came) old pieces new = Reads old pieces came new
 ReadsBy (Err error) old pieces new = ReadsUntil error old pieces
 
--- the link's count of refusals stays, but where memory ran out it may have risen
-abbrev pub RefusalsBy : {T : Type 0} → Result T LinkError → ℕ → ℕ → Type 0
-RefusalsBy (Ok value) before now = now ≡ before
-RefusalsBy (Err Failed) before now = now ≡ before
-RefusalsBy (Err OutOfMemory) before now = Rose before now ⊎ (now ≡ before)
+-- How the link counted what was done on it, by the answer. Where memory ran out it counted a refusal, or none if it was the program's own
+-- that did.
+abbrev pub CallCounts : {T : Type 0} → Result T LinkError → Counts → Counts → Type 0
+CallCounts (Ok value) before now = now ≡ before
+CallCounts (Err Failed) before now = FaultRose before now
+CallCounts (Err OutOfMemory) before now = RefusalRose before now ⊎ (now ≡ before)
 
 -- the next line was read
 pub record HasRead (old new : TypeAhead) (talk new_talk : Option (List Piece)) (input left : Option (List ℕ)) (result : Result (Option TerminalLine) LinkError) : Type 0 where
@@ -98,3 +100,14 @@ pub record HasRead (old new : TypeAhead) (talk new_talk : Option (List Piece)) (
 -- the input has ended only where it had, or none of it is left
 abbrev pub EndsWell : TypeAhead → TypeAhead → Option (List ℕ) → Type 0
 EndsWell old new left = new.has_ended ≡ true → (old.has_ended ≡ true) ⊎ IsAtEnd left
+
+-- ---- terminals
+
+-- a terminal, and what was typed there and isn't used yet
+pub record TerminalState : Type 0 where
+  pub link : LinkState
+  pub ahead : TypeAhead
+
+-- the next line was read there
+abbrev pub ReadsLine : TerminalState → TerminalState → Result (Option TerminalLine) LinkError → Type 0
+ReadsLine old new result = HasRead old.ahead new.ahead old.link.talk new.link.talk old.link.input new.link.input result

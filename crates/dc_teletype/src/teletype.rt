@@ -1,13 +1,11 @@
 // The dialogue on a terminal.
 ghost use Rattle.std.specs.Prelude.{◌≡◌, ◌∷◌, ◌++◌, [], false, codes, IfOk, OnOk, List as Listed};
-ghost use Rattle.dc_outside.specs.Counts.{CountsFaults};
-ghost use Rattle.dc_outside.specs.Talk.{AddsWrite};
 ghost use Rattle.dc_text.specs.Ascii.{newline};
 ghost use Rattle.dc_frontend.specs.declared.shown.Shown.{Shown as ShownOf};
-ghost use Rattle.dc_teletype.specs.Dialogue.{opening, Waits, IsDialogue};
+ghost use Rattle.dc_teletype.specs.Dialogue.{opening, Waits, HoldsDialogue, SendsText};
 ghost use Rattle.dc_teletype.specs.Prompts.{introduction as introduction_of, prompt as prompt_of};
-ghost use Rattle.dc_teletype.specs.TerminalLines.{RefusalsBy, EndsWell};
-ghost use Rattle.dc_teletype.specs.Inside.{HasHeard, HasReplied, answer_of as answer_of_reading, is_answered as is_answered_by};
+ghost use Rattle.dc_teletype.specs.TerminalLines.{CallCounts, EndsWell};
+ghost use Rattle.dc_teletype.specs.Inside.{Hears, Replies, answer_of as answer_of_reading, is_answered as is_answered_by};
 ghost use Rattle.dc_teletype.specs.declared.teletype.Answer.{Answer as AnswerOf};
 
 use crate::answering::{Reading, read_answer};
@@ -66,10 +64,11 @@ impl Teletype {
         backup: bool,
         title: &Text,
     ) -> Result<Asked, LinkError>
-        ensures held { IsDialogue backup (opening title.now shown.now) self.old.ahead self.new.ahead (L.talk link.old) (L.talk link.new) (L.left link.old) (L.left link.new) result }
-        ensures end { EndsWell self.old.ahead self.new.ahead (L.left link.new) }
-        ensures faults { CountsFaults (L.faults link.old) (L.faults link.new) result }
-        ensures refusals { RefusalsBy result (L.refusals link.old) (L.refusals link.new) }
+        ensures held { HoldsDialogue backup (opening title.now shown.now)
+            (record { link = L.link link.old; ahead = self.old.ahead }) (record { link = L.link link.new; ahead = self.new.ahead }) result }
+        ensures end { EndsWell self.old.ahead self.new.ahead (L.link link.new).input }
+        ensures counts { CallCounts result (L.link link.old).counts (L.link link.new).counts }
+        ensures program { (L.link link.new).program ≡ (L.link link.old).program }
     {
         let mut said = heading(self.alloc, title.bytes())?;
         let mut answers = List::new(self.alloc);
@@ -98,11 +97,8 @@ impl Teletype {
 
     /// Writes a line.
     pub fn tell<L: Link>(&mut self, link: &mut L, line: &Text) -> Result<(), LinkError>
-        ensures talk { AddsWrite (L.talk link.old) (L.talk link.new) result (line.now ++ newline ∷ []) }
+        ensures sends { SendsText (line.now ++ newline ∷ []) (L.link link.old) (L.link link.new) result }
         ensures ahead { self.new.ahead ≡ self.old.ahead }
-        ensures input { L.left link.new ≡ L.left link.old }
-        ensures faults { CountsFaults (L.faults link.old) (L.faults link.new) result }
-        ensures refusals { RefusalsBy result (L.refusals link.old) (L.refusals link.new) }
     {
         let mut whole = line.copy()?;
         whole.push(b'\n')?;
@@ -129,11 +125,13 @@ fn hear<L: Link>(
     question: &Shown,
     backup: bool,
 ) -> Result<Option<Answer>, LinkError>
-    ensures heard { (others : Listed ShownOf) (answers : Listed AnswerOf) → HasHeard backup (record { said = said.old; stage = Waits question.now 0 others answers }) ahead.old ahead.new (L.talk link.old) (L.talk link.new) (L.left link.old) (L.left link.new) result others answers }
+    ensures heard { (others : Listed ShownOf) (answers : Listed AnswerOf)
+        → Hears backup (record { said = said.old; stage = Waits question.now 0 others answers })
+        (record { link = L.link link.old; ahead = ahead.old }) (record { link = L.link link.new; ahead = ahead.new }) result others answers }
     ensures said { OnOk result (said.new ≡ newline ∷ []) }
-    ensures end { EndsWell ahead.old ahead.new (L.left link.new) }
-    ensures faults { CountsFaults (L.faults link.old) (L.faults link.new) result }
-    ensures refusals { RefusalsBy result (L.refusals link.old) (L.refusals link.new) }
+    ensures end { EndsWell ahead.old ahead.new (L.link link.new).input }
+    ensures counts { CallCounts result (L.link link.old).counts (L.link link.new).counts }
+    ensures program { (L.link link.new).program ≡ (L.link link.old).program }
 {
     let mut unusable: usize = 0;
     loop {
@@ -166,10 +164,11 @@ fn read_reply<L: Link>(
     question: &Shown,
     backup: bool,
 ) -> Result<Reading, LinkError>
-    ensures replied { HasReplied backup question.now ahead.old ahead.new (L.talk link.old) (L.talk link.new) (L.left link.old) (L.left link.new) result }
-    ensures end { EndsWell ahead.old ahead.new (L.left link.new) }
-    ensures faults { CountsFaults (L.faults link.old) (L.faults link.new) result }
-    ensures refusals { RefusalsBy result (L.refusals link.old) (L.refusals link.new) }
+    ensures replied { Replies backup question.now
+        (record { link = L.link link.old; ahead = ahead.old }) (record { link = L.link link.new; ahead = ahead.new }) result }
+    ensures end { EndsWell ahead.old ahead.new (L.link link.new).input }
+    ensures counts { CallCounts result (L.link link.old).counts (L.link link.new).counts }
+    ensures program { (L.link link.new).program ≡ (L.link link.old).program }
 {
     match ahead.next(link)? {
         None => Ok(Reading::Keep),

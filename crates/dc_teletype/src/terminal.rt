@@ -1,8 +1,7 @@
 // The lines of a terminal.
 ghost use Rattle.std.specs.Prelude.{◌≡◌, ◌<◌, [], OnErr, IfOk, length, false};
-ghost use Rattle.dc_outside.specs.Counts.{CountsFaults};
-ghost use Rattle.dc_teletype.specs.TerminalLines.{longest as longest_of, front_of, last_line, RefusalsBy, HasRead, EndsWell};
-ghost use Rattle.dc_teletype.specs.Inside.{HasBrought, Takes};
+ghost use Rattle.dc_teletype.specs.TerminalLines.{longest as longest_of, front_of, last_line, CallCounts, ReadsLine, EndsWell};
+ghost use Rattle.dc_teletype.specs.Inside.{BringsPiece, Takes};
 
 use dc_outside::{Link, LinkError};
 use dc_text::bytes::split_at_byte;
@@ -58,10 +57,10 @@ impl TerminalLines {
     /// The next line, for which no more is read than it takes. Once the input has ended, the rest without a newline is a last line, and
     /// then there is none.
     pub fn next<L: Link>(&mut self, link: &mut L) -> Result<Option<TerminalLine>, LinkError>
-        ensures read { HasRead self.old self.new (L.talk link.old) (L.talk link.new) (L.left link.old) (L.left link.new) result }
-        ensures end { EndsWell self.old self.new (L.left link.new) }
-        ensures faults { CountsFaults (L.faults link.old) (L.faults link.new) result }
-        ensures refusals { RefusalsBy result (L.refusals link.old) (L.refusals link.new) }
+        ensures read { ReadsLine (record { link = L.link link.old; ahead = self.old }) (record { link = L.link link.new; ahead = self.new }) result }
+        ensures end { EndsWell self.old self.new (L.link link.new).input }
+        ensures counts { CallCounts result (L.link link.old).counts (L.link link.new).counts }
+        ensures program { (L.link link.new).program ≡ (L.link link.old).program }
     {
         loop {
             match self.take_first()? {
@@ -121,10 +120,10 @@ impl TerminalLines {
 
     // Reads a piece, and notes the end of the input.
     fn read<L: Link>(&mut self, link: &mut L) -> Result<(), LinkError>
-        ensures brought { HasBrought self.old self.new (L.talk link.old) (L.talk link.new) (L.left link.old) (L.left link.new) result }
-        ensures end { EndsWell self.old self.new (L.left link.new) }
-        ensures faults { CountsFaults (L.faults link.old) (L.faults link.new) result }
-        ensures refusals { RefusalsBy result (L.refusals link.old) (L.refusals link.new) }
+        ensures brought { BringsPiece (record { link = L.link link.old; ahead = self.old }) (record { link = L.link link.new; ahead = self.new }) result }
+        ensures end { EndsWell self.old self.new (L.link link.new).input }
+        ensures counts { CallCounts result (L.link link.old).counts (L.link link.new).counts }
+        ensures program { (L.link link.new).program ≡ (L.link link.old).program }
     {
         let mut buf = buffer(self.alloc)?;
         let count = link.read_some(buf.as_mut_slice())?;

@@ -76,7 +76,8 @@ fn add_word(
     columns: usize,
 ) -> Mem<()>
     requires { 0 < length word.now }
-    ensures { OnOk result ((words : Listed (Listed ℕ)) → lines.new ++ begun_lines columns begun.new words ≡ lines.old ++ begun_lines columns begun.old (word.now ∷ words)) }
+    ensures { OnOk result ((words : Listed (Listed ℕ))
+        → lines.new ++ begun_lines columns begun.new words ≡ lines.old ++ begun_lines columns begun.old (word.now ∷ words)) }
 {
     if begun.bytes().is_empty() {
         return begun.append(word);

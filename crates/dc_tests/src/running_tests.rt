@@ -5,9 +5,10 @@ ghost use Rattle.dc_layer.specs.State.{blank};
 ghost use Rattle.dc_shelf.specs.Shelves.{AreBlank};
 
 use dc_dirs::{DirTreeLayer, PackageDirLayer};
-use dc_host::{HostChild, HostFiles};
+use dc_host::HostFiles;
 use dc_layer::{FileLayer, Layer};
 use dc_outside::{Files, MemLink};
+use dc_pipes::HostChild;
 use dc_run::{Settings, Shelf, run_words};
 use dc_text::{List, Text};
 use std::alloc::Global;

@@ -1,11 +1,12 @@
 -- What comes in determines a run of `communicate`.
 use Rattle.std.proofs.Common.{◌≡◌, ℕ, List, Option, Some, refl, ap, sym, subst, ◌∙◌, arith}
 use Rattle.std.specs.Prelude.{◌≤◌}
+use Rattle.dc_outside.specs.State.{FilesState, LinkState}
 use Rattle.dc_serve.specs.LinkRun.{IsLinkRun}
 use Rattle.dc_serve.specs.declared.outcome.LinkEnd.TheVariants as link
 use Rattle.dc_session.specs.Asking.{finished}
 use Rattle.dc_session.specs.Machine.{Handles, Aborts}
-use Rattle.dc_session.specs.SessionState.{FilesState, LinkState, SessionState}
+use Rattle.dc_session.specs.SessionState.{SessionState}
 use Rattle.dc_run.specs.Ends.{status_of}
 use Rattle.dc_run.specs.OneRound.{HasUsed}
 use Rattle.dc_run.specs.Starting.{begun}
@@ -74,7 +75,7 @@ module _ (words : List (List ℕ)) (owner : List ℕ) (settings : Settings) (dis
       (starts_low words (Communicate owner) settings disk calls other last again other_clean other_has) (high words owner settings disk calls other last again input other_clean other_has other_input_is)
       (ran words owner settings disk calls other last again input other_clean other_has other_input_is) in
       let begin : with_counts counts other_begins ≡ begins
-      = λ i. begun (Communicate owner) (record { files = record { told = sym starts.told i; counts = counts }; used = sym starts.used i }) (sym starts.roots_are i) settings one.links.io in
+      = λ i. begun (Communicate owner) (record { files = record { view = sym starts.told i; counts = counts }; used = sym starts.used i }) (sym starts.roots_are i) settings one.links.io in
       let other_ran : IsLinkRun Handles Aborts other.links.io.talk other_has.links.io.talk (Some input) other_has.links.io.input begins link.Done (with_counts counts second.state) other_has.answer.last_code
       = subst (λ (s : SessionState). IsLinkRun Handles Aborts other.links.io.talk other_has.links.io.talk (Some input) other_has.links.io.input s link.Done (with_counts counts second.state) other_has.answer.last_code) begin recounted in
       let disk_told = starts_told words (Communicate owner) settings disk calls one new outcome clean has in
@@ -82,8 +83,8 @@ module _ (words : List (List ℕ)) (owner : List ℕ) (settings : Settings) (dis
       begins first.state (with_counts counts second.state) has.answer.last_code other_has.answer.last_code disk_told.1 refl (starts_low words (Communicate owner) settings disk calls one new outcome clean has)
       (high words owner settings disk calls one new outcome input clean has input_is) (mid_high words owner settings disk calls one new outcome input clean has input_is) one_ran other_ran in
       let layers : has.layers ≡ other_has.layers = first.layers_are ∙ ap (λ (s : SessionState). (finished s).layers) same.2 ∙ sym second.layers_are in
-      let left : has.files.told ≡ other_has.files.told
-      = ap (λ (f : FilesState). f.told) first.files_are ∙ ap (λ (s : SessionState). s.files.told) same.2 ∙ sym (ap (λ (f : FilesState). f.told) second.files_are) in
+      let left : has.files.view ≡ other_has.files.view
+      = ap (λ (f : FilesState). f.view) first.files_are ∙ ap (λ (s : SessionState). s.files.view) same.2 ∙ sym (ap (λ (f : FilesState). f.view) second.files_are) in
       record {
         leave = leave_alike words (Communicate owner) settings disk calls one new other last outcome again clean other_clean has other_has layers left (has.uses.2 ∙ sym other_has.uses.2) same.1;
         replies = record {

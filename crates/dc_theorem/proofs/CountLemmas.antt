@@ -1,8 +1,7 @@
 -- Between two moments at which the same failures are counted none is counted.
 use Rattle.std.proofs.Common.{◌≡◌, ℕ, ap, arith}
 use Rattle.std.specs.Prelude.{◌+◌, ◌-◌, ◌^◌, ◌<◌, ◌≤◌, min}
-use Rattle.dc_outside.specs.Counts.{FaultRose}
-use Rattle.dc_outside.specs.Told.{Counts}
+use Rattle.dc_outside.specs.Counts.{Counts, FaultRose}
 
 no_step : (n top before now : ℕ) → n < top → n ≤ before → now ≤ n → min (before + 1) top ≤ now → ⊥
 no_step n top before now room low high rose = omega arith

@@ -1,6 +1,7 @@
 -- A run that did all: it used its tool, which was done, and what was left is saved.
-use Rattle.std.proofs.Common.{◌≡◌, inl, inr, ℕ, Bool, true, false, List, refl, sym, subst, ◌∙◌}
+use Rattle.std.proofs.Common.{◌≡◌, inl, inr, ℕ, Bool, true, false, List, refl, sym, ap, subst, ◌∙◌}
 use Rattle.std.specs.Prelude.{map as each}
+use Rattle.dc_outside.specs.State.{FilesState, LinkState}
 use Rattle.dc_conf.specs.declared.faults.ConfError.{ConfError}
 use Rattle.dc_conf.specs.declared.faults.ConfError.TheVariants as conf
 use Rattle.dc_layer.specs.State.{LayerState, saved}
@@ -15,17 +16,18 @@ use Rattle.dc_serve.specs.declared.outcome.LinkEnd.TheVariants as link
 use Rattle.dc_session.specs.Asking.{finished}
 use Rattle.dc_session.specs.Machine.{Handles, Aborts}
 use Rattle.dc_session.specs.Serving.{IsFinished, Finishes as FinishesSession, IsServed, end_broken}
-use Rattle.dc_session.specs.SessionState.{FilesState, LinkState, SessionState}
+use Rattle.dc_session.specs.SessionState.{SessionState}
 use Rattle.dc_session.specs.declared.stepped.StepError.{StepError}
 use Rattle.dc_session.specs.declared.stepped.StepError.TheVariants as step
 use Rattle.dc_run.specs.Ends.{end_of_conf, end_of_pattern, end_of_load, tool_end_of, end_unwaited}
 use Rattle.dc_run.specs.Finishing.{images_of, IsSaved, Finishes}
 use Rattle.dc_run.specs.Headline.{HasRunTool, HasRunWords}
 use Rattle.dc_run.specs.OneRound.{HasUsed}
+use Rattle.dc_run.specs.Saves.{Save}
 use Rattle.dc_run.proofs.RoundLemmas.{as_used}
 use Rattle.dc_run.specs.Running.{Awaits, end_unstarted}
 use Rattle.dc_run.specs.Starting.{EndsBefore}
-use Rattle.dc_run.specs.World.{ChildState, Stock, World}
+use Rattle.dc_run.specs.World.{Stock, World}
 use Rattle.dc_run.specs.declared.outcome.End.{End}
 use Rattle.dc_run.specs.declared.outcome.End.TheVariants as end
 use Rattle.dc_run.specs.declared.outcome.Outcome.{Outcome}
@@ -75,15 +77,15 @@ not_before path old new how done (inr (inr (inr (inr loads)))) = load_other load
 
 -- ---- the tool was used
 
-used_tool : (words : List (List ℕ)) (settings : Settings) (old new : World) (outcome : Outcome) (used : Tool) → outcome.end ≡ end.Done → Names words used → HasRunWords words settings old new outcome → HasUsed used settings old new outcome
-used_tool words settings old new outcome used done named (inl refused) = absurd (no_usage refused.word (sym refused.end_is ∙ done))
-used_tool words settings old new outcome used done named (inr ran) = elim (subst (λ (t : Tool). HasRunTool t settings old new outcome) (one_tool words ran.0 used ran.1 named) ran.2) [
+used_tool : (words : List (List ℕ)) (settings : Settings) (old new : World) (outcome : Outcome) (saves : List Save) (used : Tool) → outcome.end ≡ end.Done → Names words used → HasRunWords words settings old new outcome saves → HasUsed used settings old new outcome
+used_tool words settings old new outcome saves used done named (inl refused) = absurd (no_usage refused.0.word (sym refused.0.end_is ∙ done))
+used_tool words settings old new outcome saves used done named (inr ran) = elim (subst (λ (t : Tool). HasRunTool t settings old new outcome saves) (one_tool words ran.0 used ran.1 named) ran.2) [
   | inl before ↦ absurd (not_before settings.conf_path old.stock.files new.stock outcome.end done before.0)
-  | inr worked ↦ as_used used settings old new outcome worked
+  | inr worked ↦ as_used used settings old new outcome saves worked
 ]
 
 pub was_used : (words : List (List ℕ)) (settings : Settings) (disk : Disk) (calls : List FilesCall) (old new : World) (outcome : Outcome) (used : Tool) → Names words used → IsClean words settings disk calls old new outcome → HasUsed used settings old new outcome
-was_used words settings disk calls old new outcome used named clean = used_tool words settings old new outcome used clean.done named clean.ran
+was_used words settings disk calls old new outcome used named clean = used_tool words settings old new outcome clean.saves used clean.done named clean.ran
 
 -- ---- how the run ended, but for the wait
 
@@ -101,21 +103,21 @@ unwaited_other end.TermFault is = cc
 unwaited_other end.ChildFault is = cc
 unwaited_other end.TooLong is = cc
 
--- no wait failed, and the link to the program is as it was
-pub waited : (started : Bool) (old new : ChildState) (how ended : End) (before status : ℕ) → ended ≡ end.Done → Awaits started old new how ended before status → (how ≡ end.Done) × (new.link ≡ old.link)
-waited true old new how ended before status done (inl has) = (sym has.end_is ∙ done, has.link)
+-- no wait failed, and nothing more was said on the link to the program
+pub waited : (started : Bool) (old new : LinkState) (how ended : End) (before status : ℕ) → ended ≡ end.Done → Awaits started old new how ended before status → (how ≡ end.Done) × (new.talk ≡ old.talk)
+waited true old new how ended before status done (inl has) = (sym has.end_is ∙ done, ap (λ (l : LinkState). l.talk) has.waits)
 waited true old new how ended before status done (inr failed) = absurd (unwaited_other how (sym failed.end_is ∙ done))
-waited false old new how ended before status done none = (sym none.end_is ∙ done, λ i. (none.child i).link)
+waited false old new how ended before status done none = (sym none.end_is ∙ done, ap (λ (l : LinkState). l.talk) none.child)
 
 -- without a program there is no wait
-pub unwaited : (started : Bool) (old new : ChildState) (how ended : End) (before status : ℕ) → started ≡ false → Awaits started old new how ended before status → status ≡ before
+pub unwaited : (started : Bool) (old new : LinkState) (how ended : End) (before status : ℕ) → started ≡ false → Awaits started old new how ended before status → status ≡ before
 unwaited started old new how ended before status none awaits = (subst (λ (b : Bool). Awaits b old new how ended before status) none awaits).status_is
 
 -- ---- what it left is saved
 
 -- all is saved: what the files tell then, and the layers
 pub record HasSaved (layers used : List LayerState) (files new : FilesState) : Type 0 where
-  pub files_are : new.told ≡ after_images files.told (images_of layers)
+  pub files_are : new.view ≡ after_images files.view (images_of layers)
   pub counts : new.counts ≡ files.counts
   pub used_are : used ≡ each saved layers
 

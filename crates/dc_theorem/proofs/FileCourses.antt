@@ -2,13 +2,14 @@
 use Rattle.std.proofs.Common.{◌≡◌, ℕ, true, List, [], ◌∷◌, ◌++◌, Some, None, refl, ap, sym, subst, ◌∙◌, arith}
 use Rattle.std.specs.Prelude.{◌≤◌, ◌≢◌, ◌||◌, is_some, if◌then◌else◌, map as each}
 use Rattle.std.specs.Option.{option_map_or}
+use Rattle.dc_outside.specs.Counts.{Counts}
+use Rattle.dc_outside.specs.State.{FilesState, FilesView}
 use Rattle.dc_text.specs.Ascii.{newline}
 use Rattle.dc_outside.specs.Disk.{Disk}
 use Rattle.dc_outside.specs.Steps.{after_look}
-use Rattle.dc_outside.specs.Told.{Told, Counts}
 use Rattle.dc_outside.specs.declared.files.FilesOp.TheVariants.{Read}
 use Rattle.dc_session.specs.Answers.{loading}
-use Rattle.dc_session.specs.SessionState.{FilesState, SessionState}
+use Rattle.dc_session.specs.SessionState.{SessionState}
 use Rattle.dc_session.specs.TemplateFiles.{Finds}
 use Rattle.dc_session.specs.declared.template_files.Found.{Found}
 use Rattle.dc_session.specs.declared.template_files.Found.TheVariants.{Unreadable, Missing, Faulty, Templates}
@@ -36,11 +37,11 @@ loads_later start (transition ∷ transitions) course =
     omega arith
 
 module _ (disk : Disk) where
-  read_told : (path : List ℕ) (old new : FilesState) → new ≡ files_read path old → IsTold disk old.told → IsTold disk new.told
+  read_told : (path : List ℕ) (old new : FilesState) → new ≡ files_read path old → IsTold disk old.view → IsTold disk new.view
   read_told path old new is told =
-      (told.0 ++ record { op = Read; path = path; ok = true } ∷ [], ap (λ (f : FilesState). f.told) is ∙ ap (λ (t : Told). after_look t Read path true) told.1)
+      (told.0 ++ record { op = Read; path = path; ok = true } ∷ [], ap (λ (f : FilesState). f.view) is ∙ ap (λ (t : FilesView). after_look t Read path true) told.1)
 
-  one_turn : (start : SessionState) (one two : FileTurn) → IsTold disk start.files.told → IsFileTurn start one → IsFileTurn start two → one.path ≡ two.path → one ≡ two
+  one_turn : (start : SessionState) (one two : FileTurn) → IsTold disk start.files.view → IsFileTurn start one → IsFileTurn start two → one.path ≡ two.path → one ≡ two
   one_turn start one two told first second path =
       let one_files : one.new.files ≡ files_read two.path start.files = turn_files start one first ∙ ap (λ (p : List ℕ). files_read p start.files) path in
       let files : one.new.files ≡ two.new.files = one_files ∙ sym (turn_files start two second) in
@@ -50,7 +51,7 @@ module _ (disk : Disk) where
       let new : one.new ≡ two.new = first.new_is ∙ (λ i. record start { store = (loading start start.owner (found i)).store; files = files i }) ∙ sym second.new_is in
       λ i. record { path = path i; found = found i; new = new i }
 
-  pub one_course : (start : SessionState) (a b : List FileTurn) → IsTold disk start.files.told → IsFileCourse start a → IsFileCourse start b → paths_of a ≡ paths_of b → a ≡ b
+  pub one_course : (start : SessionState) (a b : List FileTurn) → IsTold disk start.files.view → IsFileCourse start a → IsFileCourse start b → paths_of a ≡ paths_of b → a ≡ b
   one_course start [] [] told first second paths = refl
   one_course start [] (transition ∷ b) told first second paths = absurd (cc)
   one_course start (transition ∷ a) [] told first second paths = absurd (cc)

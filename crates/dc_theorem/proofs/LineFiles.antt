@@ -1,6 +1,7 @@
 -- What a line leaves of the files, where no failure of theirs is counted.
 use Rattle.std.proofs.Common.{◌≡◌, ℕ, Bool, true, List, [], ◌∷◌, Option, None, Some, refl, ap, arith}
 use Rattle.std.specs.Prelude.{◌-◌, ◌^◌, ◌<◌, ◌≤◌}
+use Rattle.dc_outside.specs.State.{FilesState}
 use Rattle.dc_outside.specs.Steps.{after_look}
 use Rattle.dc_outside.specs.declared.files.FilesOp.TheVariants.{Read}
 use Rattle.dc_words.specs.declared.stream.Line.{Line}
@@ -10,7 +11,7 @@ use Rattle.dc_proto.specs.declared.command.Heard.{Heard}
 use Rattle.dc_proto.specs.declared.command.Heard.TheVariants.{Nothing, Known, Refused}
 use Rattle.dc_serve.specs.Execution.{Transition, state_after, IsExecution}
 use Rattle.dc_session.specs.Machine.{Handles, Steps, StepsHeard, Looks, file_of}
-use Rattle.dc_session.specs.SessionState.{FilesState, SessionState}
+use Rattle.dc_session.specs.SessionState.{SessionState}
 use Rattle.dc_session.specs.TemplateFiles.{Finds, HasRead}
 use Rattle.dc_session.specs.declared.stepped.Stepped.{Stepped}
 use Rattle.dc_session.specs.declared.template_files.Found.{Found}
@@ -19,10 +20,10 @@ use Rattle.dc_theorem.proofs.CountLemmas.{no_rise, still}
 
 -- the files after a read that was answered
 abbrev pub files_read : List ℕ → FilesState → FilesState
-files_read path old = record { told = after_look old.told Read path true; counts = old.counts }
+files_read path old = record { view = after_look old.view Read path true; counts = old.counts }
 
 pub read_so : (path : List ℕ) (old new : FilesState) (text : Option (List ℕ)) → HasRead path old new text → new ≡ files_read path old
-read_so path old new text read = λ i. record { told = read.told_is i; counts = read.counts i }
+read_so path old new text read = λ i. record { view = read.told_is i; counts = read.counts i }
 
 -- ---- a file is looked for
 

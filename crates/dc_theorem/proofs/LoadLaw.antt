@@ -1,7 +1,9 @@
 -- What comes in determines a run of `loadtemplate`.
 use Rattle.std.proofs.Common.{◌≡◌, ℕ, List, ◌++◌, ap, sym, subst, ◌∙◌, append-nil, arith}
 use Rattle.std.specs.Prelude.{◌≤◌}
-use Rattle.dc_session.specs.SessionState.{FilesState, SessionState}
+use Rattle.dc_outside.specs.Counts.{Counts}
+use Rattle.dc_outside.specs.State.{FilesState}
+use Rattle.dc_session.specs.SessionState.{SessionState}
 use Rattle.dc_run.specs.Ends.{status_of}
 use Rattle.dc_run.specs.OneRound.{HasUsed}
 use Rattle.dc_run.specs.Starting.{begun}
@@ -16,7 +18,6 @@ use Rattle.dc_cli.specs.declared.tool.Tool.TheVariants.{LoadTemplate}
 use Rattle.dc_theorem.specs.Runs.{IsClean, LoadAlike}
 use Rattle.dc_theorem.proofs.EndLemmas.{was_used, unwaited}
 use Rattle.dc_outside.specs.Disk.{Disk}
-use Rattle.dc_outside.specs.Told.{Counts}
 use Rattle.dc_outside.specs.declared.files.FilesCall.{FilesCall}
 use Rattle.dc_theorem.proofs.FileCourses.{loads_later, one_course, files_with_counts, course_with, paths_with, state_with, told_with, status_with}
 use Rattle.dc_theorem.proofs.Recount.{with_counts}
@@ -33,8 +34,8 @@ record LoadsEach (start : SessionState) (paths : List (List ℕ)) (said : List �
 
 loads_each : (start : SessionState) (paths : List (List ℕ)) (said : List ℕ) (status : ℕ) (new : SessionState) → HasLoadedFiles start paths tool.Done said status new → LoadsEach start paths said status new
 loads_each start paths said status new loaded = record {
-  transitions = loaded.transitions;
-  paths_are = loaded.paths_are ∙ ap (λ (ps : List (List ℕ)). paths_of loaded.transitions ++ ps) loaded.ends.0 ∙ append-nil (paths_of loaded.transitions);
+  transitions = loaded.turns;
+  paths_are = loaded.paths_are ∙ ap (λ (ps : List (List ℕ)). paths_of loaded.turns ++ ps) loaded.ends.0 ∙ append-nil (paths_of loaded.turns);
   course = loaded.course;
   new_is = loaded.ends.1;
   said_is = loaded.said_is;
@@ -86,7 +87,7 @@ module _ (words : List (List ℕ)) (owner : List ℕ) (paths : List (List ℕ)) 
         let other_begins = begun (LoadTemplate owner paths) other_has.mid other_has.roots settings other.links.io in
         let counts = has.mid.files.counts in
         let begin : with_counts counts other_begins ≡ begins
-        = λ i. begun (LoadTemplate owner paths) (record { files = record { told = sym starts.told i; counts = counts }; used = sym starts.used i }) (sym starts.roots_are i) settings one.links.io in
+        = λ i. begun (LoadTemplate owner paths) (record { files = record { view = sym starts.told i; counts = counts }; used = sym starts.used i }) (sym starts.roots_are i) settings one.links.io in
         let first = loads one new outcome clean has in
         let second : LoadsEach begins paths other_has.told other_has.answer.status (with_counts counts other_has.uses.state)
         = subst (λ (s : SessionState). LoadsEach s paths other_has.told other_has.answer.status (with_counts counts other_has.uses.state)) begin
@@ -102,7 +103,7 @@ module _ (words : List (List ℕ)) (owner : List ℕ) (paths : List (List ℕ)) 
         = first.status_is ∙ ap (λ (ts : List FileTurn). load_status begins ts) transitions ∙ sym second.status_is in
         record {
           leave = leave_alike words (LoadTemplate owner paths) settings disk calls one new other last outcome again clean other_clean has other_has
-              (has.uses.layers_are ∙ ap (λ (s : SessionState). s.store.layers) state ∙ sym other_has.uses.layers_are) (ap (λ (f : FilesState). f.told) has.uses.files_are ∙ ap (λ (s : SessionState). s.files.told) state ∙ sym (ap (λ (f : FilesState). f.told) other_has.uses.files_are)) said
+              (has.uses.layers_are ∙ ap (λ (s : SessionState). s.store.layers) state ∙ sym other_has.uses.layers_are) (ap (λ (f : FilesState). f.view) has.uses.files_are ∙ ap (λ (s : SessionState). s.files.view) state ∙ sym (ap (λ (f : FilesState). f.view) other_has.uses.files_are)) said
               (has.uses.last_code_is ∙ sym other_has.uses.last_code_is);
           status = status_is other last again other_clean other_has ∙ sym status ∙ sym (status_is one new outcome clean has);
         }

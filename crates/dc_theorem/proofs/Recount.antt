@@ -1,7 +1,8 @@
 -- A session goes on in the same way whatever its files had counted before it, where no failure of theirs is counted in it.
 use Rattle.std.proofs.Common.{◌≡◌, ℕ, Bool, List, [], ◌∷◌, ◌++◌, Option, None, Some, inl, inr, refl, ap, sym, subst, ◌∙◌, arith}
 use Rattle.std.specs.Prelude.{◌-◌, ◌^◌, ◌<◌, ◌≤◌, ◌||◌, Ok, map as each}
-use Rattle.dc_outside.specs.Told.{Counts}
+use Rattle.dc_outside.specs.Counts.{Counts}
+use Rattle.dc_outside.specs.State.{FilesState}
 use Rattle.dc_outside.specs.declared.link.Piece.{Piece}
 use Rattle.dc_words.specs.declared.stream.Line.{Line}
 use Rattle.dc_words.specs.declared.stream.Line.TheVariants.{Whole, TooLong}
@@ -17,7 +18,7 @@ use Rattle.dc_serve.specs.declared.outcome.LinkEnd.TheVariants.{Done}
 use Rattle.dc_session.specs.Answers.{answer}
 use Rattle.dc_session.specs.Displays.{Display, Shows}
 use Rattle.dc_session.specs.Machine.{Handles, Aborts, Steps, StepsHeard, HasDone, Looks, file_of}
-use Rattle.dc_session.specs.SessionState.{FilesState, SessionState}
+use Rattle.dc_session.specs.SessionState.{SessionState}
 use Rattle.dc_session.specs.TemplateFiles.{Finds, HasRead}
 use Rattle.dc_session.specs.declared.stepped.Stepped.{Stepped}
 use Rattle.dc_session.specs.declared.template_files.Found.{Found}
@@ -28,7 +29,7 @@ use Rattle.dc_theorem.proofs.SameAnswers.{same_answer, same_display}
 
 -- the files, with these counts
 abbrev pub files_with : Counts → FilesState → FilesState
-files_with counts files = record { told = files.told; counts = counts }
+files_with counts files = record { view = files.view; counts = counts }
 
 -- the session, whose files have these counts
 abbrev pub with_counts : Counts → SessionState → SessionState

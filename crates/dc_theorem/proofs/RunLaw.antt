@@ -1,6 +1,7 @@
 -- What comes in determines a run of `run`.
 use Rattle.std.proofs.Common.{◌≡◌, ℕ, false, true, List, [], Option, Some, inl, inr, refl, ap, sym, subst, ◌∙◌, arith}
 use Rattle.std.specs.Prelude.{◌≤◌}
+use Rattle.dc_outside.specs.State.{FilesState, LinkState}
 use Rattle.dc_frontend.specs.declared.frontend.Frontend.{Frontend}
 use Rattle.dc_proto.specs.declared.priority.Priority.{Priority}
 use Rattle.dc_serve.specs.LinkRun.{IsLinkRun}
@@ -8,7 +9,7 @@ use Rattle.dc_serve.specs.declared.outcome.LinkEnd.TheVariants as link
 use Rattle.dc_session.specs.Alike.{AreAlike}
 use Rattle.dc_session.specs.Asking.{finished}
 use Rattle.dc_session.specs.Machine.{Handles, Aborts}
-use Rattle.dc_session.specs.SessionState.{FilesState, LinkState, SessionState, nothing_typed}
+use Rattle.dc_session.specs.SessionState.{SessionState, nothing_typed}
 use Rattle.dc_run.specs.OneRound.{HasUsed}
 use Rattle.dc_run.specs.Running.{IsStarted}
 use Rattle.dc_run.specs.Starting.{begun}
@@ -29,7 +30,7 @@ use Rattle.dc_theorem.proofs.UsedLemmas.{wait_is, tool_done, left_sound, starts_
 module _ (words : List (List ℕ)) (owner : List ℕ) (frontend : Option Frontend) (priority : Option Priority) (command : List (List ℕ)) (settings : Settings) (disk : Disk) (calls : List FilesCall) where
   -- ---- one run
 
-  module _ (old new : World) (outcome : Outcome) (input : List ℕ) (clean : IsClean words settings disk calls old new outcome) (has : HasUsed (Run owner frontend priority command) settings old new outcome) (input_is : old.links.child.link.input ≡ Some input) where
+  module _ (old new : World) (outcome : Outcome) (input : List ℕ) (clean : IsClean words settings disk calls old new outcome) (has : HasUsed (Run owner frontend priority command) settings old new outcome) (input_is : old.links.child.input ≡ Some input) where
     abbrev start : SessionState
     start = begun (Run owner frontend priority command) has.mid has.roots settings old.links.io
 
@@ -40,13 +41,13 @@ module _ (words : List (List ℕ)) (owner : List ℕ) (frontend : Option Fronten
       | inr is ↦ is
     ]
 
-    served : WasServed start has.layers has.files has.links.io old.links.child.link has.links.child.link has.answer.last_code
-    served =
-        was_served start has.layers has.files has.links.io old.links.child.link has.links.child.link started.ended has.answer.last_code
-        (sym started.ended_is ∙ tool_done words (Run owner frontend priority command) settings disk calls old new outcome clean has) started.served
+    served : WasServed start has.layers has.files has.links.io (record old.links.child { program = started.mid.program }) has.links.child has.answer.last_code
+    served = subst (λ (l : LinkState). WasServed start has.layers has.files has.links.io l has.links.child has.answer.last_code) started.starts.state
+        (was_served start has.layers has.files has.links.io started.mid has.links.child started.ended has.answer.last_code
+        (sym started.ended_is ∙ tool_done words (Run owner frontend priority command) settings disk calls old new outcome clean has) started.served)
 
-    ran : IsLinkRun Handles Aborts old.links.child.link.talk has.links.child.link.talk (Some input) has.links.child.link.input start link.Done served.state has.answer.last_code
-    ran = subst (λ (k : Option (List ℕ)). IsLinkRun Handles Aborts old.links.child.link.talk has.links.child.link.talk k has.links.child.link.input start link.Done served.state has.answer.last_code) input_is served.ran
+    ran : IsLinkRun Handles Aborts old.links.child.talk has.links.child.talk (Some input) has.links.child.input start link.Done served.state has.answer.last_code
+    ran = subst (λ (k : Option (List ℕ)). IsLinkRun Handles Aborts old.links.child.talk has.links.child.talk k has.links.child.input start link.Done served.state has.answer.last_code) input_is served.ran
 
     high : served.state.files.counts.faults ≤ old.stock.files.counts.faults
     high = subst (λ (f : FilesState). f.counts.faults ≤ old.stock.files.counts.faults) served.files_are (left_sound words (Run owner frontend priority command) settings disk calls old new outcome clean has)
@@ -54,19 +55,19 @@ module _ (words : List (List ℕ)) (owner : List ℕ) (frontend : Option Fronten
     mid_high : has.mid.files.counts.faults ≤ old.stock.files.counts.faults
     mid_high =
         let later : has.mid.files.counts.faults ≤ served.state.files.counts.faults
-        = run_later input old.links.child.link.talk has.links.child.link.talk has.links.child.link.input start served.state has.answer.last_code ran in
+        = run_later input old.links.child.talk has.links.child.talk has.links.child.input start served.state has.answer.last_code ran in
         let low : served.state.files.counts.faults ≤ old.stock.files.counts.faults = high in
         omega arith
 
-    link_is : new.links.child.link.talk ≡ has.links.child.link.talk
-    link_is = ap (λ (l : LinkState). l.talk) (wait_is words (Run owner frontend priority command) settings disk calls old new outcome clean has).1
+    link_is : new.links.child.talk ≡ has.links.child.talk
+    link_is = (wait_is words (Run owner frontend priority command) settings disk calls old new outcome clean has).1
 
   -- ---- both
 
   module _ (one new other last : World) (outcome again : Outcome) (input : List ℕ)
       (clean : IsClean words settings disk calls one new outcome) (other_clean : IsClean words settings disk calls other last again)
       (has : HasUsed (Run owner frontend priority command) settings one new outcome) (other_has : HasUsed (Run owner frontend priority command) settings other last again)
-      (input_is : one.links.child.link.input ≡ Some input) (other_input_is : other.links.child.link.input ≡ Some input) (terminals : AreTypedAlike one.links.io other.links.io) where
+      (input_is : one.links.child.input ≡ Some input) (other_input_is : other.links.child.input ≡ Some input) (terminals : AreTypedAlike one.links.io other.links.io) where
     starts : StartAlike has.mid other_has.mid has.roots other_has.roots
     starts =
         same_start words (Run owner frontend priority command) settings disk calls one new other last outcome again clean other_clean has other_has (mid_high one new outcome input clean has input_is)
@@ -97,20 +98,20 @@ module _ (words : List (List ℕ)) (owner : List ℕ) (frontend : Option Fronten
         let begins = begun (Run owner frontend priority command) has.mid has.roots settings other.links.io in
         let other_begins = begun (Run owner frontend priority command) other_has.mid other_has.roots settings other.links.io in
         let counts = has.mid.files.counts in
-        let recounted = run_with counts other.stock.files.counts.faults other_clean.none_failed.room other.links.child.link.talk other_has.links.child.link.talk (Some input) other_has.links.child.link.input other_begins second.state other_has.answer.last_code
+        let recounted = run_with counts other.stock.files.counts.faults other_clean.none_failed.room other.links.child.talk other_has.links.child.talk (Some input) other_has.links.child.input other_begins second.state other_has.answer.last_code
         (starts_low words (Run owner frontend priority command) settings disk calls other last again other_clean other_has) (high other last again input other_clean other_has other_input_is) (ran other last again input other_clean other_has other_input_is) in
         let begin : with_counts counts other_begins ≡ begins
-        = λ i. begun (Run owner frontend priority command) (record { files = record { told = sym starts.told i; counts = counts }; used = sym starts.used i }) (sym starts.roots_are i) settings other.links.io in
-        let other_ran : IsLinkRun Handles Aborts other.links.child.link.talk other_has.links.child.link.talk (Some input) other_has.links.child.link.input begins link.Done (with_counts counts second.state) other_has.answer.last_code
-        = subst (λ (s : SessionState). IsLinkRun Handles Aborts other.links.child.link.talk other_has.links.child.link.talk (Some input) other_has.links.child.link.input s link.Done (with_counts counts second.state) other_has.answer.last_code) begin recounted in
+        = λ i. begun (Run owner frontend priority command) (record { files = record { view = sym starts.told i; counts = counts }; used = sym starts.used i }) (sym starts.roots_are i) settings other.links.io in
+        let other_ran : IsLinkRun Handles Aborts other.links.child.talk other_has.links.child.talk (Some input) other_has.links.child.input begins link.Done (with_counts counts second.state) other_has.answer.last_code
+        = subst (λ (s : SessionState). IsLinkRun Handles Aborts other.links.child.talk other_has.links.child.talk (Some input) other_has.links.child.input s link.Done (with_counts counts second.state) other_has.answer.last_code) begin recounted in
         let disk_told = starts_told words (Run owner frontend priority command) settings disk calls one new outcome clean has in
-        let same = run_alike one.stock.files.counts.faults clean.none_failed.room disk disk_told.0 input one.links.child.link.talk has.links.child.link.talk other.links.child.link.talk other_has.links.child.link.talk has.links.child.link.input other_has.links.child.link.input
+        let same = run_alike one.stock.files.counts.faults clean.none_failed.room disk disk_told.0 input one.links.child.talk has.links.child.talk other.links.child.talk other_has.links.child.talk has.links.child.input other_has.links.child.input
         (begun (Run owner frontend priority command) has.mid has.roots settings one.links.io) begins first.state (with_counts counts second.state) has.answer.last_code other_has.answer.last_code
         disk_told.1 starts_alike (starts_low words (Run owner frontend priority command) settings disk calls one new outcome clean has)
         (high one new outcome input clean has input_is) (mid_high one new outcome input clean has input_is) one_ran other_ran in
         let layers : has.layers ≡ other_has.layers = first.layers_are ∙ ap (λ (s : SessionState). (finished s).layers) (sym same.states.rest) ∙ sym second.layers_are in
-        let left : has.files.told ≡ other_has.files.told
-        = ap (λ (f : FilesState). f.told) first.files_are ∙ ap (λ (s : SessionState). s.files.told) (sym same.states.rest) ∙ sym (ap (λ (f : FilesState). f.told) second.files_are) in
+        let left : has.files.view ≡ other_has.files.view
+        = ap (λ (f : FilesState). f.view) first.files_are ∙ ap (λ (s : SessionState). s.files.view) (sym same.states.rest) ∙ sym (ap (λ (f : FilesState). f.view) second.files_are) in
         record {
           leave = leave_alike words (Run owner frontend priority command) settings disk calls one new other last outcome again clean other_clean has other_has layers left (has.uses.1 ∙ sym other_has.uses.1) same.code_is;
           replies = record {
@@ -130,7 +131,7 @@ module _ (words : List (List ℕ)) (owner : List ℕ) (frontend : Option Fronten
         }
 
   pub program_alike : (one new other last : World) (outcome again : Outcome) (input : List ℕ) → Names words (Run owner frontend priority command)
-      → IsClean words settings disk calls one new outcome → IsClean words settings disk calls other last again → one.links.child.link.input ≡ Some input → other.links.child.link.input ≡ Some input
+      → IsClean words settings disk calls one new outcome → IsClean words settings disk calls other last again → one.links.child.input ≡ Some input → other.links.child.input ≡ Some input
       → AreTypedAlike one.links.io other.links.io → RunAlike one new outcome other last again
   program_alike one new other last outcome again input named clean other_clean input_is other_input_is terminals =
       both_alike one new other last outcome again input clean other_clean

@@ -3,6 +3,7 @@ use Rattle.std.proofs.Common.{◌≡◌, ℕ, List, [], ◌∷◌, refl, ap, ◌
 use Rattle.std.specs.Prelude.{Bool, Option, None, Some, Result, Ok, Err, unwrap_or, if◌then◌else◌, codes}
 use Rattle.std.specs.Option.{option_map_or}
 use Rattle.std.specs.Str.{bytes_eq}
+use Rattle.dc_outside.specs.State.{FilesState}
 use Rattle.dc_text.specs.Names.{is_name}
 use Rattle.dc_frontend.specs.declared.frontend.Frontend.{Frontend}
 use Rattle.dc_frontend.specs.declared.frontend.Frontend.TheVariants.{Noninteractive, Teletype}
@@ -24,7 +25,7 @@ use Rattle.dc_session.specs.Answers.{CommandInputs, CommandOutcome, answer, repl
 use Rattle.dc_session.specs.Asking.{description, is_to_be_shown, shown_by, prepared_if, choices_for, to_show, first_fixed, values_given, first_busy}
 use Rattle.dc_session.specs.Displays.{displayed}
 use Rattle.dc_session.specs.Refusals.{cant_change, is_busy, bad_flag_value, no_progress_bar}
-use Rattle.dc_session.specs.SessionState.{FilesState, SessionState}
+use Rattle.dc_session.specs.SessionState.{SessionState}
 use Rattle.dc_session.specs.declared.asking.Bar.{Bar}
 use Rattle.dc_session.specs.declared.template_files.Found.{Found}
 use Rattle.dc_session.specs.declared.template_files.Found.TheVariants.{Unreadable, Missing, Faulty, Templates}

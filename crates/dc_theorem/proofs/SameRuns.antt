@@ -73,7 +73,7 @@ module _ (input : List ℕ) (talk new_talk : Option (List Piece)) (left : Option
 
 module _ (n : ℕ) (room : n < 2 ^ 64 - 1) (disk : Disk) where
   -- from sessions that are alike
-  files_alike : (start other : SessionState) (a b : List (Transition SessionState)) (later rest : List Line) → AreAlike start other → IsTold disk start.files.told → n ≤ start.files.counts.faults
+  files_alike : (start other : SessionState) (a b : List (Transition SessionState)) (later rest : List Line) → AreAlike start other → IsTold disk start.files.view → n ≤ start.files.counts.faults
       → (state_after start a).files.counts.faults ≤ n → (state_after other b).files.counts.faults ≤ n → IsExecution Handles start a → IsExecution Handles other b → lines_of a ++ later ≡ lines_of b ++ rest → AreFilesAlike a b
   files_alike start other [] b later rest alike told low high other_high first second lines = record {}
   files_alike start other (one ∷ a) [] later rest alike told low high other_high first second lines = record {}
@@ -94,7 +94,7 @@ module _ (n : ℕ) (room : n < 2 ^ 64 - 1) (disk : Disk) where
       (files, files_alike one.new two.new a b later rest here.1 (heeds_told disk start told one.did one.new one.line first.0) (omega arith) high other_high first.2 second.2 more)
 
   -- from one session that asks nobody
-  turns_same : (start : SessionState) (a b : List (Transition SessionState)) (later rest : List Line) → AsksNobody start → IsTold disk start.files.told → n ≤ start.files.counts.faults
+  turns_same : (start : SessionState) (a b : List (Transition SessionState)) (later rest : List Line) → AsksNobody start → IsTold disk start.files.view → n ≤ start.files.counts.faults
       → (state_after start a).files.counts.faults ≤ n → (state_after start b).files.counts.faults ≤ n → IsExecution Handles start a → IsExecution Handles start b → lines_of a ++ later ≡ lines_of b ++ rest
       → AreThrough a later → AreThrough b rest → a ≡ b
   turns_same start [] [] later rest nobody told low high other_high first second lines one_through two_through = refl
@@ -127,7 +127,7 @@ module _ (n : ℕ) (room : n < 2 ^ 64 - 1) (disk : Disk) where
 
 module _ (n : ℕ) (room : n < 2 ^ 64 - 1) (disk : Disk) (calls : List FilesCall) (input : List ℕ) (talk new_talk other_talk last_talk : Option (List Piece)) (left other_left : Option (List ℕ)) where
   -- what ran is the same in both, where nobody is asked
-  pub run_same : (start new last : SessionState) (code number : ℕ) → start.files.told ≡ record { disk = Some disk; calls = Some calls } → AsksNobody start → n ≤ start.files.counts.faults → new.files.counts.faults ≤ n → last.files.counts.faults ≤ n
+  pub run_same : (start new last : SessionState) (code number : ℕ) → start.files.view ≡ record { disk = Some disk; calls = Some calls } → AsksNobody start → n ≤ start.files.counts.faults → new.files.counts.faults ≤ n → last.files.counts.faults ≤ n
       → (one : IsLinkRun Handles Aborts talk new_talk (Some input) left start Done new code) → (two : IsLinkRun Handles Aborts other_talk last_talk (Some input) other_left start Done last number)
       → (said one.pieces ≡ said two.pieces) × (code ≡ number) × (new ≡ last)
   run_same start new last code number told nobody low high other_high one two =
@@ -145,7 +145,7 @@ module _ (n : ℕ) (room : n < 2 ^ 64 - 1) (disk : Disk) (calls : List FilesCall
       )
 
   -- what ran is alike in both
-  pub run_alike : (start other new last : SessionState) (code number : ℕ) → start.files.told ≡ record { disk = Some disk; calls = Some calls } → AreAlike start other → n ≤ start.files.counts.faults → new.files.counts.faults ≤ n → last.files.counts.faults ≤ n
+  pub run_alike : (start other new last : SessionState) (code number : ℕ) → start.files.view ≡ record { disk = Some disk; calls = Some calls } → AreAlike start other → n ≤ start.files.counts.faults → new.files.counts.faults ≤ n → last.files.counts.faults ≤ n
       → (one : IsLinkRun Handles Aborts talk new_talk (Some input) left start Done new code) → (two : IsLinkRun Handles Aborts other_talk last_talk (Some input) other_left other Done last number)
       → EndAlike one.pieces two.pieces code number new last
   run_alike start other new last code number told alike low high other_high one two =
@@ -157,7 +157,7 @@ module _ (n : ℕ) (room : n < 2 ^ 64 - 1) (disk : Disk) (calls : List FilesCall
       one.course two.course (first.1 ∙ sym second.1))
 
 pub sessions_alike : (start other new last : SessionState) (disk : Disk) (calls : List FilesCall) (input : List ℕ) (talk new_talk other_talk last_talk : Option (List Piece)) (left other_left : Option (List ℕ)) (code number : ℕ)
-    → start.files.told ≡ record { disk = Some disk; calls = Some calls } → AreAlike start other → NoneFailed start.files.counts new.files.counts → NoneFailed other.files.counts last.files.counts
+    → start.files.view ≡ record { disk = Some disk; calls = Some calls } → AreAlike start other → NoneFailed start.files.counts new.files.counts → NoneFailed other.files.counts last.files.counts
     → (one : IsLinkRun Handles Aborts talk new_talk (Some input) left start Done new code) → (two : IsLinkRun Handles Aborts other_talk last_talk (Some input) other_left other Done last number)
     → EndAlike one.pieces two.pieces code number new last
 sessions_alike start other new last disk calls input talk new_talk other_talk last_talk left other_left code number told alike sound other_sound one two =

@@ -1,13 +1,13 @@
 -- What the files hold determines what a run begins from, where no call of them failed.
 use Rattle.std.proofs.Common.{◌≡◌, ℕ, Bool, List, [], ◌∷◌, ◌++◌, Option, None, Some, ap, sym, subst, inl, inr, ◌∙◌, arith}
 use Rattle.std.specs.Prelude.{◌-◌, ◌^◌, ◌<◌, ◌≤◌, true, false, map as each, Result, Ok, Err}
+use Rattle.dc_outside.specs.State.{FilesState, FilesView}
 use Rattle.dc_item.specs.Records.{Reads}
 use Rattle.dc_item.specs.Table.{table_of}
 use Rattle.dc_item.specs.declared.entry.Entry.{Entry}
 use Rattle.dc_outside.specs.Disk.{Disk}
 use Rattle.dc_outside.specs.Steps.{after_look}
-use Rattle.dc_outside.specs.Told.{Told, Counts}
-use Rattle.dc_outside.specs.Counts.{FaultRose}
+use Rattle.dc_outside.specs.Counts.{Counts, FaultRose}
 use Rattle.dc_outside.specs.declared.files.FilesOp.{FilesOp}
 use Rattle.dc_outside.specs.declared.files.FilesOp.TheVariants.{Read, List as ListOf}
 use Rattle.dc_conf.specs.Configuration.{Configuration, configuration, plan_of}
@@ -23,7 +23,6 @@ use Rattle.dc_save.specs.declared.loading.Loaded.{Loaded}
 use Rattle.dc_save.specs.declared.loading.Loaded.TheVariants.{Here, LeftOut}
 use Rattle.dc_save.specs.declared.loading.LoadError.{LoadError}
 use Rattle.dc_shelf.specs.Shelves.{all_set_up, GoesOn, LoadsAll}
-use Rattle.dc_session.specs.SessionState.{FilesState}
 use Rattle.dc_session.proofs.Determined.{IsTold}
 use Rattle.dc_run.specs.Starting.{IsConfiguration, databases_of, conf_read, HasStarted}
 use Rattle.dc_run.specs.World.{Stock}
@@ -35,17 +34,17 @@ no_error error is = cc
 
 -- ---- one load
 
-here_counts : (sort : LayerSort) (files mid : Told) (before counts : Counts) → LoadCountsBy sort files mid (Ok Here) before counts → counts ≡ before
+here_counts : (sort : LayerSort) (files mid : FilesView) (before counts : Counts) → LoadCountsBy sort files mid (Ok Here) before counts → counts ≡ before
 here_counts File files mid before counts counted = counted
 here_counts Tree files mid before counts counted = counted
 here_counts Pack files mid before counts counted = counted
 
-out_counts : (sort : LayerSort) (files mid : Told) (before counts : Counts) → LoadCountsBy sort files mid (Ok LeftOut) before counts → FaultRose before counts
+out_counts : (sort : LayerSort) (files mid : FilesView) (before counts : Counts) → LoadCountsBy sort files mid (Ok LeftOut) before counts → FaultRose before counts
 out_counts File files mid before counts counted = counted
 out_counts Tree files mid before counts counted = counted
 out_counts Pack files mid before counts counted = counted
 
-module _ (spec : LayerSpec) (layer made : LayerState) (files mid : Told) (before counts : Counts) (more last : Type 0) where
+module _ (spec : LayerSpec) (layer made : LayerState) (files mid : FilesView) (before counts : Counts) (more last : Type 0) where
   -- the counts don't fall, and the other loads follow
   goes_later : (first : Result Loaded LoadError) → LoadCounts spec files mid first before counts → GoesOn first (Ok tt) more last → (before.faults ≤ counts.faults) × more
   goes_later (Ok Here) counted goes = (still before counts (here_counts spec.sort files mid before counts counted), goes)
@@ -98,23 +97,23 @@ one_here : (disk : Disk) (spec : LayerSpec) (layer made other : LayerState) → 
 one_here disk spec layer made other first second = one_by spec.sort disk spec layer made other first second
 
 -- and so is what the files tell then
-one_listed : (disk : Disk) (spec : LayerSpec) (files mid other : Told) → files.disk ≡ Some disk → LoadsFolderFiles files mid spec (Ok Here) → LoadsFolderFiles files other spec (Ok Here) → mid ≡ other
+one_listed : (disk : Disk) (spec : LayerSpec) (files mid other : FilesView) → files.disk ≡ Some disk → LoadsFolderFiles files mid spec (Ok Here) → LoadsFolderFiles files other spec (Ok Here) → mid ≡ other
 one_listed disk spec files mid other told first second =
     let listed : first.0 ≡ second.0
     = subst (λ (d : Option Disk). IsListedAt d spec.place first.0) told first.1 ∙ sym (subst (λ (d : Option Disk). IsListedAt d spec.place second.0) told second.1) in
     first.2 ∙ ap (λ (l : List (List ℕ)). after_reads files spec (its_files spec l)) listed ∙ sym second.2
 
-told_by : (sort : LayerSort) (disk : Disk) (spec : LayerSpec) (files mid other : Told) → files.disk ≡ Some disk → LoadsFilesBy sort files mid spec (Ok Here) → LoadsFilesBy sort files other spec (Ok Here) → mid ≡ other
+told_by : (sort : LayerSort) (disk : Disk) (spec : LayerSpec) (files mid other : FilesView) → files.disk ≡ Some disk → LoadsFilesBy sort files mid spec (Ok Here) → LoadsFilesBy sort files other spec (Ok Here) → mid ≡ other
 told_by File disk spec files mid other told first second = first ∙ sym second
 told_by Tree disk spec files mid other told first second = one_listed disk spec files mid other told first second
 told_by Pack disk spec files mid other told first second = one_listed disk spec files mid other told first second
 
-one_told : (disk : Disk) (spec : LayerSpec) (files mid other : Told) → files.disk ≡ Some disk → LoadsFiles files mid spec (Ok Here) → LoadsFiles files other spec (Ok Here) → mid ≡ other
+one_told : (disk : Disk) (spec : LayerSpec) (files mid other : FilesView) → files.disk ≡ Some disk → LoadsFiles files mid spec (Ok Here) → LoadsFiles files other spec (Ok Here) → mid ≡ other
 one_told disk spec files mid other told first second = told_by spec.sort disk spec files mid other told first second
 
 -- ---- all loads
 
-loads_later : (specs : List LayerSpec) (old new : List LayerState) (files files_new : Told) (before now : Counts) → LoadsAll specs old new files files_new before now (Ok tt) → before.faults ≤ now.faults
+loads_later : (specs : List LayerSpec) (old new : List LayerState) (files files_new : FilesView) (before now : Counts) → LoadsAll specs old new files files_new before now (Ok tt) → before.faults ≤ now.faults
 loads_later [] old new files files_new before now loads = still before now loads.3
 loads_later (spec ∷ specs) [] new files files_new before now loads = absurd loads
 loads_later (spec ∷ specs) (layer ∷ old) [] files files_new before now loads = absurd loads
@@ -125,37 +124,37 @@ loads_later (spec ∷ specs) (layer ∷ old) (made ∷ new) files files_new befo
     omega arith
 
 -- the files tell as before
-look_told : (disk : Disk) (op : FilesOp) (path : List ℕ) (files : Told) (ok : Bool) → IsTold disk files → IsTold disk (after_look files op path ok)
-look_told disk op path files ok told = (told.0 ++ record { op = op; path = path; ok = ok } ∷ [], ap (λ (t : Told). after_look t op path ok) told.1)
+look_told : (disk : Disk) (op : FilesOp) (path : List ℕ) (files : FilesView) (ok : Bool) → IsTold disk files → IsTold disk (after_look files op path ok)
+look_told disk op path files ok told = (told.0 ++ record { op = op; path = path; ok = ok } ∷ [], ap (λ (t : FilesView). after_look t op path ok) told.1)
 
-reads_told : (disk : Disk) (spec : LayerSpec) (files : List (List ℕ)) (told : Told) → IsTold disk told → IsTold disk (reads_of told spec files)
+reads_told : (disk : Disk) (spec : LayerSpec) (files : List (List ℕ)) (told : FilesView) → IsTold disk told → IsTold disk (reads_of told spec files)
 reads_told disk spec [] told is = is
 reads_told disk spec (file ∷ files) told is = reads_told disk spec files (after_look told Read (path_at spec file) true) (look_told disk Read (path_at spec file) told true is)
 
-folder_told : (disk : Disk) (spec : LayerSpec) (files : List (List ℕ)) (told : Told) → IsTold disk told → IsTold disk (after_reads told spec files)
+folder_told : (disk : Disk) (spec : LayerSpec) (files : List (List ℕ)) (told : FilesView) → IsTold disk told → IsTold disk (after_reads told spec files)
 folder_told disk spec files told is = reads_told disk spec files (after_look told ListOf spec.place true) (look_told disk ListOf spec.place told true is)
 
-failed_told : (disk : Disk) (spec : LayerSpec) (path : List ℕ) (files mid : Told) → FailsOn spec path files mid → IsTold disk files → IsTold disk mid
+failed_told : (disk : Disk) (spec : LayerSpec) (path : List ℕ) (files mid : FilesView) → FailsOn spec path files mid → IsTold disk files → IsTold disk mid
 failed_told disk spec path files mid (inl is) told = subst (IsTold disk) (sym is.1) (look_told disk ListOf path files false told)
 failed_told disk spec path files mid (inr is) told = subst (IsTold disk) (sym is.told_is) (look_told disk Read path (after_reads files spec is.before) false (folder_told disk spec is.before files told))
 
-here_told : (sort : LayerSort) (disk : Disk) (spec : LayerSpec) (files mid : Told) → LoadsFilesBy sort files mid spec (Ok Here) → IsTold disk files → IsTold disk mid
+here_told : (sort : LayerSort) (disk : Disk) (spec : LayerSpec) (files mid : FilesView) → LoadsFilesBy sort files mid spec (Ok Here) → IsTold disk files → IsTold disk mid
 here_told File disk spec files mid looks told = subst (IsTold disk) (sym looks) (look_told disk Read spec.place files true told)
 here_told Tree disk spec files mid looks told = subst (IsTold disk) (sym looks.2) (folder_told disk spec (its_files spec looks.0) files told)
 here_told Pack disk spec files mid looks told = subst (IsTold disk) (sym looks.2) (folder_told disk spec (its_files spec looks.0) files told)
 
-out_told : (sort : LayerSort) (disk : Disk) (spec : LayerSpec) (files mid : Told) → LoadsFilesBy sort files mid spec (Ok LeftOut) → IsTold disk files → IsTold disk mid
+out_told : (sort : LayerSort) (disk : Disk) (spec : LayerSpec) (files mid : FilesView) → LoadsFilesBy sort files mid spec (Ok LeftOut) → IsTold disk files → IsTold disk mid
 out_told File disk spec files mid looks told = subst (IsTold disk) (sym looks) (look_told disk Read spec.place files false told)
 out_told Tree disk spec files mid looks told = failed_told disk spec looks.0 files mid looks.1 told
 out_told Pack disk spec files mid looks told = failed_told disk spec looks.0 files mid looks.1 told
 
-load_told : (disk : Disk) (spec : LayerSpec) (files mid : Told) (more last : Type 0) (first : Result Loaded LoadError) → LoadsFiles files mid spec first → GoesOn first (Ok tt) more last → IsTold disk files → IsTold disk mid
+load_told : (disk : Disk) (spec : LayerSpec) (files mid : FilesView) (more last : Type 0) (first : Result Loaded LoadError) → LoadsFiles files mid spec first → GoesOn first (Ok tt) more last → IsTold disk files → IsTold disk mid
 load_told disk spec files mid more last (Ok Here) looks goes told = here_told spec.sort disk spec files mid looks told
 load_told disk spec files mid more last (Ok LeftOut) looks goes told = out_told spec.sort disk spec files mid looks told
 load_told disk spec files mid more last (Err error) looks goes told = absurd (no_error error goes.0)
 
-loads_told : (disk : Disk) (specs : List LayerSpec) (old new : List LayerState) (files files_new : Told) (before now : Counts) → LoadsAll specs old new files files_new before now (Ok tt) → IsTold disk files → IsTold disk files_new
-loads_told disk [] old new files files_new before now loads told = subst (λ (t : Told). IsTold disk t) (sym loads.2) told
+loads_told : (disk : Disk) (specs : List LayerSpec) (old new : List LayerState) (files files_new : FilesView) (before now : Counts) → LoadsAll specs old new files files_new before now (Ok tt) → IsTold disk files → IsTold disk files_new
+loads_told disk [] old new files files_new before now loads told = subst (λ (t : FilesView). IsTold disk t) (sym loads.2) told
 loads_told disk (spec ∷ specs) [] new files files_new before now loads told = absurd loads
 loads_told disk (spec ∷ specs) (layer ∷ old) [] files files_new before now loads told = absurd loads
 loads_told disk (spec ∷ specs) (layer ∷ old) (made ∷ new) files files_new before now loads told =
@@ -164,7 +163,7 @@ loads_told disk (spec ∷ specs) (layer ∷ old) (made ∷ new) files files_new 
 
 -- what loads leave is determined
 module _ (disk : Disk) (n m : ℕ) (room : n < 2 ^ 64 - 1) (other_room : m < 2 ^ 64 - 1) where
-  loads_once : (specs : List LayerSpec) (old a b : List LayerState) (files a_files b_files : Told) (before a_now other_before b_now : Counts) → files.disk ≡ Some disk → n ≤ before.faults → a_now.faults ≤ n → m ≤ other_before.faults → b_now.faults ≤ m
+  loads_once : (specs : List LayerSpec) (old a b : List LayerState) (files a_files b_files : FilesView) (before a_now other_before b_now : Counts) → files.disk ≡ Some disk → n ≤ before.faults → a_now.faults ≤ n → m ≤ other_before.faults → b_now.faults ≤ m
       → LoadsAll specs old a files a_files before a_now (Ok tt) → LoadsAll specs old b files b_files other_before b_now (Ok tt) → (a ≡ b) × (a_files ≡ b_files)
   loads_once [] old a b files a_files b_files before a_now other_before b_now told low high other_low other_high first second = (first.1 ∙ sym second.1, first.2 ∙ sym second.2)
   loads_once (spec ∷ specs) [] a b files a_files b_files before a_now other_before b_now told low high other_low other_high first second = absurd first
@@ -180,7 +179,7 @@ module _ (disk : Disk) (n m : ℕ) (room : n < 2 ^ 64 - 1) (other_room : m < 2 ^
       let one_is = goes_here spec layer made files first.1 before first.2 _ _ n room low (omega arith) first.0 first.3 first.4 first.5 first.6 in
       let two_is = goes_here spec layer other files second.1 other_before second.2 _ _ m other_room other_low (omega arith) second.0 second.3 second.4 second.5 second.6 in
       let told_alike : second.1 ≡ first.1 = one_told disk spec files second.1 first.1 told two_is.1 one_is.1 in
-      let two_loads : LoadsAll specs old b first.1 b_files second.2 b_now (Ok tt) = subst (λ (t : Told). LoadsAll specs old b t b_files second.2 b_now (Ok tt)) told_alike two_goes.1 in
+      let two_loads : LoadsAll specs old b first.1 b_files second.2 b_now (Ok tt) = subst (λ (t : FilesView). LoadsAll specs old b t b_files second.2 b_now (Ok tt)) told_alike two_goes.1 in
       let then_told : first.1.disk ≡ Some disk = load_disk files first.1 spec (Ok Here) one_is.1 ∙ told in
       let rest = loads_once specs old a b first.1 a_files b_files first.2 a_now second.2 b_now then_told (omega arith) high (omega arith) other_high one_goes.1 two_loads in
       let here : made ≡ other
@@ -195,34 +194,34 @@ one_conf disk path conf other first second =
 
 -- a run that has started counts no less than before
 pub started_later : (path : List ℕ) (files : FilesState) (mid : Stock) (roots : Roots) → HasStarted path files mid roots → files.counts.faults ≤ mid.files.counts.faults
-started_later path files mid roots started = loads_later (databases_of started.conf) (all_set_up (databases_of started.conf)) mid.used (conf_read files.told path) mid.files.told files.counts mid.files.counts started.loaded.loads
+started_later path files mid roots started = loads_later (databases_of started.conf) (all_set_up (databases_of started.conf)) mid.used (conf_read files.view path) mid.files.view files.counts mid.files.counts started.loaded.loads
 
 -- and its files tell as before
-pub started_told : (disk : Disk) (path : List ℕ) (files : FilesState) (mid : Stock) (roots : Roots) → HasStarted path files mid roots → IsTold disk files.told → IsTold disk mid.files.told
+pub started_told : (disk : Disk) (path : List ℕ) (files : FilesState) (mid : Stock) (roots : Roots) → HasStarted path files mid roots → IsTold disk files.view → IsTold disk mid.files.view
 started_told disk path files mid roots started told =
-    loads_told disk (databases_of started.conf) (all_set_up (databases_of started.conf)) mid.used (conf_read files.told path) mid.files.told files.counts mid.files.counts started.loaded.loads
-    (told.0 ++ record { op = Read; path = path; ok = true } ∷ [], ap (λ (t : Told). conf_read t path) told.1)
+    loads_told disk (databases_of started.conf) (all_set_up (databases_of started.conf)) mid.used (conf_read files.view path) mid.files.view files.counts mid.files.counts started.loaded.loads
+    (told.0 ++ record { op = Read; path = path; ok = true } ∷ [], ap (λ (t : FilesView). conf_read t path) told.1)
 
 -- Two runs that began over files that tell the same, and counted no failure: they loaded the same layers, and take the same from the
 -- configuration.
 pub record StartAlike (mid last : Stock) (roots others : Roots) : Type 0 where
   pub used : mid.used ≡ last.used
-  pub told : mid.files.told ≡ last.files.told
+  pub told : mid.files.view ≡ last.files.view
   pub roots_are : roots ≡ others
 
-pub one_start : (disk : Disk) (path : List ℕ) (told : Told) (files other_files : FilesState) (mid last : Stock) (roots others : Roots) → told.disk ≡ Some disk → files.told ≡ told → other_files.told ≡ told
+pub one_start : (disk : Disk) (path : List ℕ) (told : FilesView) (files other_files : FilesState) (mid last : Stock) (roots others : Roots) → told.disk ≡ Some disk → files.view ≡ told → other_files.view ≡ told
     → files.counts.faults < 2 ^ 64 - 1 → other_files.counts.faults < 2 ^ 64 - 1 → mid.files.counts.faults ≤ files.counts.faults → last.files.counts.faults ≤ other_files.counts.faults
     → HasStarted path files mid roots → HasStarted path other_files last others → StartAlike mid last roots others
 one_start disk path told files other_files mid last roots others disk_told files_told other_told room other_room high other_high first second =
-    let one_conf_is = subst (λ (d : Option Disk). IsConfiguration d path first.conf) (ap (λ (t : Told). t.disk) files_told ∙ disk_told) first.loaded.conf_is in
-    let other_conf_is = subst (λ (d : Option Disk). IsConfiguration d path second.conf) (ap (λ (t : Told). t.disk) other_told ∙ disk_told) second.loaded.conf_is in
+    let one_conf_is = subst (λ (d : Option Disk). IsConfiguration d path first.conf) (ap (λ (t : FilesView). t.disk) files_told ∙ disk_told) first.loaded.conf_is in
+    let other_conf_is = subst (λ (d : Option Disk). IsConfiguration d path second.conf) (ap (λ (t : FilesView). t.disk) other_told ∙ disk_told) second.loaded.conf_is in
     let conf : first.conf ≡ second.conf = one_conf disk path first.conf second.conf one_conf_is other_conf_is in
-    let one_loads : LoadsAll (databases_of second.conf) (all_set_up (databases_of second.conf)) mid.used (conf_read told path) mid.files.told files.counts mid.files.counts (Ok tt)
-    = subst (λ (c : Configuration). LoadsAll (databases_of c) (all_set_up (databases_of c)) mid.used (conf_read told path) mid.files.told files.counts mid.files.counts (Ok tt)) conf
-    (subst (λ (t : Told). LoadsAll (databases_of first.conf) (all_set_up (databases_of first.conf)) mid.used (conf_read t path) mid.files.told files.counts mid.files.counts (Ok tt)) files_told first.loaded.loads) in
-    let other_loads : LoadsAll (databases_of second.conf) (all_set_up (databases_of second.conf)) last.used (conf_read told path) last.files.told other_files.counts last.files.counts (Ok tt)
-    = subst (λ (t : Told). LoadsAll (databases_of second.conf) (all_set_up (databases_of second.conf)) last.used (conf_read t path) last.files.told other_files.counts last.files.counts (Ok tt)) other_told second.loaded.loads in
-    let once = loads_once disk files.counts.faults other_files.counts.faults room other_room (databases_of second.conf) (all_set_up (databases_of second.conf)) mid.used last.used (conf_read told path) mid.files.told last.files.told
+    let one_loads : LoadsAll (databases_of second.conf) (all_set_up (databases_of second.conf)) mid.used (conf_read told path) mid.files.view files.counts mid.files.counts (Ok tt)
+    = subst (λ (c : Configuration). LoadsAll (databases_of c) (all_set_up (databases_of c)) mid.used (conf_read told path) mid.files.view files.counts mid.files.counts (Ok tt)) conf
+    (subst (λ (t : FilesView). LoadsAll (databases_of first.conf) (all_set_up (databases_of first.conf)) mid.used (conf_read t path) mid.files.view files.counts mid.files.counts (Ok tt)) files_told first.loaded.loads) in
+    let other_loads : LoadsAll (databases_of second.conf) (all_set_up (databases_of second.conf)) last.used (conf_read told path) last.files.view other_files.counts last.files.counts (Ok tt)
+    = subst (λ (t : FilesView). LoadsAll (databases_of second.conf) (all_set_up (databases_of second.conf)) last.used (conf_read t path) last.files.view other_files.counts last.files.counts (Ok tt)) other_told second.loaded.loads in
+    let once = loads_once disk files.counts.faults other_files.counts.faults room other_room (databases_of second.conf) (all_set_up (databases_of second.conf)) mid.used last.used (conf_read told path) mid.files.view last.files.view
     files.counts mid.files.counts other_files.counts last.files.counts disk_told (omega arith) high (omega arith) other_high one_loads other_loads in
     record {
       used = once.0;

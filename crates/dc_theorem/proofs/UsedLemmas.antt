@@ -1,13 +1,13 @@
 -- What is known of a run that did all and at which no call of the files failed, and what two such runs leave.
 use Rattle.std.proofs.Common.{◌≡◌, ℕ, List, ◌++◌, Some, refl, ap, sym, subst, ◌∙◌, arith}
 use Rattle.std.specs.Prelude.{◌≤◌, map as each}
+use Rattle.dc_outside.specs.Counts.{Counts}
 use Rattle.dc_layer.specs.State.{LayerState, saved}
 use Rattle.dc_save.specs.Saving.{after_images}
 use Rattle.dc_outside.specs.Disk.{Disk}
-use Rattle.dc_outside.specs.Told.{Counts}
 use Rattle.dc_outside.specs.declared.files.FilesCall.{FilesCall}
 use Rattle.dc_session.proofs.Determined.{IsTold}
-use Rattle.dc_run.specs.EndLines.{end_line, HasSaidOn}
+use Rattle.dc_run.specs.EndLines.{end_line, HasSaid}
 use Rattle.dc_run.specs.Finishing.{images_of}
 use Rattle.dc_run.specs.OneRound.{HasUsed}
 use Rattle.dc_run.specs.World.{World}
@@ -24,7 +24,7 @@ module _ (words : List (List ℕ)) (used : Tool) (settings : Settings) (disk : D
   -- ---- one run
 
   module _ (old new : World) (outcome : Outcome) (clean : IsClean words settings disk calls old new outcome) (has : HasUsed used settings old new outcome) where
-    pub wait_is : (has.how ≡ end.Done) × (new.links.child.link ≡ has.links.child.link)
+    pub wait_is : (has.how ≡ end.Done) × (new.links.child.talk ≡ has.links.child.talk)
     wait_is = waited has.answer.is_started has.links.child new.links.child has.how outcome.end has.answer.status has.status clean.done has.awaits
 
     save_is : (has.answer.ended ≡ tool.Done) × HasSaved has.layers new.stock.used has.files new.stock.files
@@ -46,7 +46,7 @@ module _ (words : List (List ℕ)) (used : Tool) (settings : Settings) (disk : D
     pub starts_low : old.stock.files.counts.faults ≤ has.mid.files.counts.faults
     starts_low = started_later settings.conf_path old.stock.files has.mid has.roots has.started
 
-    pub starts_told : IsTold disk has.mid.files.told
+    pub starts_told : IsTold disk has.mid.files.view
     starts_told = started_told disk settings.conf_path old.stock.files has.mid has.roots has.started (calls, clean.files_are)
 
   -- ---- both
@@ -60,7 +60,7 @@ module _ (words : List (List ℕ)) (used : Tool) (settings : Settings) (disk : D
         clean.none_failed.room other_clean.none_failed.room high other_high has.started other_has.started
 
     -- where the tools left the same, the runs do
-    pub leave_alike : has.layers ≡ other_has.layers → has.files.told ≡ other_has.files.told → has.told ≡ other_has.told → has.answer.last_code ≡ other_has.answer.last_code → LeaveAlike one new outcome other last again
+    pub leave_alike : has.layers ≡ other_has.layers → has.files.view ≡ other_has.files.view → has.told ≡ other_has.told → has.answer.last_code ≡ other_has.answer.last_code → LeaveAlike one new outcome other last again
     leave_alike layers left told code =
         let first = saves one new outcome clean has in
         let second = saves other last again other_clean other_has in
@@ -71,7 +71,7 @@ module _ (words : List (List ℕ)) (used : Tool) (settings : Settings) (disk : D
           err = record {
             text = has.told ++ end_line outcome.end;
             one_is = has.said;
-            other_is = subst (λ (t : List ℕ). HasSaidOn t other.err last.err) text other_has.said;
+            other_is = subst (λ (t : List ℕ). HasSaid t other.err last.err) text other_has.said;
           };
           code = other_has.code_is ∙ sym code ∙ sym has.code_is;
         }

@@ -1,17 +1,18 @@
 -- Two runs of the program into which the same comes, and what they say and leave.
 use Rattle.std.specs.Prelude.{◌≡◌, ℕ, ◌-◌, ◌^◌, ◌<◌, List, Some}
+use Rattle.dc_outside.specs.Counts.{Counts}
+use Rattle.dc_outside.specs.State.{LinkState}
 use Rattle.dc_outside.specs.Disk.{Disk}
 use Rattle.dc_outside.specs.Talk.{then_pieces, sent}
-use Rattle.dc_outside.specs.Told.{Counts}
 use Rattle.dc_outside.specs.declared.files.FilesCall.{FilesCall}
 use Rattle.dc_outside.specs.declared.link.Piece.{Piece}
 use Rattle.dc_serve.specs.Said.{said}
-use Rattle.dc_session.specs.SessionState.{LinkState}
 use Rattle.dc_run.specs.declared.outcome.End.TheVariants.{Done}
 use Rattle.dc_run.specs.declared.outcome.Outcome.{Outcome}
 use Rattle.dc_run.specs.declared.settings.Settings.{Settings}
-use Rattle.dc_run.specs.EndLines.{HasSaidOn}
+use Rattle.dc_run.specs.EndLines.{HasSaid}
 use Rattle.dc_run.specs.Headline.{HasRunWords}
+use Rattle.dc_run.specs.Saves.{Save}
 use Rattle.dc_run.specs.World.{World}
 
 -- ---- what comes in
@@ -24,8 +25,9 @@ pub record NoneFailed (before now : Counts) : Type 0 where
 -- A run with these words and settings began over files that tell this disk and these calls on it. It did all that it was to do, and no
 -- call of the files failed.
 pub record IsClean (words : List (List ℕ)) (settings : Settings) (disk : Disk) (calls : List FilesCall) (old new : World) (outcome : Outcome) : Type 0 where
-  pub files_are : old.stock.files.told ≡ record { disk = Some disk; calls = Some calls }
-  pub ran : HasRunWords words settings old new outcome
+  pub files_are : old.stock.files.view ≡ record { disk = Some disk; calls = Some calls }
+  pub saves : List Save
+  pub ran : HasRunWords words settings old new outcome saves
   pub done : outcome.end ≡ Done
   pub none_failed : NoneFailed old.stock.files.counts new.stock.files.counts
 
@@ -61,13 +63,13 @@ pub record AreShownAlike (new last : LinkState) : Type 0 where
 -- both told the same on standard error, but for what a write there left out that wasn't done
 pub record TellAlike (one new other last : LinkState) : Type 0 where
   pub text : List ℕ
-  pub one_is : HasSaidOn text one new
-  pub other_is : HasSaidOn text other last
+  pub one_is : HasSaid text one new
+  pub other_is : HasSaid text other last
 
 -- They hold the same layers, left the same disk by the same calls, and had the same code of the last reply.
 pub record LeaveAlike (one new : World) (outcome : Outcome) (other last : World) (again : Outcome) : Type 0 where
   pub used : last.stock.used ≡ new.stock.used
-  pub files : last.stock.files.told ≡ new.stock.files.told
+  pub files : last.stock.files.view ≡ new.stock.files.view
   pub err : TellAlike one.err new.err other.err last.err
   pub code : again.last_code ≡ outcome.last_code
 
@@ -80,7 +82,7 @@ pub record CommunicateAlike (one new : World) (outcome : Outcome) (other last : 
 -- two runs of `run` sent the same replies, and the same stands on their terminals; the status is the program's
 pub record RunAlike (one new : World) (outcome : Outcome) (other last : World) (again : Outcome) : Type 0 where
   pub leave : LeaveAlike one new outcome other last again
-  pub replies : SayAlike one.links.child.link new.links.child.link other.links.child.link last.links.child.link
+  pub replies : SayAlike one.links.child new.links.child other.links.child last.links.child
   pub shown : AreShownAlike new.links.io last.links.io
 
 -- two runs of `loadtemplate`

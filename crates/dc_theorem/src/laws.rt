@@ -20,9 +20,12 @@ ghost use Rattle.dc_theorem.specs.Runs.{NoneFailed, IsClean, AreTypedAlike, Comm
 /// The bytes of the link, the disk and what is typed determine a session in which no read of files failed: two from states that are alike
 /// that both come to the end send the same replies and leave what is alike, however the links cut their bytes and the terminals what is typed.
 pub fn what_comes_in_determines_the_session()
-    ensures { (start other new last : SessionState) (disk : Disk) (calls : List FilesCall) (input : List ℕ) (talk new_talk other_talk last_talk : Option (List Piece)) (left other_left : Option (List ℕ)) (code number : ℕ)
-        → start.files.told ≡ record { disk = Some disk; calls = Some calls } → AreAlike start other → NoneFailed start.files.counts new.files.counts → NoneFailed other.files.counts last.files.counts
-        → (one : IsLinkRun Handles Aborts talk new_talk (Some input) left start Done new code) → (two : IsLinkRun Handles Aborts other_talk last_talk (Some input) other_left other Done last number)
+    ensures { (start other new last : SessionState) (disk : Disk) (calls : List FilesCall) (input : List ℕ)
+        (talk new_talk other_talk last_talk : Option (List Piece)) (left other_left : Option (List ℕ)) (code number : ℕ)
+        → start.files.view ≡ record { disk = Some disk; calls = Some calls } → AreAlike start other → NoneFailed start.files.counts new.files.counts
+        → NoneFailed other.files.counts last.files.counts
+        → (one : IsLinkRun Handles Aborts talk new_talk (Some input) left start Done new code)
+        → (two : IsLinkRun Handles Aborts other_talk last_talk (Some input) other_left other Done last number)
         → EndAlike one.pieces two.pieces code number new last }
 {}
 
@@ -34,12 +37,18 @@ pub fn what_comes_in_determines_the_session()
 /// It says nothing of runs that end otherwise, or in which a call of the files failed, and nothing of the status of `run`, which the program
 /// gives that it started.
 pub fn what_comes_in_determines_the_run()
-    ensures communicate { (words : List (List ℕ)) (owner : List ℕ) (settings : Settings) (disk : Disk) (calls : List FilesCall) (one new other last : World) (outcome again : Outcome) (input : List ℕ) → Names words (Communicate owner)
-        → IsClean words settings disk calls one new outcome → IsClean words settings disk calls other last again → one.links.io.input ≡ Some input → other.links.io.input ≡ Some input
+    ensures communicate { (words : List (List ℕ)) (owner : List ℕ) (settings : Settings) (disk : Disk) (calls : List FilesCall) (one new other last : World)
+        (outcome again : Outcome) (input : List ℕ) → Names words (Communicate owner)
+        → IsClean words settings disk calls one new outcome → IsClean words settings disk calls other last again → one.links.io.input ≡ Some input
+        → other.links.io.input ≡ Some input
         → CommunicateAlike one new outcome other last again }
-    ensures run { (words : List (List ℕ)) (owner : List ℕ) (frontend : Option Frontend) (priority : Option Priority) (command : List (List ℕ)) (settings : Settings) (disk : Disk) (calls : List FilesCall) (one new other last : World) (outcome again : Outcome) (input : List ℕ)
-        → Names words (Run owner frontend priority command) → IsClean words settings disk calls one new outcome → IsClean words settings disk calls other last again
-        → one.links.child.link.input ≡ Some input → other.links.child.link.input ≡ Some input → AreTypedAlike one.links.io other.links.io → RunAlike one new outcome other last again }
-    ensures loadtemplate { (words : List (List ℕ)) (owner : List ℕ) (paths : List (List ℕ)) (settings : Settings) (disk : Disk) (calls : List FilesCall) (one new other last : World) (outcome again : Outcome) → Names words (LoadTemplate owner paths)
+    ensures run { (words : List (List ℕ)) (owner : List ℕ) (frontend : Option Frontend) (priority : Option Priority) (command : List (List ℕ))
+        (settings : Settings) (disk : Disk) (calls : List FilesCall) (one new other last : World) (outcome again : Outcome) (input : List ℕ)
+        → Names words (Run owner frontend priority command) → IsClean words settings disk calls one new outcome
+        → IsClean words settings disk calls other last again
+        → one.links.child.input ≡ Some input → other.links.child.input ≡ Some input → AreTypedAlike one.links.io other.links.io
+        → RunAlike one new outcome other last again }
+    ensures loadtemplate { (words : List (List ℕ)) (owner : List ℕ) (paths : List (List ℕ)) (settings : Settings) (disk : Disk) (calls : List FilesCall)
+        (one new other last : World) (outcome again : Outcome) → Names words (LoadTemplate owner paths)
         → IsClean words settings disk calls one new outcome → IsClean words settings disk calls other last again → LoadAlike one new outcome other last again }
 {}

@@ -42,7 +42,7 @@ pub fn run_over<L: Link, E: Link, C: Child, F: Files>(
     child: &mut C,
     files: &mut F,
 ) -> Mem<u8>
-    requires { (C.program child.old).life ≡ Unstarted }
+    requires { (C.link child.old).program.life ≡ Unstarted }
 {
     let mut shelf = Shelf::empty(alloc);
     fill!(shelf, alloc);

@@ -1,17 +1,14 @@
 use Rattle.std.proofs.Common.{rules, refl, Ok}
 use Rattle.dc_run.proofs.StartLemmas.{loaded_by, both_plans, both_disjoint}
-use Rattle.dc_session.specs.SessionState.{FilesState}
 use Rattle.dc_run.proofs.starting.start.Goals as goal
 
 pub returns-in-Ok-load_used-clause-starts : goal.returns-in-Ok-load_used-clause-starts
 returns-in-Ok-load_used-clause-starts g c =
-    let old : FilesState = record { told = g.F.Files.told c.args.files.now; counts = g.F.Files.counts c.args.files.now } in
-    let mid : FilesState = record { told = g.F.Files.told c.read_configuration.new.files; counts = g.F.Files.counts c.read_configuration.new.files } in
-    let files : FilesState = record { told = g.F.Files.told c.load_used.new.files; counts = g.F.Files.counts c.load_used.new.files } in
     let plans = both_plans c.in-Ok.conf _ _ _ c.in-Ok-resolve.ensures.plans c.roots_of.ensures.plans in
     record {
       conf = c.in-Ok.conf;
-      loaded = loaded_by c.args.path.now c.in-Ok.conf old mid files c.as_slice-2.result.now _ _ _ (Ok tt) c.in-Ok.ensures.0 c.in-Ok.ensures.1 (search rules) (search rules) c.in-Ok-load_used.ensures.loads refl;
+      loaded = loaded_by c.args.path.now c.in-Ok.conf (g.F.Files.files c.args.files.now) (g.F.Files.files c.read_configuration.new.files) (g.F.Files.files c.load_used.new.files) c.as_slice-2.result.now _ _ _ (Ok tt)
+          c.in-Ok.ensures.0 c.in-Ok.ensures.1 (search rules) (search rules) c.in-Ok-load_used.ensures.loads refl;
       config_is = plans.0;
       templates_is = plans.1;
       frontend_is = search rules;

@@ -1,5 +1,5 @@
 use Rattle.std.proofs.Common.{ℕ, List, [], ◌∷◌, ◌++◌, map as each, Err, refl, sym, ap, ◌∙◌, subst, append_assoc}
-use Rattle.dc_outside.specs.Told.{Counts}
+use Rattle.dc_outside.specs.Counts.{Counts}
 use Rattle.dc_layer.specs.State.{LayerState}
 use Rattle.dc_save.specs.FileTurns.{FileTurnCounts}
 use Rattle.dc_save.proofs.FolderLemmas.{keys_shown, nothing_yet, turn_at, told_at, layer_after, told_after, held_after, next_file}
@@ -27,9 +27,9 @@ loop-file-preserved g c =
     let first : LayerState = (goal.Layer-dyn g (c.args.layer.now.vtable, c.args.layer.now.value)).state c.args.layer.now.value in
     let now : LayerState = (goal.Layer-dyn g (c.loop-file.layer.vtable, c.loop-file.layer.value)).state c.loop-file.layer.value in
     let new : LayerState = (goal.Layer-dyn g (c.load_file.new.layer.vtable, c.load_file.new.layer.value)).state c.load_file.new.layer.value in
-    let told = g.F.Files.told c.args.files.now in
-    let told_now = g.F.Files.told c.loop-file.files in
-    let told_new = g.F.Files.told c.load_file.new.files in (
+    let told = (g.F.Files.files c.args.files.now).view in
+    let told_now = (g.F.Files.files c.loop-file.files).view in
+    let told_new = (g.F.Files.files c.load_file.new.files).view in (
       inv.0 ++ file ∷ [],
       inv.1 ++ turn.1,
       record {
@@ -49,9 +49,9 @@ returns-in-Err g c =
     let first : LayerState = (goal.Layer-dyn g (c.args.layer.now.vtable, c.args.layer.now.value)).state c.args.layer.now.value in
     let now : LayerState = (goal.Layer-dyn g (c.loop-file.layer.vtable, c.loop-file.layer.value)).state c.loop-file.layer.value in
     let new : LayerState = (goal.Layer-dyn g (c.load_file.new.layer.vtable, c.load_file.new.layer.value)).state c.load_file.new.layer.value in
-    let told = g.F.Files.told c.args.files.now in
-    let told_now = g.F.Files.told c.loop-file.files in
-    let told_new = g.F.Files.told c.load_file.new.files in
+    let told = (g.F.Files.files c.args.files.now).view in
+    let told_now = (g.F.Files.files c.loop-file.files).view in
+    let told_new = (g.F.Files.files c.load_file.new.files).view in
     record {
       before = inv.0;
       file = file;
@@ -61,5 +61,5 @@ returns-in-Err g c =
       hold = facts.hold;
       turn = turn_at c.args.spec.now told told_now inv.0 file facts.told_is first now new inv.1 facts.layer_is (Err c.in-Err.error) c.in-Err.ensures.turn;
       told_is = told_at c.args.spec.now told told_now inv.0 file facts.told_is told_new (Err c.in-Err.error) c.in-Err.ensures.told;
-      counted = subst (λ (n : Counts). FileTurnCounts (Err c.in-Err.error) n (g.F.Files.counts c.load_file.new.files)) facts.counts_are c.in-Err.ensures.counts;
+      counted = subst (λ (n : Counts). FileTurnCounts (Err c.in-Err.error) n (g.F.Files.files c.load_file.new.files).counts) facts.counts_are c.in-Err.ensures.counts;
     }

@@ -4,11 +4,10 @@ use Rattle.dc_serve.proofs.serving.converse.Given as goal
 
 abbrev pub invariant-loop-taken : goal.invariant-loop-taken
 invariant-loop-taken g l = record {
-  progress : Progress g.H.LineMachine.steps (g.L.Link.talk l.fn.io) (g.L.Link.talk l.io) (g.L.Link.left l.fn.io) (g.L.Link.left l.io) (g.H.LineMachine.state l.fn.machine) l.lines (g.H.LineMachine.state l.machine) l.last_code l.taken;
+  progress : Progress g.H.LineMachine.steps (g.L.Link.link l.fn.io).talk (g.L.Link.link l.io).talk (g.L.Link.link l.fn.io).input (g.L.Link.link l.io).input (g.H.LineMachine.state l.fn.machine) l.lines (g.H.LineMachine.state l.machine) l.last_code l.taken;
   borrows : g.H.LineMachine.borrows l.machine ≡ g.H.LineMachine.borrows l.fn.machine;
-  faults : g.L.Link.faults l.io ≡ g.L.Link.faults l.fn.io;
-  refusals : g.L.Link.refusals l.io ≡ g.L.Link.refusals l.fn.io;
-  program : g.L.Link.program l.io ≡ g.L.Link.program l.fn.io;
+  counts : (g.L.Link.link l.io).counts ≡ (g.L.Link.link l.fn.io).counts;
+  program : (g.L.Link.link l.io).program ≡ (g.L.Link.link l.fn.io).program;
 }
 
 abbrev pub decreases-loop-taken : goal.decreases-loop-taken

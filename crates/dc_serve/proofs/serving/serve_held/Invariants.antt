@@ -8,12 +8,10 @@ use Rattle.dc_serve.proofs.serving.serve_held.Given as goal
 abbrev pub invariant-loop-line : goal.invariant-loop-line
 invariant-loop-line g l = record {
   gone : (gone : List Line) × (whole_lines l.fn.lines ≡ gone ++ whole_lines l.lines)
-      × HasServed g.H.LineMachine.steps g.H.LineMachine.aborts (g.L.Link.talk l.fn.io) (g.L.Link.talk l.io) (g.H.LineMachine.state l.fn.machine) gone On l.fn.last_code (g.H.LineMachine.state l.machine) l.last_code;
+      × HasServed g.H.LineMachine.steps g.H.LineMachine.aborts (g.L.Link.link l.fn.io).talk (g.L.Link.link l.io).talk (g.H.LineMachine.state l.fn.machine) gone On l.fn.last_code (g.H.LineMachine.state l.machine) l.last_code;
   borrows : g.H.LineMachine.borrows l.machine ≡ g.H.LineMachine.borrows l.fn.machine;
-  input : g.L.Link.left l.io ≡ g.L.Link.left l.fn.io;
-  faults : g.L.Link.faults l.io ≡ g.L.Link.faults l.fn.io;
-  refusals : g.L.Link.refusals l.io ≡ g.L.Link.refusals l.fn.io;
-  program : g.L.Link.program l.io ≡ g.L.Link.program l.fn.io;
+  counts : (g.L.Link.link l.io).counts ≡ (g.L.Link.link l.fn.io).counts;
+  only_said : g.L.Link.link l.io ≡ record (g.L.Link.link l.fn.io) { talk = (g.L.Link.link l.io).talk; counts = (g.L.Link.link l.io).counts };
   rest : rest_of l.lines ≡ rest_of l.fn.lines;
 }
 

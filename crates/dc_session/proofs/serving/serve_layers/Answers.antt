@@ -4,7 +4,7 @@ use Rattle.dc_session.proofs.serving.serve_layers.Goals as goal
 
 pub returns-in-Ok : goal.returns-in-Ok
 returns-in-Ok g c =
-    record { served = served_as _ _ _ _ _ _ _ _ _ _ _ _ c.serve_desk.ensures.served (begun_as _ _ _ _ _ _ _ _ _ _ c.in-Ok.policy c.args.setup.now.frontend c.args.setup.now.threshold _ _ c.new-teletype.ensures (search rules) (search rules) (search rules) (search rules) (search rules) c.nothing-asking.ensures) refl refl refl; program = search rules }
+    served_as _ _ _ _ _ _ _ _ _ _ _ _ c.serve_desk.ensures (begun_as _ _ _ _ _ _ _ _ _ _ c.in-Ok.policy c.args.setup.now.frontend c.args.setup.now.threshold _ _ c.new-teletype.ensures (search rules) (search rules) (search rules) (search rules) (search rules) c.nothing-asking.ensures) refl refl refl
 
 pub returns : goal.returns
-returns g c = record { served = unserved _ _ _ _ _ (search rules) (search rules) (search rules); program = refl }
+returns g c = unserved _ _ _ _ _ (search rules) (search rules) (search rules)

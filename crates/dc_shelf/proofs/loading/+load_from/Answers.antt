@@ -10,8 +10,8 @@ load_at-requires-clause-set g t c =
 pub returns-in-Ok-clause-loads : goal.returns-in-Ok-clause-loads
 returns-in-Ok-clause-loads g t c =
     let within : c.args.place < length c.args.specs.now = omega arith in
-    loads_on c.args.specs.now _ _ c.args.place c.index-specs-place.result (g.F.Files.told c.args.files.now) (g.F.Files.told c.load_at.new.files) (g.F.Files.counts c.args.files.now) (g.F.Files.counts c.load_at.new.files)
-    within c.index-specs-place.is _ (g.F.Files.told c.load_from.new.files) (g.F.Files.counts c.load_from.new.files) c.in-Ok.field-0 c.load_from.result c.in-Ok.ensures c.load_from.ensures.loads c.load_from.ensures.kept
+    loads_on c.args.specs.now _ _ c.args.place c.index-specs-place.result (g.F.Files.files c.args.files.now).view (g.F.Files.files c.load_at.new.files).view (g.F.Files.files c.args.files.now).counts (g.F.Files.files c.load_at.new.files).counts
+    within c.index-specs-place.is _ (g.F.Files.files c.load_from.new.files).view (g.F.Files.files c.load_from.new.files).counts c.in-Ok.field-0 c.load_from.result c.in-Ok.ensures c.load_from.ensures.loads c.load_from.ensures.kept
 
 pub returns-in-Ok-clause-kept : goal.returns-in-Ok-clause-kept
 returns-in-Ok-clause-kept g t c = take_less c.args.place _ _ (rw (← add-one) c.load_from.ensures.kept) ∙ c.in-Ok.ensures.kept

@@ -6,5 +6,5 @@ load_one-requires g c = c.requires.set _ (got_at _ c.args.layers.now c.args.plac
 
 pub returns : goal.returns
 returns g c =
-    is_loaded_at _ c.args.layers.now c.args.place c.index-layers-place.result c.load_one.new.layer c.requires.within c.args.spec.now (g.F.Files.told c.args.files.now) (g.F.Files.told c.load_one.new.files)
-    (g.F.Files.counts c.args.files.now) (g.F.Files.counts c.load_one.new.files) c.load_one.result c.load_one.ensures.loads c.load_one.ensures.files c.load_one.ensures.counts
+    is_loaded_at _ c.args.layers.now c.args.place c.index-layers-place.result c.load_one.new.layer c.requires.within c.args.spec.now (g.F.Files.files c.args.files.now).view (g.F.Files.files c.load_one.new.files).view
+    (g.F.Files.files c.args.files.now).counts (g.F.Files.files c.load_one.new.files).counts c.load_one.result c.load_one.ensures.loads c.load_one.ensures.files c.load_one.ensures.counts

@@ -9,11 +9,11 @@ use Rattle.dc_teletype.proofs.teletype.hear.Given as goal
 abbrev pub invariant-loop-ahead : goal.invariant-loop-ahead
 invariant-loop-ahead g l = record {
   progress : (others : List Shown) (answers : List Answer) → Progress l.backup (record { said = l.fn.said; stage = Waits l.question 0 others answers }) (record { said = l.said; stage = Waits l.question l.unusable others answers })
-      l.fn.ahead l.ahead (g.L.Link.talk l.fn.link) (g.L.Link.talk l.link) (g.L.Link.left l.fn.link) (g.L.Link.left l.link);
+      l.fn.ahead l.ahead (g.L.Link.link l.fn.link).talk (g.L.Link.link l.link).talk (g.L.Link.link l.fn.link).input (g.L.Link.link l.link).input;
   below : l.unusable < 64;
-  end : EndsWell l.fn.ahead l.ahead (g.L.Link.left l.link);
-  faults : g.L.Link.faults l.link ≡ g.L.Link.faults l.fn.link;
-  refusals : g.L.Link.refusals l.link ≡ g.L.Link.refusals l.fn.link;
+  end : EndsWell l.fn.ahead l.ahead (g.L.Link.link l.link).input;
+  counts : (g.L.Link.link l.link).counts ≡ (g.L.Link.link l.fn.link).counts;
+  program : (g.L.Link.link l.link).program ≡ (g.L.Link.link l.fn.link).program;
 }
 
 abbrev pub decreases-loop-ahead : goal.decreases-loop-ahead

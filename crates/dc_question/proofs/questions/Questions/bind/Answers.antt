@@ -2,6 +2,7 @@ use Rattle.std.proofs.Common.{map as each, ap, ◌∙◌}
 use Rattle.dc_item.specs.declared.op.Op.TheVariants.{AddOwner}
 use Rattle.dc_question.specs.Ownership.{bind_batch}
 use Rattle.dc_question.proofs.BindLemmas.{bound_distinct, does_row}
+use Rattle.dc_question.proofs.FrameLemmas.{all_same_asked}
 use Rattle.dc_question.proofs.questions.Questions.bind.Goals as goal
 
 pub do_batch-requires-clause-distinct : goal.do_batch-requires-clause-distinct
@@ -15,3 +16,12 @@ returns-clause-does g c =
     (c.as_slice.ensures ∙ c.in_ok-names.ensures)
     (c.in_ok-batch.ensures ∙ ap (λ n. bind_batch layers c.args.self.now.context c.args.template.now (AddOwner n) c.args.name.now c.args.owner.now) c.in_ok-copy.ensures)
     c.do_batch.ensures.does
+
+pub returns-in_err-copy-clause-frame : goal.returns-in_err-copy-clause-frame
+returns-in_err-copy-clause-frame g c = all_same_asked _ _
+
+pub returns-in_err-batch-clause-frame : goal.returns-in_err-batch-clause-frame
+returns-in_err-batch-clause-frame g c = all_same_asked _ _
+
+pub returns-in_err-names-clause-frame : goal.returns-in_err-names-clause-frame
+returns-in_err-names-clause-frame g c = all_same_asked _ _

@@ -2,6 +2,7 @@ use Rattle.std.proofs.Common.{length, map as each, sym, subst, refl, ◌∙◌}
 use Rattle.dc_store.specs.Batches.{AreOver, AllDistinct}
 use Rattle.dc_question.proofs.BindLemmas.{does_row}
 use Rattle.dc_question.proofs.LoadLemmas.{load_over, load_distinct}
+use Rattle.dc_question.proofs.FrameLemmas.{all_same_asked}
 use Rattle.dc_question.proofs.questions.Questions.load.Goals as goal
 
 pub do_load-requires-clause-over : goal.do_load-requires-clause-over
@@ -17,3 +18,6 @@ do_load-requires-clause-distinct g c =
 
 pub returns-clause-does : goal.returns-clause-does
 returns-clause-does g c = does_row c.do_load.result _ _ _ _ _ _ refl c.in_ok-batch.ensures c.do_load.ensures.does
+
+pub returns-in_err-batch-clause-frame : goal.returns-in_err-batch-clause-frame
+returns-in_err-batch-clause-frame g c = all_same_asked _ _

@@ -18,7 +18,7 @@ returns-clause-does g c =
     let is : c.eq-is.result ≡ bytes_eq c.args.value.now (codes "true") = search rules in
     let does = rw is at c.set_flag-done.ensures.does in
     let told = rw c.bytes-4.ensures at c.confirm.ensures in
-    fset_does _ _ _ c.set_flag-done.ensures.context _ _ named _ _ truth c.set_flag-done.ensures.others c.set_flag-done.result does c.confirm.result told
+    fset_does _ _ _ c.set_flag-done.ensures.frame.context _ _ named _ _ truth c.set_flag-done.ensures.frame.others c.set_flag-done.result does c.confirm.result told
 
 pub returns-in_default-clause-does : goal.returns-in_default-clause-does
 returns-in_default-clause-does g c = fset_none _ _ (rw c.in_default.is at c.in_ok-name.ensures) c.missing.result (rw c.bytes.ensures at c.missing.ensures) _ _

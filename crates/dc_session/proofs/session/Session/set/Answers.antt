@@ -5,7 +5,7 @@ pub returns-clause-does : goal.returns-clause-does
 returns-clause-does g c =
     let named = rw c.in-Some.is at c.in_ok-name.ensures in
     let does = rw c.bytes-2.ensures at c.set-done.ensures.does in
-    set_does _ _ _ c.set-done.ensures.context _ _ named _ c.set-done.ensures.others c.set-done.result does c.confirm.result c.confirm.ensures
+    set_does _ _ _ c.set-done.ensures.frame.context _ _ named _ c.set-done.ensures.frame.others c.set-done.result does c.confirm.result c.confirm.ensures
 
 pub returns-in_default-clause-does : goal.returns-in_default-clause-does
 returns-in_default-clause-does g c = set_none _ _ (rw c.in_default.is at c.in_ok-name.ensures) c.missing.result (rw c.bytes.ensures at c.missing.ensures) _

@@ -13,4 +13,4 @@ returns-in-Faulty-clause-comes g c = rw c.in-Faulty.is (faulty_loads _ c.args.ow
 pub returns-in-Templates-clause-comes : goal.returns-in-Templates-clause-comes
 returns-in-Templates-clause-comes g c =
     rw c.in-Templates.is
-    (templates_load _ _ _ _ c.load_templates-done.ensures.context _ c.load_templates-done.ensures.others c.load_templates-done.result c.load_templates-done.ensures.does c.confirm.result c.confirm.ensures)
+    (templates_load _ _ _ _ c.load_templates-done.ensures.frame.context _ c.load_templates-done.ensures.frame.others c.load_templates-done.result c.load_templates-done.ensures.does c.confirm.result c.confirm.ensures)

@@ -8,7 +8,7 @@ returns-clause-does g c =
     let named = rw c.in-Some.is at c.in_ok-name.ensures in
     let there : c.exists.result ≡ true = search rules in
     let free : c.contains.result ≡ false = search rules in
-    unregister_does _ _ _ c.unregister-done.ensures.context _ _ named (sym c.exists.ensures ∙ there) (sym c.contains.ensures ∙ free) c.unregister-done.ensures.others c.unregister-done.result c.unregister-done.ensures.does
+    unregister_does _ _ _ c.unregister-done.ensures.frame.context _ _ named (sym c.exists.ensures ∙ there) (sym c.contains.ensures ∙ free) c.unregister-done.ensures.frame.others c.unregister-done.result c.unregister-done.ensures.does
     c.confirm.result c.confirm.ensures
 
 pub returns-in_default-clause-does : goal.returns-in_default-clause-does

@@ -6,8 +6,9 @@ use Rattle.dc_conf.specs.Plans.{IsOver}
 use Rattle.dc_store.specs.Targets.{AreTargets}
 use Rattle.dc_store.specs.Plans.{StoreState, stored}
 use Rattle.dc_store.specs.Batches.{Write, AreOver, AllDistinct, is_refused, all_done, names_of}
+use Rattle.dc_store.proofs.Frames.{same_count}
 use Rattle.dc_store.proofs.Landings.{first_landing, rest_landings}
-use Rattle.dc_store.proofs.RowLemmas.{first_taken, rest_taken, rest_left, rest_distinct, first_name, other_name, same_all, same_all_refl, same_all_then}
+use Rattle.dc_store.proofs.RowLemmas.{first_taken, rest_taken, rest_left, rest_distinct, first_name, other_name, same_all, same_all_refl, same_all_then, all_framed}
 use Rattle.dc_store.proofs.store.Store.do_all.Goals as goal
 
 pub loop-write-init : goal.loop-write-init
@@ -35,14 +36,15 @@ do_one-requires-clause-taken g c =
     let layers = each (λ b. (goal.Layer-dyn g (b.vtable, b.value)).state b.value) c.loop-write.self.layers.items in
     first_taken layers c.in-Some.write (into_iter_items c.next.new.self) (subst (λ ws. list_any (is_refused layers) ws ≡ false) c.in-Some.ensures.cases.0 c.loop-write.invariant.taken)
 
-pub returns-in_err-do_one-clause-others : goal.returns-in_err-do_one-clause-others
-returns-in_err-do_one-clause-others g c =
+pub returns-in_err-do_one-clause-frame : goal.returns-in_err-do_one-clause-frame
+returns-in_err-do_one-clause-frame g c =
     let w = c.in-Some.write in
     let rest = into_iter_items c.next.new.self in
-    same_all_then (names_of c.args.batch.items) _ _ _ c.loop-write.invariant.others
+    all_framed (names_of c.args.batch.items) _ _
+    (same_all_then (names_of c.args.batch.items) _ _ _ c.loop-write.invariant.others
     (same_all (names_of c.args.batch.items) w.name _ _
     (c.loop-write.invariant.among w.name (subst (λ ws. Contains (names_of ws) w.name) (sym c.in-Some.ensures.cases.0) (first_name w rest)))
-    c.in_err-do_one.ensures.others)
+    c.in_err-do_one.ensures.frame.others))
 
 pub loop-write-preserved : goal.loop-write-preserved
 loop-write-preserved g c =
@@ -58,7 +60,7 @@ loop-write-preserved g c =
     let taken : list_any (is_refused layers) (w ∷ rest) ≡ false = subst (λ ws. list_any (is_refused layers) ws ≡ false) parts c.loop-write.invariant.taken in
     let did = c.in_ok-do_one.ensures.ok in
     record {
-      over = subst (AreOver rest) (sym c.do_one.ensures.count)
+      over = subst (AreOver rest) (sym (same_count _ c.loop-write.self.layers.items c.do_one.new.self.layers.items c.do_one.ensures.frame.count))
           (All-tail (λ (v : Write). IsOver v.plan count) w rest (subst (λ ws. AreOver ws count) parts c.loop-write.invariant.over));
       distinct = rest_distinct w rest distinct;
       left = rest_left w rest store new final did (subst (λ ws. all_done store ws ≡ final) parts c.loop-write.invariant.left);
@@ -68,6 +70,6 @@ loop-write-preserved g c =
           (subst (λ ws. AreTargets layers ws c.loop-write.rest.now) parts c.loop-write.invariant.targets)).1;
       among = λ name in'. c.loop-write.invariant.among name (subst (λ ws. Contains (names_of ws) name) (sym parts) (other_name w rest name in'));
       others = same_all_then (names_of c.args.batch.items) _ _ _ c.loop-write.invariant.others
-          (same_all (names_of c.args.batch.items) w.name _ _ (c.loop-write.invariant.among w.name (subst (λ ws. Contains (names_of ws) w.name) (sym parts) (first_name w rest))) c.do_one.ensures.others);
-      count = c.do_one.ensures.count ∙ c.loop-write.invariant.count;
+          (same_all (names_of c.args.batch.items) w.name _ _ (c.loop-write.invariant.among w.name (subst (λ ws. Contains (names_of ws) w.name) (sym parts) (first_name w rest))) c.do_one.ensures.frame.others);
+      count = same_count _ c.loop-write.self.layers.items c.do_one.new.self.layers.items c.do_one.ensures.frame.count ∙ c.loop-write.invariant.count;
     }

@@ -6,7 +6,7 @@ use Rattle.dc_layer.specs.State.{LayerState, made_at, refusal, with_made}
 use Rattle.dc_store.specs.Plans.{stored, write}
 use Rattle.dc_store.specs.Batches.{Write}
 use Rattle.dc_store.specs.Writes.{change_at}
-use Rattle.dc_store.proofs.Frames.{write_keeps, kept}
+use Rattle.dc_store.proofs.Frames.{write_keeps, kept, framed}
 use Rattle.dc_store.proofs.Landings.{landed_within, landed_taken, lands_as, lands_written}
 use Rattle.dc_store.proofs.store.Store.land.Goals as goal
 
@@ -29,13 +29,13 @@ returns-clause-ok g c =
     (lands_written layers new c.args.self.now.told c.args.write c.args.place c.in-Put.item c.requires.lands (ap (λ (w : Write). w.op) (sym c.write.view_is) ∙ c.in-Put.is)
     (subst (λ (w : Write). new ≡ change_at layers c.args.place (λ layer. with_made layer w.name (made_at layer w.name (Put c.in-Put.item)))) c.write.view_is c.in_ok-put_at-in-Put.ensures.ok))
 
-pub returns-clause-others : goal.returns-clause-others
-returns-clause-others g c =
+pub returns-clause-frame : goal.returns-clause-frame
+returns-clause-frame g c =
     let layers = each (λ b. (goal.Layer-dyn g (b.vtable, b.value)).state b.value) c.args.self.now.layers.items in
     let new : List LayerState = each (λ b. (goal.Layer-dyn g (b.vtable, b.value)).state b.value) c.put_at.new.self.layers.items in
-    write_keeps layers new (places c.args.write.plan.base) c.args.write.name c.args.write.kind c.args.write.op
+    framed c.args.write.name _ _ (write_keeps layers new (places c.args.write.plan.base) c.args.write.name c.args.write.kind c.args.write.op
     (lands_as layers c.args.write c.args.place c.requires.lands c.in-Put.item (ap (λ (w : Write). w.op) (sym c.write.view_is) ∙ c.in-Put.is) new
-    (subst (λ (w : Write). new ≡ change_at layers c.args.place (λ layer. with_made layer w.name (made_at layer w.name (Put c.in-Put.item)))) c.write.view_is c.in_ok-put_at-in-Put.ensures.ok))
+    (subst (λ (w : Write). new ≡ change_at layers c.args.place (λ layer. with_made layer w.name (made_at layer w.name (Put c.in-Put.item)))) c.write.view_is c.in_ok-put_at-in-Put.ensures.ok)))
 
-pub returns-in_err-put_at-in-Put-clause-others : goal.returns-in_err-put_at-in-Put-clause-others
-returns-in_err-put_at-in-Put-clause-others g c = kept c.args.write.name _ _ c.in_err-put_at-in-Put.ensures.err
+pub returns-in_err-put_at-in-Put-clause-frame : goal.returns-in_err-put_at-in-Put-clause-frame
+returns-in_err-put_at-in-Put-clause-frame g c = framed c.args.write.name _ _ (kept c.args.write.name _ _ c.in_err-put_at-in-Put.ensures.err)

@@ -25,10 +25,10 @@ loop-line-preserved g c =
     let taken = rw c.in-None.is at c.in_ok-line.ensures.taken in
     let progress = goes_on c.loop-line.invariant.progress c.take_first.new.self (unmoved c.loop-line.self c.take_first.new.self taken c.in_ok-line.ensures.end) in
     record {
-      progress = read_on progress (still_open c.loop-line.self c.take_first.new.self taken (sym (ap (λ (a : TypeAhead). a.has_ended) c.self.view_is) ∙ c.if-self.false)) c.read.new.self (g.L.Link.talk c.read.new.link) (g.L.Link.left c.read.new.link) c.in_ok-read.field-0 c.in_ok-read.ensures.brought;
-      end = ends_well c.args.self.now c.take_first.new.self c.read.new.self (g.L.Link.left c.read.new.link) (sym (ap (λ (a : TypeAhead). a.has_ended) c.self.view_is) ∙ c.if-self.false) c.in_ok-read.ensures.end;
-      faults = c.in_ok-read.ensures.faults ∙ c.loop-line.invariant.faults;
-      refusals = c.in_ok-read.ensures.refusals ∙ c.loop-line.invariant.refusals;
+      progress = read_on progress (still_open c.loop-line.self c.take_first.new.self taken (sym (ap (λ (a : TypeAhead). a.has_ended) c.self.view_is) ∙ c.if-self.false)) c.read.new.self (g.L.Link.link c.read.new.link).talk (g.L.Link.link c.read.new.link).input c.in_ok-read.field-0 c.in_ok-read.ensures.brought;
+      end = ends_well c.args.self.now c.take_first.new.self c.read.new.self (g.L.Link.link c.read.new.link).input (sym (ap (λ (a : TypeAhead). a.has_ended) c.self.view_is) ∙ c.if-self.false) c.in_ok-read.ensures.end;
+      counts = c.in_ok-read.ensures.counts ∙ c.loop-line.invariant.counts;
+      program = c.in_ok-read.ensures.program ∙ c.loop-line.invariant.program;
     }
 
 pub returns-in_err-read-clause-read : goal.returns-in_err-read-clause-read
@@ -36,7 +36,7 @@ returns-in_err-read-clause-read g c =
     let taken = rw c.in-None.is at c.in_ok-line.ensures.taken in
     let progress = goes_on c.loop-line.invariant.progress c.take_first.new.self (unmoved c.loop-line.self c.take_first.new.self taken c.in_ok-line.ensures.end) in
     let p = err_from_is_err_and c.from_residual-in_err-read.result c.from_residual-in_err-read.ensures.1 in
-    read_stopped progress (still_open c.loop-line.self c.take_first.new.self taken (sym (ap (λ (a : TypeAhead). a.has_ended) c.self.view_is) ∙ c.if-self.false)) c.read.new.self (g.L.Link.talk c.read.new.link) (g.L.Link.left c.read.new.link) c.in_err-read.field-0.0 c.in_err-read.ensures.brought
+    read_stopped progress (still_open c.loop-line.self c.take_first.new.self taken (sym (ap (λ (a : TypeAhead). a.has_ended) c.self.view_is) ∙ c.if-self.false)) c.read.new.self (g.L.Link.link c.read.new.link).talk (g.L.Link.link c.read.new.link).input c.in_err-read.field-0.0 c.in_err-read.ensures.brought
     c.from_residual-in_err-read.result (p.1 ∙ ap Err p.2)
 
 pub loop-line-smaller : goal.loop-line-smaller

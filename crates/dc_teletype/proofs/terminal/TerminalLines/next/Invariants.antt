@@ -7,10 +7,10 @@ use Rattle.dc_teletype.proofs.terminal.TerminalLines.next.Given as goal
 
 abbrev pub invariant-loop-line : goal.invariant-loop-line
 invariant-loop-line g l = record {
-  progress : (pieces : List Piece) × Passes (g.L.Link.talk l.fn.link) (g.L.Link.talk l.link) (g.L.Link.left l.fn.link) (g.L.Link.left l.link) pieces × Reaches l.fn.self l.self pieces;
-  end : EndsWell l.fn.self l.self (g.L.Link.left l.link);
-  faults : g.L.Link.faults l.link ≡ g.L.Link.faults l.fn.link;
-  refusals : g.L.Link.refusals l.link ≡ g.L.Link.refusals l.fn.link;
+  progress : (pieces : List Piece) × Passes (g.L.Link.link l.fn.link).talk (g.L.Link.link l.link).talk (g.L.Link.link l.fn.link).input (g.L.Link.link l.link).input pieces × Reaches l.fn.self l.self pieces;
+  end : EndsWell l.fn.self l.self (g.L.Link.link l.link).input;
+  counts : (g.L.Link.link l.link).counts ≡ (g.L.Link.link l.fn.link).counts;
+  program : (g.L.Link.link l.link).program ≡ (g.L.Link.link l.fn.link).program;
 }
 
 abbrev pub decreases-loop-line : goal.decreases-loop-line

@@ -1,0 +1,5 @@
+use Rattle.dc_host.specs.Locks.{KeepsLocks}
+use Rattle.dc_host.proofs.guard.Guard.open_locked.Given as goal
+
+abbrev pub invariant-loop : goal.invariant-loop
+invariant-loop g l = KeepsLocks l.fn.self.locks.held l.self.locks.held

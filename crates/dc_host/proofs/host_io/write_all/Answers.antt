@@ -1,5 +1,0 @@
-use Rattle.dc_host.proofs.StreamLemmas.{written-more}
-use Rattle.dc_host.proofs.host_io.write_all.Goals as goal
-
-pub loop-preserved : goal.loop-preserved
-loop-preserved g c = written-more _ _ _ _ _ _ c.loop.invariant c.in_ok-rest.ensures

@@ -1,0 +1,67 @@
+// What is read without a lock.
+use dc_conf::{ConfError, ResolveError, read_conf};
+use dc_host::HostFiles;
+use dc_outside::{Files, FilesError};
+use dc_run::Settings;
+use dc_text::{List, Mem, OutOfMemory, Text};
+use std::alloc::Global;
+use std::fs::File;
+use std::rt::Files as SystemFiles;
+
+/// The paths of what is read without a lock: of the configuration, which no run writes; of the template files that the words of
+/// `loadtemplate` name; and of the databases that the configuration says are to be read alone.
+pub fn paths_open_to_all<R: SystemFiles<File = File> + Alloc + Clone + Drop>(
+    alloc: Global,
+    rt: R,
+    settings: &Settings,
+    words: &List<Text>,
+) -> Mem<List<Text>> {
+    let mut paths = List::new(alloc);
+    match words.as_slice() {
+        [tool, _, files @ ..] if tool.bytes() == b"loadtemplate".as_slice() => {
+            for path in files {
+                paths.push(path.copy()?)?;
+            }
+        }
+        _ => {}
+    }
+    add_read_alone(alloc, &mut paths, &configuration(alloc, rt, settings)?)?;
+    paths.push(settings.conf_path.copy()?)?;
+    Ok(paths)
+}
+
+// The text of the configuration. One that can't be read is told of by the run.
+fn configuration<R: SystemFiles<File = File> + Alloc + Clone + Drop>(
+    alloc: Global,
+    rt: R,
+    settings: &Settings,
+) -> Mem<Text> {
+    let mut own = List::new(alloc);
+    own.push(settings.conf_path.copy()?)?;
+    match HostFiles::new(alloc, rt, own).read(&settings.conf_path) {
+        Ok(Some(text)) => Ok(text),
+        Ok(None) | Err(FilesError::Failed) => Ok(Text::new(alloc)),
+        Err(FilesError::OutOfMemory) => Err(OutOfMemory),
+    }
+}
+
+// The places of the databases with `Readonly: true`.
+fn add_read_alone(alloc: Global, paths: &mut List<Text>, text: &Text) -> Mem<()> {
+    let conf = match read_conf(alloc, text.bytes()) {
+        Ok(conf) => conf,
+        Err(ConfError::Refused { line: _, kind: _ }) => return Ok(()),
+        Err(ConfError::OutOfMemory) => return Err(OutOfMemory),
+    };
+    match conf.resolve(alloc, conf.databases()) {
+        Ok(resolved) => {
+            for spec in resolved.specs.as_slice() {
+                if spec.readonly {
+                    paths.push(spec.place.copy()?)?;
+                }
+            }
+            Ok(())
+        }
+        Err(ResolveError::Unknown { root: _ }) => Ok(()),
+        Err(ResolveError::OutOfMemory) => Err(OutOfMemory),
+    }
+}
