@@ -4,7 +4,7 @@ use Rattle.dc_outside.specs.Counts.{Rose}
 use Rattle.dc_outside.specs.declared.link.Piece.{Piece}
 
 -- It wasn't started. It was, with these words where they are told. It was waited for and has ended, with this exit status, and what had
--- been said on the link then, where it is told.
+-- been said on the link then, where it is told. Of several that were started one after another it is the last.
 pub data Life : Type 0 where
   Unstarted : Life
   Running : Option (List (List ℕ)) → Life
@@ -19,11 +19,17 @@ pub record Program : Type 0 where
 abbrev pub no_program : Program
 no_program = record { life = Unstarted; failures = 0 }
 
--- the words that it was started with, where it was and they are told
+-- the words that it was started with last, where it was and they are told
 abbrev pub words_of : Life → Option (List (List ℕ))
 words_of Unstarted = None
 words_of (Running words) = words
 words_of (Ended words status talk) = words
+
+-- it may be started: it wasn't yet, or it has ended
+abbrev pub IsIdle : Life → Type 0
+IsIdle Unstarted = ⊤
+IsIdle (Running words) = ⊥
+IsIdle (Ended words status talk) = ⊤
 
 abbrev pub IsRunning : Life → Type 0
 IsRunning Unstarted = ⊥

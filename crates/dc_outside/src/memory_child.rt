@@ -3,7 +3,7 @@ ghost use Rattle.std.specs.Prelude.{◌≡◌, ◌+◌, ◌-◌, ◌^◌, ◌<�
 ghost use Rattle.std.specs.Option.{option_copied};
 ghost use Rattle.dc_outside.specs.Talk.{sent};
 ghost use Rattle.dc_outside.specs.LinkCalls.{Reads, Sends, Starts, Waits};
-ghost use Rattle.dc_outside.specs.Programs.{Unstarted, Running, IsRunning, words_of, no_program, FailureRose};
+ghost use Rattle.dc_outside.specs.Programs.{Running, IsIdle, IsRunning, words_of, no_program, FailureRose};
 ghost use Rattle.dc_outside.specs.Memory.{child_link_of, is_among, next_cut, read_pieces, write_pieces, FailsWhere, TakesNumber};
 
 use crate::{Child, Link, LinkError, MemLink, Piece, WaitFault};
@@ -50,7 +50,7 @@ impl Model for MemChild {
 impl MemChild {
     /// The program writes the input, and ends with the status. Cuts and failing calls are those of a link in memory, where a
     /// start and a wait have their numbers among the reads and writes: a start that is to fail starts nothing, and a wait that
-    /// is to fail leaves the program running.
+    /// is to fail leaves the program running. One that is started again writes what is left of the input, and ends with the same status.
     pub fn new(
         alloc: Global,
         input: &[u8],
@@ -90,7 +90,7 @@ impl MemChild {
         self.link.sent()
     }
 
-    /// The words that the program was started with, if it was.
+    /// The words that the program was started with last, if it was.
     pub fn words(&self) -> Option<&List<Text>>
         ensures { option_copied result ≡ words_of self.now.program.life }
     {
@@ -145,7 +145,7 @@ impl Link for MemChild {
 impl Child for MemChild {
     fn start(&mut self, words: &List<Text>) -> Result<(), LinkError>
         requires some { 0 < length words.now }
-        requires unstarted { self.old.program.life ≡ Unstarted }
+        requires idle { IsIdle self.old.program.life }
         ensures starts { Starts words.now (child_link_of self.old) (child_link_of self.new) result }
 
         ensures words { OnOk result (self.new.program.life ≡ Running (Some words.now)) }
