@@ -28,24 +28,24 @@ module _ {S B : Type 0} (steps : S → Line → Response → S → Type 0) (abor
   keeps_to : (start new : S) (transitions : List (Transition S)) → IsExecution steps start transitions → new ≡ state_after start transitions → keeps start new
   keeps_to start new transitions course is = rw is (course_keeps start transitions course)
 
-  answered_keeps : (end : LinkEnd B) (start new : S) (transitions : List (Transition S)) (rest : List Line) (talk : List Piece) (input : Option (List ℕ)) (code : ℕ)
-      → IsExecution steps start transitions → Answered aborts end start transitions rest talk input new code → keeps start new
-  answered_keeps Done start new transitions rest talk input code course is = keeps_to start new transitions course is.are_said.state_is
-  answered_keeps LinkFault start new transitions rest talk input code course is = elim is [
+  answered_keeps : (end : LinkEnd B) (start new : S) (transitions : List (Transition S)) (rest : List Line) (talk : List Piece) (input : Option (List ℕ)) (before code : ℕ)
+      → IsExecution steps start transitions → Answered aborts end start transitions rest talk input before new code → keeps start new
+  answered_keeps Done start new transitions rest talk input before code course is = keeps_to start new transitions course is.are_said.state_is
+  answered_keeps LinkFault start new transitions rest talk input before code course is = elim is [
     | inl lost ↦ keeps_to start new transitions course lost.answered.are_said.state_is
     | inr cut ↦ keeps_to start new transitions course (at_last start new transitions cut.answered.gone cut.answered.last cut.answered.turns_are cut.answered.state_is)
   ]
-  answered_keeps OutOfMemory start new transitions rest talk input code course is = elim is [
+  answered_keeps OutOfMemory start new transitions rest talk input before code course is = elim is [
     | inl all ↦ keeps_to start new transitions course all.1.state_is
     | inr unsaid ↦ keeps_to start new transitions course (at_last start new transitions unsaid.gone unsaid.last unsaid.turns_are unsaid.state_is)
   ]
-  answered_keeps TooLong start new transitions rest talk input code course is = keeps_to start new transitions course is.answered.are_said.state_is
-  answered_keeps (Broken error) start new transitions rest talk input code course is =
+  answered_keeps TooLong start new transitions rest talk input before code course is = keeps_to start new transitions course is.answered.are_said.state_is
+  answered_keeps (Broken error) start new transitions rest talk input before code course is =
       chain start (state_after start transitions) new (course_keeps start transitions course) (broke (state_after start transitions) new is.line error is.broke)
 
-  pub run_keeps : (talk new_talk : Option (List Piece)) (input left : Option (List ℕ)) (start new : S) (end : LinkEnd B) (code : ℕ)
-      → IsLinkRun steps aborts talk new_talk input left start end new code → keeps start new
-  run_keeps talk new_talk input left start new end code run = answered_keeps end start new run.transitions run.rest run.pieces input code run.course run.answered
+  pub run_keeps : (talk new_talk : Option (List Piece)) (input left : Option (List ℕ)) (start new : S) (end : LinkEnd B) (before code : ℕ)
+      → IsLinkRun steps aborts talk new_talk input left start end new before code → keeps start new
+  run_keeps talk new_talk input left start new end before code run = answered_keeps end start new run.transitions run.rest run.pieces input before code run.course run.answered
 
 -- a machine that never replies says nothing
 pub nothing_said : {S : Type 0} (steps : S → Line → Response → S → Type 0) → ((old new : S) (line : Line) (did : Response) → steps old line did new → did ≡ Silent)
@@ -68,21 +68,21 @@ module _ {S B : Type 0} (steps : S → Line → Response → S → Type 0) (abor
   never_replies : (did : Response) (code : ℕ) (text : List ℕ) → did ≡ Silent → did ≡ Replied code text → ⊥
   never_replies did code text first second = cc
 
-  answered_says_nothing : (end : LinkEnd B) (start new : S) (transitions : List (Transition S)) (rest : List Line) (talk : List Piece) (input : Option (List ℕ)) (code : ℕ)
-      → IsExecution steps start transitions → Answered aborts end start transitions rest talk input new code → said talk ≡ []
-  answered_says_nothing Done start new transitions rest talk input code course is = is.are_said.pieces_are ∙ nothing_said steps silent start transitions course
-  answered_says_nothing LinkFault start new transitions rest talk input code course is = elim is [
+  answered_says_nothing : (end : LinkEnd B) (start new : S) (transitions : List (Transition S)) (rest : List Line) (talk : List Piece) (input : Option (List ℕ)) (before code : ℕ)
+      → IsExecution steps start transitions → Answered aborts end start transitions rest talk input before new code → said talk ≡ []
+  answered_says_nothing Done start new transitions rest talk input before code course is = is.are_said.pieces_are ∙ nothing_said steps silent start transitions course
+  answered_says_nothing LinkFault start new transitions rest talk input before code course is = elim is [
     | inl lost ↦ lost.answered.are_said.pieces_are ∙ nothing_said steps silent start transitions course
     | inr cut ↦ absurd (never_replies cut.answered.last.did code cut.answered.text (front_of start transitions cut.answered.gone cut.answered.last course cut.answered.turns_are).1 cut.answered.replied)
   ]
-  answered_says_nothing OutOfMemory start new transitions rest talk input code course is = elim is [
+  answered_says_nothing OutOfMemory start new transitions rest talk input before code course is = elim is [
     | inl all ↦ all.1.pieces_are ∙ nothing_said steps silent start transitions course
     | inr unsaid ↦ unsaid.pieces_are ∙ (front_of start transitions unsaid.gone unsaid.last course unsaid.turns_are).0
   ]
-  answered_says_nothing TooLong start new transitions rest talk input code course is = is.answered.are_said.pieces_are ∙ nothing_said steps silent start transitions course
-  answered_says_nothing (Broken error) start new transitions rest talk input code course is = is.pieces_are ∙ nothing_said steps silent start transitions course
+  answered_says_nothing TooLong start new transitions rest talk input before code course is = is.answered.are_said.pieces_are ∙ nothing_said steps silent start transitions course
+  answered_says_nothing (Broken error) start new transitions rest talk input before code course is = is.pieces_are ∙ nothing_said steps silent start transitions course
 
   -- so its run says nothing
-  pub run_says_nothing : (talk new_talk : Option (List Piece)) (input left : Option (List ℕ)) (start new : S) (end : LinkEnd B) (code : ℕ)
-      → (run : IsLinkRun steps aborts talk new_talk input left start end new code) → said run.pieces ≡ []
-  run_says_nothing talk new_talk input left start new end code run = answered_says_nothing end start new run.transitions run.rest run.pieces input code run.course run.answered
+  pub run_says_nothing : (talk new_talk : Option (List Piece)) (input left : Option (List ℕ)) (start new : S) (end : LinkEnd B) (before code : ℕ)
+      → (run : IsLinkRun steps aborts talk new_talk input left start end new before code) → said run.pieces ≡ []
+  run_says_nothing talk new_talk input left start new end before code run = answered_says_nothing end start new run.transitions run.rest run.pieces input before code run.course run.answered

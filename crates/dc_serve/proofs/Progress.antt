@@ -24,7 +24,7 @@ use Rattle.dc_serve.proofs.Courses.{course-append, lines_of-append}
 use Rattle.dc_serve.proofs.Serve.{serves_more}
 use Rattle.dc_serve.proofs.Talks.{then_pieces-nil, then_pieces-then_pieces, said-append, got-append, said-replies, got-replies, prepend-nil, prepend-append, in_step_none, in_step_read, in_step_written, in_step_replies, in_step_later}
 
-pub record Progress {S : Type 0} (steps : S → Line → Response → S → Type 0) (talk new_talk : Option (List Piece)) (left new_left : Option (List ℕ)) (start : S) (held : List ℕ) (new : S) (code taken : ℕ) : Type 0 where
+pub record Progress {S : Type 0} (steps : S → Line → Response → S → Type 0) (talk new_talk : Option (List Piece)) (left new_left : Option (List ℕ)) (start : S) (held : List ℕ) (before : ℕ) (new : S) (code taken : ℕ) : Type 0 where
   pub pieces : List Piece
   pub told_is : new_talk ≡ then_pieces talk pieces
   pub took : left ≡ prepend_known (got pieces) new_left
@@ -32,7 +32,7 @@ pub record Progress {S : Type 0} (steps : S → Line → Response → S → Type
   pub course : IsExecution steps start transitions
   pub all_served : lines_of transitions ≡ whole_lines (got pieces)
   pub on : stops transitions ≡ false
-  pub are_said : AreSaid start transitions (said pieces) 0 new code
+  pub are_said : AreSaid start transitions (said pieces) before new code
   pub in_step : AnswersBeforeReads transitions pieces
   pub none_held : whole_lines held ≡ []
   pub rest : rest_of held ≡ rest_of (got pieces)
@@ -72,8 +72,8 @@ ended_calls (Broken error) talk cut = cut
 module _ {S B : Type 0} (steps : S → Line → Response → S → Type 0) (aborts : S → Line → B → S → Type 0) where
   -- ---- before the first read
 
-  pub progress_start : (talk : Option (List Piece)) (left : Option (List ℕ)) (start : S) → Progress steps talk talk left left start [] start 0 0
-  progress_start talk left start = record {
+  pub progress_start : (talk : Option (List Piece)) (left : Option (List ℕ)) (start : S) (before : ℕ) → Progress steps talk talk left left start [] before start before 0
+  progress_start talk left start before = record {
     pieces = [];
     told_is = sym (then_pieces-nil talk);
     took = prepend-nil left;
@@ -90,8 +90,8 @@ module _ {S B : Type 0} (steps : S → Line → Response → S → Type 0) (abor
   }
 
   -- no memory for the buffer: nothing was done
-  pub run_unstarted : (talk : Option (List Piece)) (left : Option (List ℕ)) (start : S) → IsLinkRun steps aborts talk talk left left start end.OutOfMemory start 0
-  run_unstarted talk left start = record {
+  pub run_unstarted : (talk : Option (List Piece)) (left : Option (List ℕ)) (start : S) (before : ℕ) → IsLinkRun steps aborts talk talk left left start end.OutOfMemory start before before
+  run_unstarted talk left start before = record {
     pieces = [];
     told_is = sym (then_pieces-nil talk);
     took = prepend-nil left;
@@ -150,27 +150,27 @@ module _ {S B : Type 0} (steps : S → Line → Response → S → Type 0) (abor
   -- ---- the ends
 
   -- all lines that count were to be served
-  ends_all : (start new : S) (transitions : List (Transition S)) (rest : List Line) (outcome : Served B) (talk : List Piece) (left : Option (List ℕ)) (code : ℕ)
-      → Serves aborts start transitions rest outcome (said talk) 0 new code → EndsCut outcome talk → IsWhole talk left → all_lines (got talk) ≡ lines_of transitions ++ rest
-      → Answered aborts (link_end_of outcome) start transitions rest talk left new code
-  ends_all start new transitions rest On talk left code serves cut whole are = record { are_said = serves.are_said; read = inr (sym (are ∙ rw serves.none_left (append-nil (lines_of transitions))), whole) }
-  ends_all start new transitions rest Stopped talk left code serves cut whole are = record { are_said = serves.are_said; read = inl serves.stopped }
-  ends_all start new transitions rest Failed talk left code serves cut whole are = inr (record { before = cut.0; bytes = cut.1; cut = cut.2; answered = serves })
-  ends_all start new transitions rest OutOfMemory talk left code serves cut whole are = serves
-  ends_all start new transitions rest (Broken error) talk left code serves cut whole are = serves
+  ends_all : (start new : S) (transitions : List (Transition S)) (rest : List Line) (outcome : Served B) (talk : List Piece) (left : Option (List ℕ)) (before code : ℕ)
+      → Serves aborts start transitions rest outcome (said talk) before new code → EndsCut outcome talk → IsWhole talk left → all_lines (got talk) ≡ lines_of transitions ++ rest
+      → Answered aborts (link_end_of outcome) start transitions rest talk left before new code
+  ends_all start new transitions rest On talk left before code serves cut whole are = record { are_said = serves.are_said; read = inr (sym (are ∙ rw serves.none_left (append-nil (lines_of transitions))), whole) }
+  ends_all start new transitions rest Stopped talk left before code serves cut whole are = record { are_said = serves.are_said; read = inl serves.stopped }
+  ends_all start new transitions rest Failed talk left before code serves cut whole are = inr (record { before = cut.0; bytes = cut.1; cut = cut.2; answered = serves })
+  ends_all start new transitions rest OutOfMemory talk left before code serves cut whole are = serves
+  ends_all start new transitions rest (Broken error) talk left before code serves cut whole are = serves
 
   -- serving the whole lines ended the run
-  ends_within : (start new : S) (transitions : List (Transition S)) (rest : List Line) (outcome : Served B) (talk : List Piece) (left : Option (List ℕ)) (code : ℕ)
-      → Serves aborts start transitions rest outcome (said talk) 0 new code → EndsCut outcome talk → outcome ≢ On
-      → Answered aborts (link_end_of outcome) start transitions rest talk left new code
-  ends_within start new transitions rest On talk left code serves cut ended = absurd (ended refl)
-  ends_within start new transitions rest Stopped talk left code serves cut ended = record { are_said = serves.are_said; read = inl serves.stopped }
-  ends_within start new transitions rest Failed talk left code serves cut ended = inr (record { before = cut.0; bytes = cut.1; cut = cut.2; answered = serves })
-  ends_within start new transitions rest OutOfMemory talk left code serves cut ended = serves
-  ends_within start new transitions rest (Broken error) talk left code serves cut ended = serves
+  ends_within : (start new : S) (transitions : List (Transition S)) (rest : List Line) (outcome : Served B) (talk : List Piece) (left : Option (List ℕ)) (before code : ℕ)
+      → Serves aborts start transitions rest outcome (said talk) before new code → EndsCut outcome talk → outcome ≢ On
+      → Answered aborts (link_end_of outcome) start transitions rest talk left before new code
+  ends_within start new transitions rest On talk left before code serves cut ended = absurd (ended refl)
+  ends_within start new transitions rest Stopped talk left before code serves cut ended = record { are_said = serves.are_said; read = inl serves.stopped }
+  ends_within start new transitions rest Failed talk left before code serves cut ended = inr (record { before = cut.0; bytes = cut.1; cut = cut.2; answered = serves })
+  ends_within start new transitions rest OutOfMemory talk left before code serves cut ended = serves
+  ends_within start new transitions rest (Broken error) talk left before code serves cut ended = serves
 
   -- A talk after which lines were served.
-  record HasSpoken (talk new : Option (List Piece)) (left new_left : Option (List ℕ)) (start : S) (bytes : List ℕ) (lines : List Line) (outcome : Served B) (session : S) (code : ℕ) : Type 0 where
+  record HasSpoken (talk new : Option (List Piece)) (left new_left : Option (List ℕ)) (start : S) (bytes : List ℕ) (lines : List Line) (outcome : Served B) (before : ℕ) (session : S) (code : ℕ) : Type 0 where
     pub pieces : List Piece
     pub told_is : new ≡ then_pieces talk pieces
     pub took : left ≡ prepend_known (got pieces) new_left
@@ -180,15 +180,15 @@ module _ {S B : Type 0} (steps : S → Line → Response → S → Type 0) (abor
     pub lines_are : lines ≡ lines_of transitions ++ rest
     pub in_step : AnswersBeforeReads transitions pieces
     pub bytes_are : got pieces ≡ bytes
-    pub serves : Serves aborts start transitions rest outcome (said pieces) 0 session code
+    pub serves : Serves aborts start transitions rest outcome (said pieces) before session code
     pub cut : EndsCut outcome pieces
 
   -- serving goes on from a talk whose lines were all served
-  speaks : (talk mid new : Option (List Piece)) (left mid_left new_left : Option (List ℕ)) (start session : S) (pieces : List Piece) (gone : List (Transition S)) (lines : List Line) (outcome : Served B) (code : ℕ) (new_session : S) (new_code : ℕ)
-      → mid ≡ then_pieces talk pieces → left ≡ prepend_known (got pieces) mid_left → IsExecution steps start gone → AnswersBeforeReads gone pieces → stops gone ≡ false → AreSaid start gone (said pieces) 0 session code → AreSound pieces
+  speaks : (talk mid new : Option (List Piece)) (left mid_left new_left : Option (List ℕ)) (start session : S) (pieces : List Piece) (gone : List (Transition S)) (lines : List Line) (outcome : Served B) (before code : ℕ) (new_session : S) (new_code : ℕ)
+      → mid ≡ then_pieces talk pieces → left ≡ prepend_known (got pieces) mid_left → IsExecution steps start gone → AnswersBeforeReads gone pieces → stops gone ≡ false → AreSaid start gone (said pieces) before session code → AreSound pieces
       → HasServed steps aborts mid new session lines outcome code new_session new_code → new_left ≡ mid_left
-      → HasSpoken talk new left new_left start (got pieces) (lines_of gone ++ lines) outcome new_session new_code
-  speaks talk mid new left mid_left new_left start session pieces gone lines outcome code new_session new_code told_is took course step on are_said sound served same =
+      → HasSpoken talk new left new_left start (got pieces) (lines_of gone ++ lines) outcome before new_session new_code
+  speaks talk mid new left mid_left new_left start session pieces gone lines outcome before code new_session new_code told_is took course step on are_said sound served same =
       let written = serves_written session new_session served.transitions served.rest outcome served.pieces code new_code served.serves in
       let none : got (pieces ++ served.pieces) ≡ got pieces = got-append pieces served.pieces ∙ ap (λ (l : List ℕ). got pieces ++ l) written.none_got ∙ append-nil (got pieces) in
       record {
@@ -202,18 +202,18 @@ module _ {S B : Type 0} (steps : S → Line → Response → S → Type 0) (abor
         in_step = written.in_step (gone ++ served.transitions) pieces (in_step_later gone served.transitions pieces step);
         bytes_are = none;
         serves = rw (said-append pieces served.pieces, written.all_said)
-            (serves_more steps aborts start session new_session gone served.transitions served.rest (said pieces) served.pieces outcome 0 code new_code are_said on served.serves);
+            (serves_more steps aborts start session new_session gone served.transitions served.rest (said pieces) served.pieces outcome before code new_code are_said on served.serves);
         cut = ends_cut session new_session served.transitions served.rest outcome pieces served.pieces code new_code sound served.serves;
       }
 
-module _ {S B : Type 0} {steps : S → Line → Response → S → Type 0} {talk mid : Option (List Piece)} {left mid_left : Option (List ℕ)} {start : S} {held : List ℕ} {session : S} {code taken : ℕ}
-    (aborts : S → Line → B → S → Type 0) (p : Progress steps talk mid left mid_left start held session code taken) where
+module _ {S B : Type 0} {steps : S → Line → Response → S → Type 0} {talk mid : Option (List Piece)} {left mid_left : Option (List ℕ)} {start : S} {held : List ℕ} {before : ℕ} {session : S} {code taken : ℕ}
+    (aborts : S → Line → B → S → Type 0) (p : Progress steps talk mid left mid_left start held before session code taken) where
   caught_up : IsCaughtUp p.transitions p.pieces
   caught_up = record { gone = p.transitions; later = []; turns_are = sym (append-nil p.transitions); lines_are = p.all_served; all_sent = p.are_said.pieces_are; none_stops = p.on }
 
   -- The read failed.
   pub run_lost : (new : Option (List Piece)) (new_left : Option (List ℕ)) → new ≡ then_pieces mid (Lost ∷ []) → mid_left ≡ prepend_known [] new_left → taken < 2 ^ 40
-      → IsLinkRun steps aborts talk new left new_left start end.LinkFault session code
+      → IsLinkRun steps aborts talk new left new_left start end.LinkFault session before code
   run_lost new new_left said_lost none short =
       let bytes : got (p.pieces ++ Lost ∷ []) ≡ got p.pieces = got-append p.pieces (Lost ∷ []) ∙ append-nil (got p.pieces) in
       let words : said (p.pieces ++ Lost ∷ []) ≡ said p.pieces = said-append p.pieces (Lost ∷ []) ∙ append-nil (said p.pieces) in
@@ -237,7 +237,7 @@ module _ {S B : Type 0} {steps : S → Line → Response → S → Type 0} {talk
 
   -- The read was refused for want of memory.
   pub run_refused : (new : Option (List Piece)) (new_left : Option (List ℕ)) → new ≡ mid → new_left ≡ mid_left
-      → IsLinkRun steps aborts talk new left new_left start end.OutOfMemory session code
+      → IsLinkRun steps aborts talk new left new_left start end.OutOfMemory session before code
   run_refused new new_left same same_left = record {
     pieces = p.pieces;
     told_is = same ∙ p.told_is;
@@ -253,7 +253,7 @@ module _ {S B : Type 0} {steps : S → Line → Response → S → Type 0} {talk
 
   -- Bytes came, and there is no memory for them.
   pub run_unfed : (new : Option (List Piece)) (new_left : Option (List ℕ)) (bytes : List ℕ) → IsSound (Got bytes) → new ≡ then_pieces mid (Got bytes ∷ []) → mid_left ≡ prepend_known (bytes ++ []) new_left
-      → IsLinkRun steps aborts talk new left new_left start end.OutOfMemory session code
+      → IsLinkRun steps aborts talk new left new_left start end.OutOfMemory session before code
   run_unfed new new_left bytes some said_got came =
       let words : said (p.pieces ++ Got bytes ∷ []) ≡ said p.pieces = said-append p.pieces (Got bytes ∷ []) ∙ append-nil (said p.pieces) in
       record {
@@ -273,9 +273,9 @@ module _ {S B : Type 0} {steps : S → Line → Response → S → Type 0} {talk
   pub run_ended : (read new : Option (List Piece)) (read_left new_left : Option (List ℕ)) (outcome : Served B) (new_session : S) (new_code : ℕ)
       → read ≡ then_pieces mid [] → mid_left ≡ prepend_known [] read_left → IsAtEnd read_left → taken < 2 ^ 40
       → HasServed steps aborts read new session (line_of_rest (rest_of held)) outcome code new_session new_code → new_left ≡ read_left
-      → IsLinkRun steps aborts talk new left new_left start (link_end_of outcome) new_session new_code
+      → IsLinkRun steps aborts talk new left new_left start (link_end_of outcome) new_session before new_code
   run_ended read new read_left new_left outcome new_session new_code said_none none at_end short served same =
-      let spoken = speaks steps aborts talk read new left read_left new_left start session p.pieces p.transitions (line_of_rest (rest_of held)) outcome code new_session new_code
+      let spoken = speaks steps aborts talk read new left read_left new_left start session p.pieces p.transitions (line_of_rest (rest_of held)) outcome before code new_session new_code
       (said_none ∙ then_pieces-nil mid ∙ p.told_is)
       (p.took ∙ ap (λ (l : Option (List ℕ)). prepend_known (got p.pieces) l) (none ∙ sym (prepend-nil read_left)))
       p.course p.in_step p.on p.are_said p.sound served same in
@@ -294,7 +294,7 @@ module _ {S B : Type 0} {steps : S → Line → Response → S → Type 0} {talk
         served = inr (sym all, whole);
         in_step = spoken.in_step;
         calls = ended_calls outcome spoken.pieces spoken.cut;
-        answered = ends_all steps aborts start new_session spoken.transitions spoken.rest outcome spoken.pieces left new_code spoken.serves spoken.cut whole all;
+        answered = ends_all steps aborts start new_session spoken.transitions spoken.rest outcome spoken.pieces left before new_code spoken.serves spoken.cut whole all;
       }
 
   module _ (read new : Option (List Piece)) (read_left new_left : Option (List ℕ)) (bytes fed : List ℕ) (outcome : Served B) (new_session : S) (new_code : ℕ)
@@ -309,8 +309,8 @@ module _ {S B : Type 0} {steps : S → Line → Response → S → Type 0} {talk
     got_more : got (p.pieces ++ Got bytes ∷ []) ≡ got p.pieces ++ bytes
     got_more = got-append p.pieces (Got bytes ∷ []) ∙ ap (λ (l : List ℕ). got p.pieces ++ l) (append-nil bytes)
 
-    spoken : HasSpoken steps aborts talk new left new_left start (got (p.pieces ++ Got bytes ∷ [])) (lines_of p.transitions ++ whole_lines fed) outcome new_session new_code
-    spoken = speaks steps aborts talk read new left read_left new_left start session (p.pieces ++ Got bytes ∷ []) p.transitions (whole_lines fed) outcome code new_session new_code
+    spoken : HasSpoken steps aborts talk new left new_left start (got (p.pieces ++ Got bytes ∷ [])) (lines_of p.transitions ++ whole_lines fed) outcome before new_session new_code
+    spoken = speaks steps aborts talk read new left read_left new_left start session (p.pieces ++ Got bytes ∷ []) p.transitions (whole_lines fed) outcome before code new_session new_code
         (told_more talk mid read p.pieces (Got bytes ∷ []) p.told_is said_got)
         (took_more left mid_left read_left p.pieces (Got bytes ∷ []) p.took came)
         p.course
@@ -327,7 +327,7 @@ module _ {S B : Type 0} {steps : S → Line → Response → S → Type 0} {talk
     lines_got = sym spoken.lines_are ∙ fed_lines ∙ ap whole_lines (sym bytes_got)
 
     -- A line ended the run.
-    pub run_stopped : outcome ≢ On → IsLinkRun steps aborts talk new left new_left start (link_end_of outcome) new_session new_code
+    pub run_stopped : outcome ≢ On → IsLinkRun steps aborts talk new left new_left start (link_end_of outcome) new_session before new_code
     run_stopped ended = record {
       pieces = spoken.pieces;
       told_is = spoken.told_is;
@@ -338,14 +338,14 @@ module _ {S B : Type 0} {steps : S → Line → Response → S → Type 0} {talk
       served = inl lines_got;
       in_step = spoken.in_step;
       calls = ended_calls outcome spoken.pieces spoken.cut;
-      answered = ends_within steps aborts start new_session spoken.transitions spoken.rest outcome spoken.pieces left new_code spoken.serves spoken.cut ended;
+      answered = ends_within steps aborts start new_session spoken.transitions spoken.rest outcome spoken.pieces left before new_code spoken.serves spoken.cut ended;
     }
 
     -- All lines were served, and the run goes on.
-    pub goes_on : (now : List ℕ) → outcome ≡ On → whole_lines now ≡ [] → rest_of now ≡ rest_of fed → Progress steps talk new left new_left start now new_session new_code (taken + length bytes)
+    pub goes_on : (now : List ℕ) → outcome ≡ On → whole_lines now ≡ [] → rest_of now ≡ rest_of fed → Progress steps talk new left new_left start now before new_session new_code (taken + length bytes)
     goes_on now on none rest =
-        let goes : Serves aborts start spoken.transitions spoken.rest On (said spoken.pieces) 0 new_session new_code =
-        subst (λ (o : Served B). Serves aborts start spoken.transitions spoken.rest o (said spoken.pieces) 0 new_session new_code) on spoken.serves in
+        let goes : Serves aborts start spoken.transitions spoken.rest On (said spoken.pieces) before new_session new_code =
+        subst (λ (o : Served B). Serves aborts start spoken.transitions spoken.rest o (said spoken.pieces) before new_session new_code) on spoken.serves in
         record {
           pieces = spoken.pieces;
           told_is = spoken.told_is;
@@ -363,7 +363,7 @@ module _ {S B : Type 0} {steps : S → Line → Response → S → Type 0} {talk
         }
 
   -- So many bytes came that no more are read.
-  pub run_too_long : 2 ^ 40 ≤ taken → IsLinkRun steps aborts talk mid left mid_left start end.TooLong session code
+  pub run_too_long : 2 ^ 40 ≤ taken → IsLinkRun steps aborts talk mid left mid_left start end.TooLong session before code
   run_too_long long = record {
     pieces = p.pieces;
     told_is = p.told_is;

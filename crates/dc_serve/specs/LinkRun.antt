@@ -27,22 +27,22 @@ AreServed talk input lines = (lines ≡ whole_lines (got talk)) ⊎ ((lines ≡ 
 
 -- Each reply was sent whole. A line stopped the machine, or the input was read to its end and each of its lines had its turn,
 -- the rest without a newline as a last one.
-pub record IsDone {S : Type 0} (start : S) (transitions : List (Transition S)) (talk : List Piece) (input : Option (List ℕ)) (new : S) (code : ℕ) : Type 0 where
-  pub are_said : AreSaid start transitions (said talk) 0 new code
+pub record IsDone {S : Type 0} (start : S) (transitions : List (Transition S)) (talk : List Piece) (input : Option (List ℕ)) (before : ℕ) (new : S) (code : ℕ) : Type 0 where
+  pub are_said : AreSaid start transitions (said talk) before new code
   pub read : (stops transitions ≡ true) ⊎ ((lines_of transitions ≡ all_lines (got talk)) × IsWhole talk input)
 
 -- all whole lines that came had their turns, and each reply was sent whole
-pub record IsAtRead {S : Type 0} (start : S) (transitions : List (Transition S)) (talk : List Piece) (new : S) (code : ℕ) : Type 0 where
-  pub are_said : AreSaid start transitions (said talk) 0 new code
+pub record IsAtRead {S : Type 0} (start : S) (transitions : List (Transition S)) (talk : List Piece) (before : ℕ) (new : S) (code : ℕ) : Type 0 where
+  pub are_said : AreSaid start transitions (said talk) before new code
   pub all_served : lines_of transitions ≡ whole_lines (got talk)
   pub on : stops transitions ≡ false
 
 -- the last piece is a read that failed, and all whole lines had been answered
-pub record IsLost {S : Type 0} (start : S) (transitions : List (Transition S)) (talk : List Piece) (new : S) (code : ℕ) : Type 0 where
+pub record IsLost {S : Type 0} (start : S) (transitions : List (Transition S)) (talk : List Piece) (code_before : ℕ) (new : S) (code : ℕ) : Type 0 where
   pub before : List Piece
   pub lost : talk ≡ before ++ Lost ∷ []
   pub short : length (got talk) < 2 ^ 40
-  pub answered : IsAtRead start transitions talk new code
+  pub answered : IsAtRead start transitions talk code_before new code
 
 -- the last piece is a write that failed: a front of the last turn's reply, and those before it were sent whole
 pub record IsCut {S : Type 0} (transitions : List (Transition S)) (talk : List Piece) (new : S) (code : ℕ) : Type 0 where
@@ -52,21 +52,22 @@ pub record IsCut {S : Type 0} (transitions : List (Transition S)) (talk : List P
   pub answered : CutsShort transitions (said talk) new code
 
 -- so many bytes came that no more are read, and all whole lines were answered
-pub record IsTooLong {S : Type 0} (start : S) (transitions : List (Transition S)) (talk : List Piece) (new : S) (code : ℕ) : Type 0 where
+pub record IsTooLong {S : Type 0} (start : S) (transitions : List (Transition S)) (talk : List Piece) (before : ℕ) (new : S) (code : ℕ) : Type 0 where
   pub long : 2 ^ 40 ≤ length (got talk)
-  pub answered : IsAtRead start transitions talk new code
+  pub answered : IsAtRead start transitions talk before new code
 
--- what the talk of a run over this input, its last state and its last code are, by its end
-abbrev pub Answered : {S B : Type 0} → (S → Line → B → S → Type 0) → LinkEnd B → S → List (Transition S) → List Line → List Piece → Option (List ℕ) → S → ℕ → Type 0
-Answered aborts Done start transitions rest talk input new code = IsDone start transitions talk input new code
-Answered aborts LinkFault start transitions rest talk input new code = IsLost start transitions talk new code ⊎ IsCut transitions talk new code
-Answered aborts OutOfMemory start transitions rest talk input new code = BreaksOff start transitions (said talk) 0 new code
-Answered aborts TooLong start transitions rest talk input new code = IsTooLong start transitions talk new code
-Answered aborts (Broken error) start transitions rest talk input new code = IsBrokenAt aborts start transitions rest error (said talk) 0 new code
+-- what the talk of a run over this input, its last state and the last code, which was another before, are, by its end
+abbrev pub Answered : {S B : Type 0} → (S → Line → B → S → Type 0) → LinkEnd B → S → List (Transition S) → List Line → List Piece → Option (List ℕ) → ℕ → S → ℕ → Type 0
+Answered aborts Done start transitions rest talk input before new code = IsDone start transitions talk input before new code
+Answered aborts LinkFault start transitions rest talk input before new code = IsLost start transitions talk before new code ⊎ IsCut transitions talk new code
+Answered aborts OutOfMemory start transitions rest talk input before new code = BreaksOff start transitions (said talk) before new code
+Answered aborts TooLong start transitions rest talk input before new code = IsTooLong start transitions talk before new code
+Answered aborts (Broken error) start transitions rest talk input before new code = IsBrokenAt aborts start transitions rest error (said talk) before new code
 
 -- A run over this input added these pieces to the talk. It took the bytes that it got from the front of the input. The machine
--- took these turns, at the first of the lines that count; the run was in step, and said what these turns say.
-pub record IsLinkRun {S B : Type 0} (steps : S → Line → Response → S → Type 0) (aborts : S → Line → B → S → Type 0) (talk new_talk : Option (List Piece)) (input left : Option (List ℕ)) (start : S) (end : LinkEnd B) (new : S) (code : ℕ) : Type 0 where
+-- took these turns, at the first of the lines that count; the run was in step, and said what these turns say. The code is that of the
+-- last reply so far: it was another before, and stays where no reply was sent.
+pub record IsLinkRun {S B : Type 0} (steps : S → Line → Response → S → Type 0) (aborts : S → Line → B → S → Type 0) (talk new_talk : Option (List Piece)) (input left : Option (List ℕ)) (start : S) (end : LinkEnd B) (new : S) (before code : ℕ) : Type 0 where
   pub pieces : List Piece
   pub told_is : new_talk ≡ then_pieces talk pieces
   pub took : input ≡ prepend_known (got pieces) left
@@ -76,10 +77,10 @@ pub record IsLinkRun {S B : Type 0} (steps : S → Line → Response → S → T
   pub served : AreServed pieces input (lines_of transitions ++ rest)
   pub in_step : AnswersBeforeReads transitions pieces
   pub calls : FailsAtLast end pieces
-  pub answered : Answered aborts end start transitions rest pieces input new code
+  pub answered : Answered aborts end start transitions rest pieces input before new code
 
 -- What serving a link to this end does to it: it has that run, its calls were counted by the end, and the program behind it stays.
-pub record ServesLink {S B : Type 0} (steps : S → Line → Response → S → Type 0) (aborts : S → Line → B → S → Type 0) (old new : LinkState) (start : S) (end : LinkEnd B) (state : S) (code : ℕ) : Type 0 where
-  pub run : IsLinkRun steps aborts old.talk new.talk old.input new.input start end state code
+pub record ServesLink {S B : Type 0} (steps : S → Line → Response → S → Type 0) (aborts : S → Line → B → S → Type 0) (old new : LinkState) (start : S) (end : LinkEnd B) (state : S) (before code : ℕ) : Type 0 where
+  pub run : IsLinkRun steps aborts old.talk new.talk old.input new.input start end state before code
   pub counts : LinkCounts end old.counts new.counts
   pub program : new.program ≡ old.program

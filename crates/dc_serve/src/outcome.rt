@@ -28,7 +28,7 @@ pub enum LinkEnd<B> {
 #[derive(Drop)]
 pub struct Conversation<B> {
     pub end: LinkEnd<B>,
-    /// The code of the last reply, 0 where there was none.
+    /// The code of the last reply so far: where this link had none, the one before.
     pub last_code: u8,
 }
 

@@ -116,16 +116,17 @@ fn converse<L: Link, H: LineMachine>(
     alloc: Global,
     io: &mut L,
     machine: &mut H,
+    last_code: u8,
     buf: &mut [u8],
 ) -> Conversation<H::Break>
     requires some { 0 < length buf.old }
     requires small { length buf.old ≤ MAX_PIECE }
     ensures serves { ServesLink H.steps H.aborts (L.link io.old) (L.link io.new)
-        (H.state machine.old) result.end (H.state machine.new) result.last_code }
+        (H.state machine.old) result.end (H.state machine.new) last_code result.last_code }
     ensures borrows { H.borrows machine.new ≡ H.borrows machine.old }
 {
     let mut lines = Lines::new(alloc);
-    let mut last_code: u8 = 0;
+    let mut last_code = last_code;
     let mut taken: u64 = 0;
     while taken < MAX_INPUT {
         let count = match io.read_some(buf) {
@@ -176,21 +177,23 @@ fn buffer(alloc: Global) -> Mem<Vec<u8>>
     Ok(buf)
 }
 
-/// Gives the lines of the link to the machine, to the end of either.
+/// Gives the lines of the link to the machine, to the end of either. The code of the last reply so far is handed in, and the one that then
+/// is the last is handed back.
 pub fn serve_link<L: Link, H: LineMachine>(
     alloc: Global,
     io: &mut L,
     machine: &mut H,
+    last_code: u8,
 ) -> Conversation<H::Break>
     ensures serves { ServesLink H.steps H.aborts (L.link io.old) (L.link io.new)
-        (H.state machine.old) result.end (H.state machine.new) result.last_code }
+        (H.state machine.old) result.end (H.state machine.new) last_code result.last_code }
     ensures borrows { H.borrows machine.new ≡ H.borrows machine.old }
 {
     match buffer(alloc) {
-        Ok(mut buf) => converse(alloc, io, machine, buf.as_mut_slice()),
+        Ok(mut buf) => converse(alloc, io, machine, last_code, buf.as_mut_slice()),
         Err(_) => Conversation {
             end: LinkEnd::OutOfMemory,
-            last_code: 0,
+            last_code,
         },
     }
 }

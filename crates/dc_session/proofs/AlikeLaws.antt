@@ -141,14 +141,14 @@ module _ (asking : Asking) (one other new left : TerminalState) (alike : AreTerm
 
 -- ---- one line
 
-module _ (disk : Disk) (old : SessionState) (terminal : TerminalState) (alike : AreTerminalsAlike old.terminal terminal) (told : IsTold disk old.files.view) (one other : Stepped) (new left : SessionState) (files : new.files ≡ left.files) where
+module _ (disk : Disk) (old : SessionState) (terminal : TerminalState) (err : LinkState) (alike : AreTerminalsAlike old.terminal terminal) (told : IsTold disk old.files.view) (one other : Stepped) (new left : SessionState) (files : new.files ≡ left.files) where
   abbrev there : SessionState
-  there = record old { terminal = terminal }
+  there = record old { terminal = terminal; err = err }
 
   -- nothing was done
   kept_alike : new ≡ old → left ≡ there → AreAlike new left
   kept_alike new_is left_is = record {
-    rest = left_is ∙ (λ i. record (sym new_is i) { terminal = sym (ap (λ (s : SessionState). s.terminal) left_is) i });
+    rest = left_is ∙ (λ i. record (sym new_is i) { terminal = sym (ap (λ (s : SessionState). s.terminal) left_is) i; err = sym (ap (λ (s : SessionState). s.err) left_is) i });
     terminals = moved_alike old.asking old.terminal terminal new.terminal left.terminal alike (Answers []) (Answers []) (ap (λ (s : SessionState). s.terminal) new_is) (ap (λ (s : SessionState). s.terminal) left_is);
   }
 
@@ -157,12 +157,14 @@ module _ (disk : Disk) (old : SessionState) (terminal : TerminalState) (alike : 
       let found : first.given.found ≡ second.given.found
       = one_looked disk old.files left.files told (file_of command) first.given.found second.given.found (subst (λ (f : FilesState). Looks (file_of command) old.files first.given.found f) files first.gives.looks) second.gives.looks in
       let shown = shows_alike old.asking old.terminal terminal new.terminal left.terminal alike first.given.asked second.given.asked (displayed old command) first.gives.shows
-      (subst (λ (d : Display). Shows old.asking d terminal (Ok second.given.asked) left.terminal) (same_display old terminal command) second.gives.shows) in
+      (subst (λ (d : Display). Shows old.asking d terminal (Ok second.given.asked) left.terminal) (same_display old terminal err command) second.gives.shows) in
       let given : first.given ≡ second.given = (λ i. record { found = found i; asked = shown.0 i }) in
-      let comes : answer there command second.given ≡ answer old command first.given = same_answer old terminal command second.given ∙ ap (answer old command) (sym given) in (
+      let same_err : err ≡ left.err = sym (ap (λ (s : SessionState). s.err) second.new_is) in
+      let comes : answer there command second.given ≡ answer old command first.given = same_answer old terminal err command second.given ∙ ap (answer old command) (sym given) in (
         first.stepped_is ∙ sym (ap (λ o. o.stepped) comes) ∙ sym second.stepped_is,
         record {
-          rest = second.new_is ∙ (λ i. record old { store = (comes i).store; files = sym files i; terminal = left.terminal; asking = (comes i).asking }) ∙ ap (λ (s : SessionState). record s { terminal = left.terminal }) (sym first.new_is);
+          rest = second.new_is ∙ (λ i. record old { store = (comes i).store; files = sym files i; terminal = left.terminal; err = same_err i; asking = (comes i).asking })
+              ∙ ap (λ (s : SessionState). record s { terminal = left.terminal; err = left.err }) (sym first.new_is);
           terminals = shown.1;
         },
       )
@@ -176,10 +178,10 @@ module _ (disk : Disk) (old : SessionState) (terminal : TerminalState) (alike : 
   steps_alike TooLong first second = (first.0 ∙ sym second.0, kept_alike first.1 second.1)
   steps_alike (Whole line) first second = heard_alike (heard old.asking.escape line) first second
 
-pub heeds_alike : (disk : Disk) (old : SessionState) (terminal : TerminalState) → AreTerminalsAlike old.terminal terminal → IsTold disk old.files.view → (did other : Response) (new left : SessionState) → new.files ≡ left.files → (line : Line)
-    → Handles old line did new → Handles (record old { terminal = terminal }) line other left → (did ≡ other) × AreAlike new left
-heeds_alike disk old terminal alike told did other new left files line first second =
-    let same = steps_alike disk old terminal alike told first.stepped second.stepped new left files line first.steps second.steps in
+pub heeds_alike : (disk : Disk) (old : SessionState) (terminal : TerminalState) (err : LinkState) → AreTerminalsAlike old.terminal terminal → IsTold disk old.files.view → (did other : Response) (new left : SessionState) → new.files ≡ left.files → (line : Line)
+    → Handles old line did new → Handles (record old { terminal = terminal; err = err }) line other left → (did ≡ other) × AreAlike new left
+heeds_alike disk old terminal err alike told did other new left files line first second =
+    let same = steps_alike disk old terminal err alike told first.stepped second.stepped new left files line first.steps second.steps in
     (first.did_is ∙ ap (sent_in old.asking.escape) same.0 ∙ sym second.did_is, same.1)
 
 -- ---- courses
@@ -194,7 +196,7 @@ courses_alike disk start other (one ∷ a) (two ∷ b) alike told first second l
     let rest : lines_of a ≡ lines_of b = cc in
     let left : one.new.files ≡ two.new.files = cc in
     let later_files : files_left a ≡ files_left b = cc in
-    let here = heeds_alike disk start other.terminal alike.terminals told one.did two.did one.new two.new left two.line (subst (λ (l : Line). Handles start l one.did one.new) line first.0)
+    let here = heeds_alike disk start other.terminal other.err alike.terminals told one.did two.did one.new two.new left two.line (subst (λ (l : Line). Handles start l one.did one.new) line first.0)
     (subst (λ (s : SessionState). Handles s two.line two.did two.new) alike.rest second.0) in
     (here.0, here.1, courses_alike disk one.new two.new a b here.1 (heeds_told disk start told one.did one.new one.line first.0) first.2 second.2 rest later_files)
 

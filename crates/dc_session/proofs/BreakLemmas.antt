@@ -23,6 +23,7 @@ heard_breaks Nothing old new did steps = steps.1
 heard_breaks (Known command) old new did done = inr record {
   part = inr record { given = done.given; gives = done.gives; others = others_stay command old new did done };
   at = ap (λ (s : SessionState). s.at) done.new_is;
+  err = ap (λ (s : SessionState). s.err) done.new_is;
   owner = ap (λ (s : SessionState). s.owner) done.new_is;
   policy = ap (λ (s : SessionState). s.policy) done.new_is;
 }

@@ -88,6 +88,7 @@ asking_does command given old new files terminal outcome names (Err memory) give
         gives = subst (λ (f : FilesState). Gives command old given f new.terminal) kept (subst (λ (t : TerminalState). Gives command old given files t) left gives);
         others = subst (λ (ns : List (List ℕ)). AreSameButAll ns old.store.layers new.store.layers) same comes.0;
       };
+      err = ap (λ (s : SessionState). s.err) comes.1;
       at = ap (λ (s : SessionState). s.at) comes.1;
       owner = ap (λ (s : SessionState). s.owner) comes.1;
       policy = ap (λ (s : SessionState). s.policy) comes.1;

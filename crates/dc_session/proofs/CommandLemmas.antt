@@ -326,4 +326,4 @@ module _ (old : SessionState) (and_then : List ℕ) where
 -- memory ran out where the file was looked for
 pub none_loads : (old : SessionState) (files : FilesState) (path : List ℕ) (owner : Option (List ℕ)) (error : OutOfMemory) → FindsNoMemory path old.files files
     → Does (command.LoadTemplateFile path owner) old (record old { files = files }) (Err error)
-none_loads old files path owner error none = inr record { part = inl record { store = refl; gives = inl (none, refl) }; at = refl; owner = refl; policy = refl }
+none_loads old files path owner error none = inr record { part = inl record { store = refl; gives = inl (none, refl) }; err = refl; at = refl; owner = refl; policy = refl }

@@ -129,6 +129,7 @@ answer_meek state (LoadTemplateFile path owner) given = loading_meek state (unwr
 pub record IsMeekAt (old new : SessionState) (r : Reply) : Type 0 where
   pub store : (r.code ≡ 0 → ⊥) → new.store ≡ old.store
   pub asking : (r.code ≡ 0 → ⊥) → (r.code ≡ 30 → ⊥) → new.asking ≡ old.asking
+  pub err : new.err ≡ old.err
   pub at : new.at ≡ old.at
   pub owner : new.owner ≡ old.owner
   pub policy : new.policy ≡ old.policy
@@ -137,6 +138,7 @@ kept_meek : (old new : SessionState) (r : Reply) → new ≡ old → IsMeekAt ol
 kept_meek old new r same = record {
   store = λ _. ap (λ (s : SessionState). s.store) same;
   asking = λ _ _. ap (λ (s : SessionState). s.asking) same;
+  err = ap (λ (s : SessionState). s.err) same;
   at = ap (λ (s : SessionState). s.at) same;
   owner = ap (λ (s : SessionState). s.owner) same;
   policy = ap (λ (s : SessionState). s.policy) same;
@@ -157,6 +159,7 @@ module _ (old new : SessionState) (r : Reply) where
       | inr (r2, is, inl zero) ↦ absurd (other (ap (λ (x : Reply). x.code) (one_reply r2 (done.stepped_is ∙ is)) ∙ zero))
       | inr (r2, is, inr thirty) ↦ absurd (skipped (ap (λ (x : Reply). x.code) (one_reply r2 (done.stepped_is ∙ is)) ∙ thirty))
     ];
+    err = ap (λ (s : SessionState). s.err) done.new_is;
     at = ap (λ (s : SessionState). s.at) done.new_is;
     owner = ap (λ (s : SessionState). s.owner) done.new_is;
     policy = ap (λ (s : SessionState). s.policy) done.new_is;

@@ -46,6 +46,7 @@ taken_loads path what old new files (Err error) finds takes =
         others = takes.0;
       };
       at = ap (λ (s : SessionState). s.at) takes.1;
+      err = ap (λ (s : SessionState). s.err) takes.1;
       owner = ap (λ (s : SessionState). s.owner) takes.1;
       policy = ap (λ (s : SessionState). s.policy) takes.1;
     })

@@ -43,7 +43,7 @@ through_alike disk start other (transition ∷ a) [] later rest alike told first
 through_alike disk start other (one ∷ a) (two ∷ b) later rest alike told first second lines one_through two_through files =
     let line : one.line ≡ two.line = cc in
     let more : lines_of a ++ later ≡ lines_of b ++ rest = cc in
-    let here = heeds_alike disk start other.terminal alike.terminals told one.did two.did one.new two.new files.0 two.line (subst (λ (l : Line). Handles start l one.did one.new) line first.0)
+    let here = heeds_alike disk start other.terminal other.err alike.terminals told one.did two.did one.new two.new files.0 two.line (subst (λ (l : Line). Handles start l one.did one.new) line first.0)
     (subst (λ (s : SessionState). Handles s two.line two.did two.new) alike.rest second.0) in (
       here.0,
       here.1,
@@ -86,7 +86,7 @@ front_taken : (front : List ℕ) (left : Option (List ℕ)) (input : List ℕ) �
 front_taken front None input took = absurd (cc)
 front_taken front (Some back) input took = (back, cc)
 
-module _ (input : List ℕ) (talk new_talk : Option (List Piece)) (left : Option (List ℕ)) (start new : SessionState) (code : ℕ) (run : IsLinkRun Handles Aborts talk new_talk (Some input) left start Done new code) where
+module _ (input : List ℕ) (talk new_talk : Option (List Piece)) (left : Option (List ℕ)) (start new : SessionState) (before code : ℕ) (run : IsLinkRun Handles Aborts talk new_talk (Some input) left start Done new before code) where
   -- its lines are the first ones of all, and it was through with them
   abbrev IsThrough : Type 0
   IsThrough = (rest : List Line) × (lines_of run.transitions ++ rest ≡ all_lines input) × AreThrough run.transitions rest
@@ -104,18 +104,18 @@ module _ (input : List ℕ) (talk new_talk : Option (List Piece)) (left : Option
     | inr read ↦ ([], append-nil (lines_of run.transitions) ∙ read.0 ∙ ap all_lines read.1.whole, inr refl)
   ]
 
-pub runs_alike : (disk : Disk) (calls : List FilesCall) (start other new last : SessionState) (input : List ℕ) (talk new_talk told new_told : Option (List Piece)) (left rest : Option (List ℕ)) (code number : ℕ)
+pub runs_alike : (disk : Disk) (calls : List FilesCall) (start other new last : SessionState) (input : List ℕ) (talk new_talk told new_told : Option (List Piece)) (left rest : Option (List ℕ)) (before code number : ℕ)
     → start.files.view ≡ record { disk = Some disk; calls = Some calls } → AreAlike start other
-    → (one : IsLinkRun Handles Aborts talk new_talk (Some input) left start Done new code) → (two : IsLinkRun Handles Aborts told new_told (Some input) rest other Done last number)
+    → (one : IsLinkRun Handles Aborts talk new_talk (Some input) left start Done new before code) → (two : IsLinkRun Handles Aborts told new_told (Some input) rest other Done last before number)
     → AreFilesAlike one.transitions two.transitions → EndAlike one.pieces two.pieces code number new last
-runs_alike disk calls start other new last input talk new_talk told new_told left rest code number files_told alike one two files =
-    let first = is_through input talk new_talk left start new code one in
-    let second = is_through input told new_told rest other last number two in
+runs_alike disk calls start other new last input talk new_talk told new_told left rest before code number files_told alike one two files =
+    let first = is_through input talk new_talk left start new before code one in
+    let second = is_through input told new_told rest other last before number two in
     let transitions = through_alike disk start other one.transitions two.transitions first.0 second.0 alike (calls, files_told) one.course two.course (first.1 ∙ sym second.1) first.2 second.2 files in
     let one_said = one.answered.are_said in
     let two_said = two.answered.are_said in
     record {
       replies = one_said.pieces_are ∙ same_replies one.transitions two.transitions transitions ∙ sym two_said.pieces_are;
-      code_is = one_said.code_is ∙ same_code 0 0 one.transitions two.transitions refl transitions ∙ sym two_said.code_is;
+      code_is = one_said.code_is ∙ same_code before before one.transitions two.transitions refl transitions ∙ sym two_said.code_is;
       states = subst (λ (s : SessionState). AreAlike new s) (sym two_said.state_is) (subst (λ (s : SessionState). AreAlike s (state_after other two.transitions)) (sym one_said.state_is) (left_alike start other one.transitions two.transitions alike transitions));
     }

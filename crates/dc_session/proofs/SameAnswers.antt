@@ -24,14 +24,14 @@ use Rattle.dc_session.specs.Answers.{CommandInputs, CommandOutcome, answer, repl
 use Rattle.dc_session.specs.Asking.{description, is_to_be_shown, shown_by, prepared_if, choices_for, to_show, first_fixed, values_given, first_busy}
 use Rattle.dc_session.specs.Displays.{displayed}
 use Rattle.dc_session.specs.Refusals.{cant_change, is_busy, bad_flag_value, no_progress_bar}
-use Rattle.dc_session.specs.SessionState.{TerminalState, SessionState}
+use Rattle.dc_session.specs.SessionState.{LinkState, TerminalState, SessionState}
 use Rattle.dc_session.specs.declared.asking.Bar.{Bar}
 use Rattle.dc_session.specs.declared.template_files.Found.{Found}
 use Rattle.dc_session.specs.declared.template_files.Found.TheVariants.{Unreadable, Missing, Faulty, Templates}
 
-module _ (state : SessionState) (terminal : TerminalState) where
+module _ (state : SessionState) (terminal : TerminalState) (err : LinkState) where
   abbrev moved : SessionState
-  moved = record state { terminal = terminal }
+  moved = record state { terminal = terminal; err = err }
 
   -- ---- calls
 

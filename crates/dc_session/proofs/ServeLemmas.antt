@@ -12,8 +12,7 @@ use Rattle.dc_proto.specs.declared.priority.Priority.{Priority}
 use Rattle.dc_proto.specs.declared.priority.Priority.TheVariants.{High}
 use Rattle.dc_question.specs.Questions.{QuestionContext, value}
 use Rattle.dc_question.specs.declared.errors.QuestionError.{QuestionError}
-use Rattle.dc_serve.specs.Ends.{LinkCounts}
-use Rattle.dc_serve.specs.LinkRun.{IsLinkRun}
+use Rattle.dc_serve.specs.LinkRun.{IsLinkRun, ServesLink}
 use Rattle.dc_serve.specs.declared.outcome.LinkEnd.{LinkEnd}
 use Rattle.dc_serve.specs.declared.outcome.LinkEnd.TheVariants as link
 use Rattle.dc_serve.proofs.Progress.{run_unstarted}
@@ -23,52 +22,55 @@ use Rattle.dc_session.specs.Asking.{nothing_asked, threshold_by, frontend_by, po
 use Rattle.dc_session.specs.declared.asking.Asking.{Asking}
 use Rattle.dc_session.specs.declared.policy.AskPolicy.{AskPolicy}
 use Rattle.dc_session.specs.Machine.{Handles, Aborts}
-use Rattle.dc_session.specs.Serving.{IsServed, Finishes}
-use Rattle.dc_session.specs.SessionState.{FilesState, LinkState, nothing_typed, SessionState}
+use Rattle.dc_session.specs.Serving.{IsServed, Finishes, Resources, resources_of, resources_in, session_over}
+use Rattle.dc_session.specs.SessionState.{FilesState, LinkState, TerminalState, terminal_at, SessionState}
 use Rattle.dc_session.specs.declared.stepped.StepError.{StepError}
 
--- a session that was served from the state that it began in, and finished
-pub served_from : (start begun state : SessionState) (layers : List LayerState) (files : FilesState) (terminal old new : LinkState) (served ended : LinkEnd StepError) (code last : ℕ)
-    → IsLinkRun Handles Aborts old.talk new.talk old.input new.input start served state code → last ≡ code → start ≡ begun → files ≡ state.files → terminal ≡ state.terminal.link → Finishes served state layers ended
-    → LinkCounts served old.counts new.counts → new.program ≡ old.program → IsServed begun layers files terminal old new ended last
-served_from start begun state layers files terminal old new served ended code last ran last_is same told shown finishes counts program = record {
+-- a session that was served over a link, and then finished
+pub served_from : (start state kept : SessionState) (old new : LinkState) (served ended : LinkEnd StepError) (before code last : ℕ)
+    → ServesLink Handles Aborts old new start served state before code → last ≡ code → kept ≡ record state { store = kept.store } → Finishes served state kept.store.layers ended
+    → IsServed start (resources_in kept) old new ended before last
+served_from start state kept old new served ended before code last serves last_is rest finishes = record {
   state = state;
   served = served;
-  ran = subst (λ (s : SessionState). IsLinkRun Handles Aborts old.talk new.talk old.input new.input s served state last) same (subst (λ (n : ℕ). IsLinkRun Handles Aborts old.talk new.talk old.input new.input start served state n) (sym last_is) ran);
-  files_are = told;
-  terminal_is = shown;
+  ran = subst (λ (n : ℕ). IsLinkRun Handles Aborts old.talk new.talk old.input new.input start served state before n) (sym last_is) serves.run;
+  files_are = ap (λ (s : SessionState). s.files) rest;
+  terminal_is = ap (λ (s : SessionState). s.terminal) rest;
+  err_is = ap (λ (s : SessionState). s.err) rest;
   finishes = finishes;
-  counts = counts;
-  program = program;
+  counts = serves.counts;
+  program = serves.program;
 }
 
 -- the same, of what it began as and left
-pub served_as : (start begun : SessionState) (left layers : List LayerState) (kept files : FilesState) (stays terminal old new : LinkState) (ended : LinkEnd StepError) (code : ℕ) → IsServed start left kept stays old new ended code
-    → start ≡ begun → layers ≡ left → files ≡ kept → terminal ≡ stays → IsServed begun layers files terminal old new ended code
-served_as start begun left layers kept files stays terminal old new ended code served same are told shown =
-    subst (λ (s : SessionState). IsServed s layers files terminal old new ended code) same
-    (subst (λ (ls : List LayerState). IsServed start ls files terminal old new ended code) (sym are)
-    (subst (λ (f : FilesState). IsServed start left f terminal old new ended code) (sym told) (subst (λ (t : LinkState). IsServed start left kept t old new ended code) (sym shown) served)))
+pub served_as : (start begun : SessionState) (layers others : List LayerState) (files kept : FilesState) (link stays : LinkState) (ahead unused : TypeAhead) (err told old new : LinkState) (ended : LinkEnd StepError) (before code : ℕ)
+    → IsServed start (resources_of layers files (terminal_at link ahead) err) old new ended before code
+    → start ≡ begun → others ≡ layers → kept ≡ files → stays ≡ link → unused ≡ ahead → told ≡ err → IsServed begun (resources_of others kept (terminal_at stays unused) told) old new ended before code
+served_as start begun layers others files kept link stays ahead unused err told old new ended before code served same are looked shown typed said =
+    subst (λ (s : SessionState). IsServed s (resources_of others kept (terminal_at stays unused) told) old new ended before code) same
+    (subst (λ (left : Resources). IsServed start left old new ended before code)
+    (λ i. resources_of (sym are i) (sym looked i) (terminal_at (sym shown i) (sym typed i)) (sym said i)) served)
 
 -- the state that a session begins in, of equal parts
-pub begun_as : (layers others : List LayerState) (told : List ℕ) (files : FilesState) (link : LinkState) (ahead : TypeAhead) (at other : QuestionContext) (owner name : List ℕ) (policy : AskPolicy) (frontend : Option Frontend) (threshold : Option Priority)
+pub begun_as : (layers others : List LayerState) (told : List ℕ) (files : FilesState) (terminal : TerminalState) (err : LinkState) (at other : QuestionContext) (owner name : List ℕ) (policy : AskPolicy) (frontend : Option Frontend) (threshold : Option Priority)
     (nonint : Bool) (asking : Asking)
-    → ahead ≡ nothing_typed → layers ≡ others → told ≡ [] → at ≡ other → owner ≡ name → policy ≡ policy_by frontend threshold nonint layers at → asking ≡ nothing_asked
-    → ◌≡◌ {A = SessionState} (record { store = stored layers told; files = files; terminal = record { link = link; ahead = ahead }; at = at; owner = owner; policy = policy; asking = asking })
-    (record { store = stored others []; files = files; terminal = record { link = link; ahead = nothing_typed }; at = other; owner = name; policy = policy_by frontend threshold nonint others other; asking = nothing_asked })
-begun_as layers others told files link ahead at other owner name policy frontend threshold nonint asking none_typed same_layers none same_at same_owner same_manner nothing =
+    → layers ≡ others → told ≡ [] → at ≡ other → owner ≡ name → policy ≡ policy_by frontend threshold nonint layers at → asking ≡ nothing_asked
+    → ◌≡◌ {A = SessionState} (record { store = stored layers told; files = files; terminal = terminal; err = err; at = at; owner = owner; policy = policy; asking = asking })
+    (session_over (resources_of others files terminal err) other name frontend threshold nonint)
+begun_as layers others told files terminal err at other owner name policy frontend threshold nonint asking same_layers none same_at same_owner same_manner nothing =
     let asks : policy ≡ policy_by frontend threshold nonint others other = same_manner ∙ (λ i. policy_by frontend threshold nonint (same_layers i) (same_at i)) in
-    λ i. record { store = stored (same_layers i) (none i); files = files; terminal = record { link = link; ahead = none_typed i }; at = same_at i; owner = same_owner i; policy = asks i; asking = nothing i }
+    λ i. record { store = stored (same_layers i) (none i); files = files; terminal = terminal; err = err; at = same_at i; owner = same_owner i; policy = asks i; asking = nothing i }
 
 -- one that wasn't begun, for want of memory
-pub unserved : (start : SessionState) (layers : List LayerState) (files : FilesState) (terminal old : LinkState) → layers ≡ start.store.layers → files ≡ start.files → terminal ≡ start.terminal.link
-    → IsServed start layers files terminal old old link.OutOfMemory 0
-unserved start layers files terminal old are told shown = record {
+pub unserved : (start : SessionState) (left : Resources) (old : LinkState) (before : ℕ) → left.layers ≡ start.store.layers → left.files ≡ start.files → left.terminal ≡ start.terminal → left.err ≡ start.err
+    → IsServed start left old old link.OutOfMemory before before
+unserved start left old before are looked shown said = record {
   state = start;
   served = link.OutOfMemory;
-  ran = run_unstarted Handles Aborts old.talk old.input start;
-  files_are = told;
+  ran = run_unstarted Handles Aborts old.talk old.input start before;
+  files_are = looked;
   terminal_is = shown;
+  err_is = said;
   finishes = (are, refl);
   counts = inr refl;
   program = refl;

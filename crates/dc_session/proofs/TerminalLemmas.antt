@@ -55,6 +55,7 @@ module _ (command : Command) (old : SessionState) (none : file_of command ≡ No
       gives = inr (subst (λ (d : Display). Shows old.asking d old.terminal (Err link.OutOfMemory) new.terminal) (sym is) shown.shows, ap (λ (s : SessionState). s.files) shown.kept);
     };
     at = ap (λ (s : SessionState). s.at) shown.kept;
+    err = ap (λ (s : SessionState). s.err) shown.kept;
     owner = ap (λ (s : SessionState). s.owner) shown.kept;
     policy = ap (λ (s : SessionState). s.policy) shown.kept;
   }

@@ -1,4 +1,4 @@
--- Sessions that differ in their terminals alone, and there only in how the bytes came.
+-- Sessions that differ in their terminals alone, and there only in how the bytes came, and in what stands on standard error.
 use Rattle.std.specs.Prelude.{◌≡◌, ⊤, ℕ, List, [], ◌∷◌, Some}
 use Rattle.dc_outside.specs.Talk.{sent}
 use Rattle.dc_outside.specs.declared.link.Piece.{Piece}
@@ -23,9 +23,9 @@ pub record AreTerminalsAlike (one other : TerminalState) : Type 0 where
   pub said : sent first.talk ≡ sent second.talk
   pub same : typed first ≡ typed second
 
--- the sessions are the same but for their terminals, which are alike
+-- the sessions are the same but for their terminals, which are alike, and for standard error, on which no command tells anything
 pub record AreAlike (one other : SessionState) : Type 0 where
-  pub rest : other ≡ record one { terminal = other.terminal }
+  pub rest : other ≡ record one { terminal = other.terminal; err = other.err }
   pub terminals : AreTerminalsAlike one.terminal other.terminal
 
 -- turn by turn the same is replied, and what is left is alike

@@ -68,6 +68,7 @@ pub record LeavesInPart (command : Command) (old new : SessionState) : Type 0 wh
 -- Memory ran out at a command. What was asked for may have changed.
 pub record IsDoneInPart (command : Command) (old new : SessionState) : Type 0 where
   pub part : GivesInPart command old new ⊎ LeavesInPart command old new
+  pub err : new.err ≡ old.err
   pub at : new.at ≡ old.at
   pub owner : new.owner ≡ old.owner
   pub policy : new.policy ≡ old.policy

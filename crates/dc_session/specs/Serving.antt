@@ -1,16 +1,59 @@
 -- The session behind a link, over the layers of a store.
-use Rattle.std.specs.Prelude.{◌≡◌, ◌⊎◌, ℕ, List}
+use Rattle.std.specs.Prelude.{◌≡◌, ◌⊎◌, ℕ, Bool, List, [], Option}
+use Rattle.dc_conf.specs.declared.plans.Plan.{Plan}
+use Rattle.dc_frontend.specs.declared.frontend.Frontend.{Frontend}
 use Rattle.dc_layer.specs.State.{LayerState}
+use Rattle.dc_proto.specs.declared.priority.Priority.{Priority}
+use Rattle.dc_question.specs.Questions.{QuestionContext}
 use Rattle.dc_serve.specs.Ends.{LinkCounts}
 use Rattle.dc_serve.specs.LinkRun.{IsLinkRun}
 use Rattle.dc_serve.specs.declared.outcome.LinkEnd.{LinkEnd}
 use Rattle.dc_serve.specs.declared.outcome.LinkEnd.TheVariants as link
+use Rattle.dc_store.specs.Plans.{stored}
 use Rattle.dc_store.specs.StoreLaws.{AreSameButAll}
-use Rattle.dc_session.specs.Asking.{finished}
+use Rattle.dc_session.specs.Asking.{finished, nothing_asked, policy_by}
 use Rattle.dc_session.specs.Machine.{Handles, Aborts}
-use Rattle.dc_session.specs.SessionState.{FilesState, LinkState, SessionState}
+use Rattle.dc_session.specs.SessionState.{FilesState, LinkState, TerminalState, SessionState}
+use Rattle.dc_session.specs.declared.serving.SessionSetup.{SessionSetup}
 use Rattle.dc_session.specs.declared.stepped.StepError.{StepError}
 use Rattle.dc_session.specs.declared.stepped.StepError.TheVariants as step
+
+-- ---- what a session is begun over
+
+-- what a session works on, and hands back: the layers, the files, the terminal with what was typed on it and isn't used yet, and standard error
+pub record Resources : Type 0 where
+  pub layers : List LayerState
+  pub files : FilesState
+  pub terminal : TerminalState
+  pub err : LinkState
+
+abbrev pub resources_of : List LayerState → FilesState → TerminalState → LinkState → Resources
+resources_of layers files terminal err = record { layers = layers; files = files; terminal = terminal; err = err }
+
+-- A session over these, for an owner, by the plans of questions and of templates and for the user's language, that asks by the frontend, from the least
+-- priority on, that were chosen: nothing is asked for yet.
+abbrev pub session_over : Resources → QuestionContext → List ℕ → Option Frontend → Option Priority → Bool → SessionState
+session_over resources at owner frontend threshold nonint_seen = record {
+  store = stored resources.layers [];
+  files = resources.files;
+  terminal = resources.terminal;
+  err = resources.err;
+  at = at;
+  owner = owner;
+  policy = policy_by frontend threshold nonint_seen resources.layers at;
+  asking = nothing_asked;
+}
+
+-- a session that is set up so
+abbrev pub session_by : SessionSetup → Plan → Plan → Resources → SessionState
+session_by setup config templates resources =
+    session_over resources (record { config = config; templates = templates; lang = setup.lang.now }) setup.owner.now setup.frontend setup.threshold setup.nonint_seen
+
+-- what is left of a session
+abbrev pub resources_in : SessionState → Resources
+resources_in state = resources_of state.store.layers state.files state.terminal state.err
+
+-- ---- how it ends
 
 -- the session was finished, or memory ran out at that, and at most the items of the questions that were asked changed
 abbrev pub IsFinished : SessionState → LinkEnd StepError → List LayerState → LinkEnd StepError → Type 0
@@ -30,13 +73,14 @@ Finishes link.TooLong state layers ended = IsFinished state link.TooLong layers 
 Finishes link.OutOfMemory state layers ended = (layers ≡ state.store.layers) × (ended ≡ link.OutOfMemory)
 Finishes (link.Broken error) state layers ended = (layers ≡ state.store.layers) × (ended ≡ end_broken error)
 
--- a session that began so was served, and finished, and left these layers, files and terminal
-pub record IsServed (start : SessionState) (layers : List LayerState) (files : FilesState) (terminal : LinkState) (old new : LinkState) (ended : LinkEnd StepError) (code : ℕ) : Type 0 where
+-- a session that began so was served, over a link and from the last code on, and finished, and left these
+pub record IsServed (start : SessionState) (left : Resources) (old new : LinkState) (ended : LinkEnd StepError) (before code : ℕ) : Type 0 where
   pub state : SessionState
   pub served : LinkEnd StepError
-  pub ran : IsLinkRun Handles Aborts old.talk new.talk old.input new.input start served state code
-  pub files_are : files ≡ state.files
-  pub terminal_is : terminal ≡ state.terminal.link
-  pub finishes : Finishes served state layers ended
+  pub ran : IsLinkRun Handles Aborts old.talk new.talk old.input new.input start served state before code
+  pub files_are : left.files ≡ state.files
+  pub terminal_is : left.terminal ≡ state.terminal
+  pub err_is : left.err ≡ state.err
+  pub finishes : Finishes served state left.layers ended
   pub counts : LinkCounts served old.counts new.counts
   pub program : new.program ≡ old.program

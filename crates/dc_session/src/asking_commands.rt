@@ -26,7 +26,7 @@ use dc_template::Kind;
 use dc_text::{FieldKey, FlagName, List, Mem, Name, OutOfMemory, Text};
 use std::alloc::Global;
 
-impl<'s, 'f, 't, F: Files, T: Link> Session<'s, 'f, 't, F, T> {
+impl<'s, 'f, 't, 'h, 'e, F: Files, T: Link, E: Link> Session<'s, 'f, 't, 'h, 'e, F, T, E> {
     pub(crate) fn version(&self, version: &Option<Text>) -> Mem<Stepped>
         ensures { Does (command.Version version.now) (⟦<Self as LineMachine>⟧.state self.now) (⟦<Self as LineMachine>⟧.state self.now) result }
     {

@@ -10,7 +10,7 @@ use dc_question::QuestionError;
 use dc_serve::LineMachine;
 use dc_text::{Mem, Name, OutOfMemory};
 
-impl<'s, 'f, 't, F: Files, T: Link> Session<'s, 'f, 't, F, T> {
+impl<'s, 'f, 't, 'h, 'e, F: Files, T: Link, E: Link> Session<'s, 'f, 't, 'h, 'e, F, T, E> {
     #[tactic(auto, using(dc_store::proofs::RowLemmas::same_all_refl))]
     /// Sets the flag `seen` on each question that was asked, in the order of first asking, where it is still there and the store takes
     /// the write (debconf-devel(7), FGET). Where memory runs out, some of them may have it.

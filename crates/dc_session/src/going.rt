@@ -25,7 +25,7 @@ use dc_template::Kind;
 use dc_text::{List, Mem, Name, Text};
 use std::alloc::Global;
 
-impl<'s, 'f, 't, F: Files, T: Link> Session<'s, 'f, 't, F, T> {
+impl<'s, 'f, 't, 'h, 'e, F: Files, T: Link, E: Link> Session<'s, 'f, 't, 'h, 'e, F, T, E> {
     // Holds a dialogue over the prepared questions, unless the value of one can't be changed, and takes its answers.
     pub(crate) fn ask_prepared(&mut self) -> Result<Stepped, StepError>
         requires asks { (⟦<Self as LineMachine>⟧.state self.old).policy.frontend ≡ OfTeletype }

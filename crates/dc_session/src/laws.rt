@@ -37,7 +37,7 @@ ghost use Rattle.dc_session.specs.declared.stepped.Stepped.TheVariants.{Replied}
 /// code 1 or 30 leaves the store too.
 pub fn refused_commands_change_nothing()
     ensures store { (old new : SessionState) (line : Line) (reply : Reply) → Steps old line (Replied reply) new → reply.code ≢ 0
-        → (new.store ≡ old.store) × (new.at ≡ old.at) × (new.owner ≡ old.owner) × (new.policy ≡ old.policy) }
+        → (new.store ≡ old.store) × (new.err ≡ old.err) × (new.at ≡ old.at) × (new.owner ≡ old.owner) × (new.policy ≡ old.policy) }
     ensures asking { (old new : SessionState) (line : Line) (reply : Reply) → Steps old line (Replied reply) new → reply.code ≢ 0 → reply.code ≢ 30
         → new.asking ≡ old.asking }
 {}
@@ -68,14 +68,14 @@ pub fn lines_files_and_answers_determine_the_course()
 {}
 
 /// Two runs over links of which the same bytes are to come, that both come to the end, say the same and leave what is alike, however the
-/// links cut their bytes and the terminals what is typed, from sessions that are alike, where the files are the same turn by turn. So the
+/// links cut their bytes and the terminals what is typed, from sessions that are alike and the same last code, where the files are the same turn by turn. So the
 /// bytes of the link, the files and what is typed determine the replies and the store.
 pub fn bytes_files_and_answers_determine_the_run()
     ensures { (start other new last : SessionState) (disk : Disk) (calls : List FilesCall) (input : List ℕ)
-        (talk new_talk told new_told : Option (List Piece)) (left rest : Option (List ℕ)) (code number : ℕ)
+        (talk new_talk told new_told : Option (List Piece)) (left rest : Option (List ℕ)) (before code number : ℕ)
         → start.files.view ≡ record { disk = Some disk; calls = Some calls } → AreAlike start other
-        → (one : IsLinkRun Handles Aborts talk new_talk (Some input) left start Done new code) →
-        (two : IsLinkRun Handles Aborts told new_told (Some input) rest other Done last number)
+        → (one : IsLinkRun Handles Aborts talk new_talk (Some input) left start Done new before code) →
+        (two : IsLinkRun Handles Aborts told new_told (Some input) rest other Done last before number)
         → AreFilesAlike one.transitions two.transitions → EndAlike one.pieces two.pieces code number new last }
 {}
 

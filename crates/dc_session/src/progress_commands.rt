@@ -22,7 +22,7 @@ use std::alloc::Global;
 
 const NO_BAR: &[u8] = b"no progress bar";
 
-impl<'s, 'f, 't, F: Files, T: Link> Session<'s, 'f, 't, F, T> {
+impl<'s, 'f, 't, 'h, 'e, F: Files, T: Link, E: Link> Session<'s, 'f, 't, 'h, 'e, F, T, E> {
     pub(crate) fn progress_start(
         &mut self,
         min: u32,

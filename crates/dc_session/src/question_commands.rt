@@ -20,7 +20,7 @@ use dc_outside::{Files, Link};
 use dc_serve::LineMachine;
 use dc_text::{FieldKey, FlagName, List, Mem, Name, NameRefused, OutOfMemory, Text, VarKey};
 
-impl<'s, 'f, 't, F: Files, T: Link> Session<'s, 'f, 't, F, T> {
+impl<'s, 'f, 't, 'h, 'e, F: Files, T: Link, E: Link> Session<'s, 'f, 't, 'h, 'e, F, T, E> {
     pub(crate) fn get(&self, word: &Text) -> Mem<Stepped>
         ensures { Does (command.Get word.now) (⟦<Self as LineMachine>⟧.state self.now) (⟦<Self as LineMachine>⟧.state self.now) result }
     {

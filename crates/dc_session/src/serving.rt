@@ -1,15 +1,15 @@
 // A session over layers, behind a link.
-ghost use Rattle.std.specs.Prelude.{◌≡◌, ℕ, List, [], None, Result, IfOk, length, map as each, true, unwrap_or, option_and_then};
+ghost use Rattle.std.specs.Prelude.{◌≡◌, ℕ, List, None, Result, IfOk, length, map as each, true, unwrap_or, option_and_then};
 ghost use Rattle.std.specs.Result.{result_ok};
 ghost use Rattle.dc_conf.specs.Plans.{IsOver, are_disjoint};
-ghost use Rattle.dc_store.specs.Plans.{stored};
-ghost use Rattle.dc_question.specs.Questions.{IsSetOver, Answers};
+ghost use Rattle.dc_question.specs.Asked.{HasPlans, asked, seen};
+ghost use Rattle.dc_question.specs.Questions.{Answers};
 ghost use Rattle.dc_question.specs.declared.errors.QuestionError.{QuestionError as QuestionErrorOf};
-ghost use Rattle.dc_session.specs.Asking.{nothing_asked, threshold_by, frontend_by, policy_by};
-ghost use Rattle.dc_session.specs.SessionState.{nothing_typed, session_of, borrows_of};
+ghost use Rattle.dc_session.specs.Asking.{threshold_by, frontend_by, policy_by};
+ghost use Rattle.dc_session.specs.SessionState.{terminal_at, session_at_desk, session_of, borrows_of};
 ghost use Rattle.dc_frontend.specs.Frontends.{frontend_of};
 ghost use Rattle.dc_frontend.specs.declared.frontend.Frontend.TheVariants.{Teletype as OfTeletype};
-ghost use Rattle.dc_session.specs.Serving.{IsServed, Finishes};
+ghost use Rattle.dc_session.specs.Serving.{IsServed, Finishes, resources_of, resources_in, session_by};
 ghost use Rattle.dc_proto.specs.Priorities.{priority_of};
 ghost use Rattle.dc_proto.specs.declared.priority.Priority.TheVariants.{High};
 
@@ -46,96 +46,86 @@ pub struct SessionSetup<'s> {
 }
 
 /// Serves the commands that come on the link over these layers and files, by the plans of questions and of templates, and finishes the
-/// session. A user is asked on the terminal. The layers are given back as it left them, in their order.
-pub fn serve_layers<L: Link, T: Link, F: Files>(
+/// session. A user is asked on the terminal, where what was typed ahead is used first, and what isn't used stays in the teletype. The layers
+/// are given back as it left them, in their order. The code of the last reply so far is handed in and back.
+pub fn serve_layers<L: Link, T: Link, E: Link, F: Files>(
     alloc: Global,
     io: &mut L,
     terminal: &mut T,
+    teletype: &mut Teletype,
+    err: &mut E,
     files: &mut F,
     layers: &mut Vec<Box<dyn Layer>>,
     config: &Plan,
     templates: &Plan,
     setup: &SessionSetup<'_>,
+    last_code: u8,
 ) -> Conversation<StepError>
     requires config { IsOver config.now (length layers.old.items) }
     requires templates { IsOver templates.now (length layers.old.items) }
     requires disjoint { are_disjoint config.now templates.now ≡ true }
     ensures { IsServed
-        (record {
-          store = stored (each state layers.old.items) [];
-          files = F.files files.old;
-          terminal = record { link = T.link terminal.old; ahead = nothing_typed };
-          at = record { config = config.now; templates = templates.now; lang = setup.now.lang.now };
-          owner = setup.now.owner.now;
-          policy = policy_by setup.now.frontend setup.now.threshold setup.now.nonint_seen (each state layers.old.items)
-              (record { config = config.now; templates = templates.now; lang = setup.now.lang.now });
-          asking = nothing_asked;
-        })
-        (each state layers.new.items) (F.files files.new)
-        (T.link terminal.new)
-        (L.link io.old) (L.link io.new) result.end result.last_code }
+        (session_by setup.now config.now templates.now
+        (resources_of (each state layers.old.items) (F.files files.old) (terminal_at (T.link terminal.old) teletype.old.ahead) (E.link err.old)))
+        (resources_of (each state layers.new.items) (F.files files.new) (terminal_at (T.link terminal.new) teletype.new.ahead) (E.link err.new))
+        (L.link io.old) (L.link io.new) result.end last_code result.last_code }
 {
     let mut store = Store::new(alloc, std::mem::replace(layers, Vec::new(alloc)));
     let questions = Questions::new(alloc, &mut store, config, templates, setup.lang);
     let desk = SessionQuestions::new(questions, setup.owner);
     match policy(alloc, &desk.questions, setup) {
         Ok(policy) => {
-            let mut teletype = Teletype::new(alloc);
             let mut asking = Asking::nothing(alloc);
             serve_desk(
                 alloc,
                 io,
                 terminal,
+                teletype,
+                err,
                 files,
                 layers,
                 desk,
                 policy,
-                &mut teletype,
                 &mut asking,
+                last_code,
             )
         }
         Err(_) => {
             *layers = desk.into_layers(alloc);
             Conversation {
                 end: LinkEnd::OutOfMemory,
-                last_code: 0,
+                last_code,
             }
         }
     }
 }
 
-// Serves the link at this desk, by a session that asks questions in this manner, and finishes it. The layers are put where they
-// are to stand.
-fn serve_desk<L: Link, T: Link, F: Files>(
+// Makes a session at this desk, that asks questions in this manner, and serves the link by it. The layers are put where they are to stand.
+fn serve_desk<L: Link, T: Link, E: Link, F: Files>(
     alloc: Global,
     io: &mut L,
     terminal: &mut T,
+    teletype: &mut Teletype,
+    err: &mut E,
     files: &mut F,
     layers: &mut Vec<Box<dyn Layer>>,
     desk: SessionQuestions<'_>,
     policy: AskPolicy,
-    teletype: &mut Teletype,
     asking: &mut Asking,
+    last_code: u8,
 ) -> Conversation<StepError>
     ensures { IsServed
-        (record {
-          store = stored (each state desk.entry.questions.store.now.layers.items) desk.entry.questions.store.now.told;
-          files = F.files files.old;
-          terminal = record { link = T.link terminal.old; ahead = teletype.old.ahead };
-          at = desk.entry.questions.context;
-          owner = desk.entry.owner.now;
-          policy = policy;
-          asking = asking.old;
-        })
-        (each state layers.new.items) (F.files files.new)
-        (T.link terminal.new)
-        (L.link io.old) (L.link io.new) result.end result.last_code }
+        (session_at_desk state desk.entry (F.files files.old) (terminal_at (T.link terminal.old) teletype.old.ahead) (E.link err.old) policy asking.old)
+        (resources_of (each state layers.new.items) (F.files files.new) (terminal_at (T.link terminal.new) teletype.new.ahead) (E.link err.new))
+        (L.link io.old) (L.link io.new) result.end last_code result.last_code }
 {
-    let mut session = Session::new(alloc, desk, files, terminal, teletype, policy, asking);
-    let ended = serve_session(alloc, io, &mut session);
-    let (desk, kept, left) = session.into_parts();
-    let_go(kept);
-    let_go(left);
+    let mut session = Session::new(alloc, desk, files, terminal, teletype, err, policy, asking);
+    let ended = serve_session(alloc, io, &mut session, last_code);
+    let (desk, files_left, terminal_left, teletype_left, err_left) = session.into_parts();
+    let_go(files_left);
+    let_go(terminal_left);
+    let_go(teletype_left);
+    let_go(err_left);
     *layers = desk.into_layers(alloc);
     ended
 }
@@ -145,31 +135,28 @@ fn let_go<X>(x: &mut X)
     ensures { x.new ≡ x.old }
 {}
 
-// Serves the link by this session, and finishes it.
-fn serve_session<'s, 'f, 't, L: Link, F: Files, T: Link>(
+// Serves the link by this session, and finishes it. A machine that stands around the session, and holds it by `&mut`, is served here in its
+// place: `serve_link` takes any machine, and `finish_served` takes the session behind it.
+fn serve_session<'s, 'f, 't, 'h, 'e, L: Link, F: Files, T: Link, E: Link>(
     alloc: Global,
     io: &mut L,
-    session: &mut Session<'s, 'f, 't, F, T>,
+    session: &mut Session<'s, 'f, 't, 'h, 'e, F, T, E>,
+    last_code: u8,
 ) -> Conversation<StepError>
-    ensures served { IsServed
-        (session_of state F.files T.link session.old)
-        (session_of state F.files T.link session.new).store.layers
-        (session_of state F.files T.link session.new).files
-        (session_of state F.files T.link session.new).terminal.link
-        (L.link io.old) (L.link io.new) result.end result.last_code }
-    ensures borrows { session.new.desk.questions.store.ghost_name ≡ session.old.desk.questions.store.ghost_name }
-    ensures files_held { session.new.files.ghost_name ≡ session.old.files.ghost_name }
-    ensures terminal_held { session.new.terminal.ghost_name ≡ session.old.terminal.ghost_name }
+    ensures served { IsServed (session_of state F.files T.link E.link session.old)
+        (resources_in (session_of state F.files T.link E.link session.new))
+        (L.link io.old) (L.link io.new) result.end last_code result.last_code }
+    ensures borrows { borrows_of session.new ≡ borrows_of session.old }
 {
-    let served = serve_link(alloc, io, session);
+    let served = serve_link(alloc, io, session, last_code);
     finish_served(session, served)
 }
 
 // How questions are asked.
 fn policy(alloc: Global, questions: &Questions<'_>, setup: &SessionSetup<'_>) -> Mem<AskPolicy>
-    requires { IsSetOver questions.now.context (length questions.now.store.now.layers.items) }
-    ensures { IfOk result (λ policy. policy ≡ policy_by setup.now.frontend setup.now.threshold setup.now.nonint_seen
-        (each (λ b. state (b.vtable, b.value)) questions.now.store.now.layers.items) questions.now.context) }
+    requires { HasPlans questions.now }
+    ensures { IfOk result (λ policy. policy ≡ seen (asked state questions.now)
+        (policy_by setup.now.frontend setup.now.threshold setup.now.nonint_seen)) }
 {
     let frontend = frontend(alloc, questions, setup.frontend)?;
     let threshold = threshold(alloc, questions, setup.threshold)?;
@@ -182,9 +169,8 @@ fn policy(alloc: Global, questions: &Questions<'_>, setup: &SessionSetup<'_>) ->
 
 // What asks the user: what was chosen, else what the value of `debconf/frontend` names, else the teletype.
 fn frontend(alloc: Global, questions: &Questions<'_>, chosen: Option<Frontend>) -> Mem<Frontend>
-    requires { IsSetOver questions.now.context (length questions.now.store.now.layers.items) }
-    ensures { IfOk result (λ frontend. frontend ≡ frontend_by chosen
-        (each (λ b. state (b.vtable, b.value)) questions.now.store.now.layers.items) questions.now.context) }
+    requires { HasPlans questions.now }
+    ensures { IfOk result (λ frontend. frontend ≡ seen (asked state questions.now) (frontend_by chosen)) }
 {
     match chosen {
         Some(frontend) => Ok(frontend),
@@ -194,9 +180,8 @@ fn frontend(alloc: Global, questions: &Questions<'_>, chosen: Option<Frontend>) 
 
 // What the value of `debconf/frontend` names, else the teletype.
 fn said_frontend(alloc: Global, questions: &Questions<'_>) -> Mem<Frontend>
-    requires { IsSetOver questions.now.context (length questions.now.store.now.layers.items) }
-    ensures { IfOk result (λ frontend. frontend ≡ frontend_by None
-        (each (λ b. state (b.vtable, b.value)) questions.now.store.now.layers.items) questions.now.context) }
+    requires { HasPlans questions.now }
+    ensures { IfOk result (λ frontend. frontend ≡ seen (asked state questions.now) (frontend_by None)) }
 {
     let Ok(name) = Name::read(alloc, b"debconf/frontend") else {
         return Err(OutOfMemory);
@@ -219,9 +204,8 @@ fn frontend_said(said: Result<Text, QuestionError>) -> Mem<Frontend>
 // The least priority of a question that is shown: the one that was chosen, else the one that the value of `debconf/priority` names,
 // else high.
 fn threshold(alloc: Global, questions: &Questions<'_>, chosen: Option<Priority>) -> Mem<Priority>
-    requires { IsSetOver questions.now.context (length questions.now.store.now.layers.items) }
-    ensures { IfOk result (λ threshold. threshold ≡ threshold_by chosen
-        (each (λ b. state (b.vtable, b.value)) questions.now.store.now.layers.items) questions.now.context) }
+    requires { HasPlans questions.now }
+    ensures { IfOk result (λ threshold. threshold ≡ seen (asked state questions.now) (threshold_by chosen)) }
 {
     match chosen {
         Some(priority) => Ok(priority),
@@ -231,9 +215,8 @@ fn threshold(alloc: Global, questions: &Questions<'_>, chosen: Option<Priority>)
 
 // The priority that the value of `debconf/priority` names, else high.
 fn said_threshold(alloc: Global, questions: &Questions<'_>) -> Mem<Priority>
-    requires { IsSetOver questions.now.context (length questions.now.store.now.layers.items) }
-    ensures { IfOk result (λ threshold. threshold ≡ threshold_by None
-        (each (λ b. state (b.vtable, b.value)) questions.now.store.now.layers.items) questions.now.context) }
+    requires { HasPlans questions.now }
+    ensures { IfOk result (λ threshold. threshold ≡ seen (asked state questions.now) (threshold_by None)) }
 {
     let Ok(name) = Name::read(alloc, b"debconf/priority") else {
         return Err(OutOfMemory);
@@ -254,14 +237,14 @@ fn priority_said(said: Result<Text, QuestionError>) -> Mem<Priority>
 }
 
 // Finishes a session whose link was served to this end, unless memory ran out or the terminal failed.
-fn finish_served<'s, 'f, 't, F: Files, T: Link>(
-    session: &mut Session<'s, 'f, 't, F, T>,
+fn finish_served<'s, 'f, 't, 'h, 'e, F: Files, T: Link, E: Link>(
+    session: &mut Session<'s, 'f, 't, 'h, 'e, F, T, E>,
     served: Conversation<StepError>,
 ) -> Conversation<StepError>
-    ensures finishes { Finishes served.end (session_of state F.files T.link session.old)
-        (session_of state F.files T.link session.new).store.layers result.end }
-    ensures files { (session_of state F.files T.link session.new).files ≡ (session_of state F.files T.link session.old).files }
-    ensures terminal { (session_of state F.files T.link session.new).terminal ≡ (session_of state F.files T.link session.old).terminal }
+    ensures finishes { Finishes served.end (session_of state F.files T.link E.link session.old)
+        (session_of state F.files T.link E.link session.new).store.layers result.end }
+    ensures rest { session_of state F.files T.link E.link session.new ≡ record
+        (session_of state F.files T.link E.link session.old) { store = (session_of state F.files T.link E.link session.new).store } }
     ensures code { result.last_code ≡ served.last_code }
     ensures borrows { borrows_of session.new ≡ borrows_of session.old }
 {

@@ -1,8 +1,7 @@
 // A session over questions and files, and what a line does to them.
-ghost use Rattle.std.specs.Prelude.{◌≡◌, IfOk, IfErr, map as each};
+ghost use Rattle.std.specs.Prelude.{◌≡◌, IfOk, IfErr};
 ghost use Rattle.std.specs.Borrow.{GName};
-ghost use Rattle.dc_store.specs.Plans.{stored};
-ghost use Rattle.dc_session.specs.SessionState.{SessionState, session_of, borrows_of};
+ghost use Rattle.dc_session.specs.SessionState.{SessionState, terminal_at, session_at_desk, session_of, borrows_of};
 ghost use Rattle.dc_session.specs.Inside.{DoesHeard};
 ghost use Rattle.dc_session.specs.Machine.{Handles as HandlesLine, Aborts as AbortsAt, Steps, DoesShowing};
 
@@ -20,42 +19,39 @@ use dc_words::Line;
 use std::alloc::Global;
 
 /// A session (debconf-devel(7)): the questions that its commands read and change, the files in which it looks for templates, the terminal
-/// on which it asks, how it asks questions, and what was asked for so far.
+/// on which it asks with what was typed there, standard error, how it asks questions, and what was asked for so far.
 #[derive(Drop)]
-pub struct Session<'s, 'f, 't, F: Files, T: Link> {
+pub struct Session<'s, 'f, 't, 'h, 'e, F: Files, T: Link, E: Link> {
     pub(crate) alloc: Global,
     pub(crate) desk: SessionQuestions<'s>,
     pub(crate) files: &'f mut F,
     pub(crate) terminal: &'t mut T,
-    pub(crate) teletype: &'s mut Teletype,
+    pub(crate) teletype: &'h mut Teletype,
+    pub(crate) err: &'e mut E,
     pub(crate) policy: AskPolicy,
     pub(crate) asking: &'s mut Asking,
 }
 
-impl<'s, 'f, 't, F: Files, T: Link> Session<'s, 'f, 't, F, T> {
-    /// A session at this desk, that looks for templates in these files and asks questions on this terminal, in this manner. What was asked
-    /// for so far is kept where the caller keeps it.
+impl<'s, 'f, 't, 'h, 'e, F: Files, T: Link, E: Link> Session<'s, 'f, 't, 'h, 'e, F, T, E> {
+    /// A session at this desk, that looks for templates in these files and asks questions on this terminal, in this manner. What was typed there
+    /// and isn't used, and what was asked for so far, are kept where the caller keeps them.
     pub fn new(
         alloc: Global,
         desk: SessionQuestions<'s>,
         files: &'f mut F,
         terminal: &'t mut T,
-        teletype: &'s mut Teletype,
+        teletype: &'h mut Teletype,
+        err: &'e mut E,
         policy: AskPolicy,
         asking: &'s mut Asking,
-    ) -> Session<'s, 'f, 't, F, T>
-        ensures state { ⟦<Self as LineMachine>⟧.state result ≡ record {
-          store = stored (each (λ b. (Layer-box b).state b.value) desk.entry.questions.store.now.layers.items) desk.entry.questions.store.now.told;
-          files = F.files files.old;
-          terminal = record { link = T.link terminal.old; ahead = teletype.old.ahead };
-          at = desk.entry.questions.context;
-          owner = desk.entry.owner.now;
-          policy = policy;
-          asking = asking.old;
-        } }
+    ) -> Session<'s, 'f, 't, 'h, 'e, F, T, E>
+        ensures state { ⟦<Self as LineMachine>⟧.state result ≡ session_at_desk (λ b. (Layer-box b).state b.value) desk.entry (F.files files.old)
+            (terminal_at (T.link terminal.old) teletype.old.ahead) (E.link err.old) policy asking.old }
         ensures borrows { result.desk.questions.store.ghost_name ≡ desk.entry.questions.store.ghost_name }
         ensures files_held { result.files.ghost_name ≡ files.entry.ghost_name }
         ensures terminal_held { result.terminal.ghost_name ≡ terminal.entry.ghost_name }
+        ensures teletype_held { result.teletype.ghost_name ≡ teletype.entry.ghost_name }
+        ensures err_held { result.err.ghost_name ≡ err.entry.ghost_name }
     {
         Session {
             alloc,
@@ -63,27 +59,39 @@ impl<'s, 'f, 't, F: Files, T: Link> Session<'s, 'f, 't, F, T> {
             files,
             terminal,
             teletype,
+            err,
             policy,
             asking,
         }
     }
 
-    /// The desk of the session, its files and its terminal, as it left them.
-    pub(crate) fn into_parts(self) -> (SessionQuestions<'s>, &'f mut F, &'t mut T)
+    /// The desk of the session, its files, its terminal with what was typed there and isn't used, and standard error, as it left them.
+    pub(crate) fn into_parts(
+        self,
+    ) -> (
+        SessionQuestions<'s>,
+        &'f mut F,
+        &'t mut T,
+        &'h mut Teletype,
+        &'e mut E,
+    )
         ensures desk { result.0 ≡ self.entry.desk }
         ensures files { result.1 ≡ self.entry.files }
         ensures terminal { result.2 ≡ self.entry.terminal }
+        ensures teletype { result.3 ≡ self.entry.teletype }
+        ensures err { result.4 ≡ self.entry.err }
     {
         let Session {
             alloc: _,
             desk,
             files,
             terminal,
-            teletype: _,
+            teletype,
+            err,
             policy: _,
             asking: _,
         } = self;
-        (desk, files, terminal)
+        (desk, files, terminal, teletype, err)
     }
 
     /// Whether lines are read and replies are sent escaped now.
@@ -168,18 +176,19 @@ impl<'s, 'f, 't, F: Files, T: Link> Session<'s, 'f, 't, F, T> {
     }
 }
 
-impl<'s, 'f, 't, F: Files, T: Link> LineMachine for Session<'s, 'f, 't, F, T> {
+impl<'s, 'f, 't, 'h, 'e, F: Files, T: Link, E: Link> LineMachine
+    for Session<'s, 'f, 't, 'h, 'e, F, T, E> {
     type Break = StepError;
 
     ghost State = { SessionState };
 
-    ghost state = { session_of (λ b. (Layer-box b).state b.value) F.files T.link };
+    ghost state = { session_of (λ b. (Layer-box b).state b.value) F.files T.link E.link };
 
     ghost steps = { HandlesLine };
 
     ghost aborts = { AbortsAt };
 
-    ghost Borrows = { GName × GName × GName };
+    ghost Borrows = { GName × GName × GName × GName × GName };
 
     ghost borrows = { borrows_of };
 

@@ -1,10 +1,9 @@
 // Template files that are loaded into the questions of a desk.
-ghost use Rattle.std.specs.Prelude.{◌≡◌, length, map as each};
-ghost use Rattle.dc_store.specs.Plans.{stored};
+ghost use Rattle.std.specs.Prelude.{◌≡◌, length};
 ghost use Rattle.dc_question.specs.Questions.{IsSetOver};
 ghost use Rattle.dc_session.specs.FileLoading.{Takes};
 ghost use Rattle.dc_session.specs.Inside.{HasDistinctNames};
-ghost use Rattle.dc_session.specs.SessionState.{FilesState, TerminalState};
+ghost use Rattle.dc_session.specs.SessionState.{FilesState, LinkState, TerminalState, session_at_desk};
 ghost use Rattle.dc_session.specs.declared.asking.Asking.{Asking};
 ghost use Rattle.dc_session.specs.declared.policy.AskPolicy.{AskPolicy};
 
@@ -34,25 +33,9 @@ impl<'s> SessionQuestions<'s> {
     /// Loads the templates that were found, for the desk's owner (debconf-loadtemplate(1)): all of them, or none.
     pub fn take_templates(&mut self, found: &Found) -> Mem<FileEnd>
         requires distinct { HasDistinctNames found.now }
-        ensures takes { (files : FilesState) (terminal : TerminalState) (policy : AskPolicy) (asking : Asking) → Takes found.now
-            (record {
-              store = stored (each state self.old.questions.store.now.layers.items) self.old.questions.store.now.told;
-              files = files;
-              terminal = terminal;
-              at = self.old.questions.context;
-              owner = self.old.owner.now;
-              policy = policy;
-              asking = asking;
-            })
-            (record {
-              store = stored (each state self.new.questions.store.now.layers.items) self.new.questions.store.now.told;
-              files = files;
-              terminal = terminal;
-              at = self.new.questions.context;
-              owner = self.new.owner.now;
-              policy = policy;
-              asking = asking;
-            }) result }
+        ensures takes { (files : FilesState) (terminal : TerminalState) (err : LinkState) (policy : AskPolicy) (asking : Asking) → Takes found.now
+            (session_at_desk state self.old files terminal err policy asking)
+            (session_at_desk state self.new files terminal err policy asking) result }
         ensures owner { self.new.owner.now ≡ self.old.owner.now }
         ensures borrows { self.new.questions.store.ghost_name ≡ self.old.questions.store.ghost_name }
     {

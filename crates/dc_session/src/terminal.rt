@@ -2,6 +2,7 @@
 ghost use Rattle.std.specs.Prelude.{◌≡◌};
 ghost use Rattle.dc_session.specs.Displays.{HasLine, HasDialogue};
 ghost use Rattle.dc_session.specs.Inside.{told};
+ghost use Rattle.dc_session.specs.SessionState.{terminal_at};
 
 use crate::asking::Asking;
 use dc_frontend::Shown;
@@ -16,8 +17,8 @@ pub(crate) fn tell_on<T: Link>(
     line: &Text,
 ) -> Result<(), LinkError>
     ensures { HasLine line.now
-        (record { link = T.link link.old; ahead = teletype.old.ahead })
-        (record { link = T.link link.new; ahead = teletype.new.ahead })
+        (terminal_at (T.link link.old) teletype.old.ahead)
+        (terminal_at (T.link link.new) teletype.new.ahead)
         (told result) }
 {
     teletype.tell(link, line)
@@ -31,8 +32,8 @@ pub(crate) fn ask_on<T: Link>(
     questions: &List<Shown>,
 ) -> Result<Asked, LinkError>
     ensures { HasDialogue asking.now questions.now
-        (record { link = T.link link.old; ahead = teletype.old.ahead })
-        (record { link = T.link link.new; ahead = teletype.new.ahead })
+        (terminal_at (T.link link.old) teletype.old.ahead)
+        (terminal_at (T.link link.new) teletype.new.ahead)
         result }
 {
     teletype.ask(link, questions, asking.backup, &asking.title)
@@ -43,9 +44,9 @@ pub(crate) fn ask_on<T: Link>(
 pub struct NoTerminal;
 
 impl Link for NoTerminal {
-    ghost use Rattle.dc_session.specs.SessionState.{no_terminal};
+    ghost use Rattle.dc_session.specs.SessionState.{nowhere};
 
-    ghost link = { λ _. no_terminal.link };
+    ghost link = { λ _. nowhere };
 
     fn read_some(&mut self, _buf: &mut [u8]) -> Result<usize, LinkError> {
         Ok(0)

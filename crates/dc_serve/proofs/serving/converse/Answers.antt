@@ -17,7 +17,7 @@ some_came count buf some within small = let count_is : length (take count buf) â
 
 pub loop-taken-init : goal.loop-taken-init
 loop-taken-init g c = rw c.new-lines.ensures (record {
-  progress = progress_start g.H.LineMachine.steps g.H.LineMachine.aborts (g.L.Link.link c.args.io.now).talk (g.L.Link.link c.args.io.now).input (g.H.LineMachine.state c.args.machine.now);
+  progress = progress_start g.H.LineMachine.steps g.H.LineMachine.aborts (g.L.Link.link c.args.io.now).talk (g.L.Link.link c.args.io.now).input (g.H.LineMachine.state c.args.machine.now) c.args.last_code;
   borrows = refl;
   counts = refl;
   program = refl;

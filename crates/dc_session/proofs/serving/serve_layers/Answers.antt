@@ -4,7 +4,8 @@ use Rattle.dc_session.proofs.serving.serve_layers.Goals as goal
 
 pub returns-in-Ok : goal.returns-in-Ok
 returns-in-Ok g c =
-    served_as _ _ _ _ _ _ _ _ _ _ _ _ c.serve_desk.ensures (begun_as _ _ _ _ _ _ _ _ _ _ c.in-Ok.policy c.args.setup.now.frontend c.args.setup.now.threshold _ _ c.new-teletype.ensures (search rules) (search rules) (search rules) (search rules) (search rules) c.nothing-asking.ensures) refl refl refl
+    served_as _ _ _ _ _ _ _ _ _ _ _ _ _ _ _ _ _ c.serve_desk.ensures (begun_as _ _ _ _ _ _ _ _ _ _ c.in-Ok.policy c.args.setup.now.frontend c.args.setup.now.threshold _ _ (search rules) (search rules) (search rules) (search rules) (search rules) c.nothing-asking.ensures)
+    refl refl refl refl refl
 
 pub returns : goal.returns
-returns g c = unserved _ _ _ _ _ (search rules) (search rules) (search rules)
+returns g c = unserved _ _ _ _ (search rules) (search rules) (search rules) (search rules)
