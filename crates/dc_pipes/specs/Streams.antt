@@ -17,4 +17,9 @@ WritesAll old new (Err error) bytes = (rest : List ℕ) × IsWritten old new byt
 
 -- a link that tells no talk and no input, has no program, and failed so often; it finds no want of memory
 abbrev pub host_link : ℕ → LinkState
-host_link faults = record { talk = None; input = None; counts = record { faults = faults; refusals = 0 }; program = no_program }
+host_link faults = record {
+  talk = None;
+  input = None;
+  counts = record { faults = faults; refusals = 0 };
+  program = no_program;
+}

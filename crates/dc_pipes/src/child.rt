@@ -28,8 +28,9 @@ enum Stage<P> {
 
 /// A program of the host. Its standard input and output are pipes, all else is as in this program but for two variables of
 /// its environment: `DEBIAN_HAS_FRONTEND` is 1, and `DEBCONF_REDIR` isn't set. A file of text that names no interpreter is run by
-/// `/bin/sh`. A program that can't be started, and a word that isn't UTF-8, is a failure of the start. A read or a write is a fault where the program doesn't run; so is a write to
-/// one that has closed its input.
+/// `/bin/sh`. A program that can't be started, and a word that isn't UTF-8, is a failure of the start. A read or a write is a fault where the
+/// program doesn't run; so is a write to one that has closed its input. Once it has ended, another is started in its place, with pipes of its
+/// own.
 #[derive(Drop)]
 pub struct HostChild<R: Processes> {
     alloc: Global,

@@ -87,6 +87,27 @@ fn a_program_is_answered_and_waited_for(rt: HostRuntime) {
 }
 
 #[test]
+fn a_program_is_started_behind_another(rt: HostRuntime) {
+    let mut child = HostChild::new(rt.alloc(), &rt);
+    let first = words_of(rt.alloc(), "sh", &["-c", "echo one; exit 3"])
+        .ok()
+        .expect(&rt, "memory");
+    let mut buf = [0u8; 8];
+    assert_eq!(rt; child.start(&first), Ok(()));
+    assert_eq!(rt; child.read_some(&mut buf), Ok(4));
+    assert_eq!(rt; child.wait(), Ok(3));
+    let second = words_of(rt.alloc(), "sh", &["-c", "read word; echo $word"])
+        .ok()
+        .expect(&rt, "memory");
+    assert_eq!(rt; child.start(&second), Ok(()));
+    assert_eq!(rt; child.write(b"two\n"), Ok(()));
+    assert_eq!(rt; child.read_some(&mut buf), Ok(4));
+    assert_eq!(rt; buf[..4], *b"two\n");
+    assert_eq!(rt; child.read_some(&mut buf), Ok(0));
+    assert_eq!(rt; child.wait(), Ok(0));
+}
+
+#[test]
 fn a_program_that_is_not_there_is_not_started(rt: HostRuntime) {
     let words = words_of(rt.alloc(), "/missing/config", &[])
         .ok()

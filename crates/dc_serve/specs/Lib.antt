@@ -6,3 +6,4 @@ pub mod Inside
 pub mod LinkRun
 pub mod Said
 pub mod Answering
+pub mod Telling

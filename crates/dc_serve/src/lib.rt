@@ -9,3 +9,6 @@ pub mod serving;
 pub use machine::{LineMachine, Response};
 pub use outcome::{Conversation, LinkEnd};
 pub use serving::serve_link;
+
+#[cfg(test)]
+mod tests;

@@ -194,6 +194,9 @@ fn a_program_is_read_to_its_end_and_waited_for(rt: HostRuntime) {
     assert_eq!(rt; child.read_some(&mut buf), Ok(0));
     assert_eq!(rt; child.wait(), Err(WaitFault));
     assert_eq!(rt; child.wait(), Ok(3));
+    assert_eq!(rt; child.start(&words), Ok(()));
+    assert_eq!(rt; child.write(b"b"), Ok(()));
+    assert_eq!(rt; child.wait(), Ok(3));
 }
 
 // A layer in a file, without items.

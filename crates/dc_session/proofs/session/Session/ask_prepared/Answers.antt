@@ -34,7 +34,7 @@ returns-in-Back-clause-does g c =
     let pick : List ℕ → Option Shown = λ name. option_map (shown layers at name) (kind layers at name) in
     let are = c.in_ok-questions.ensures ∙ ap (filter_map pick) (c.as_slice-2.ensures ∙ c.in_ok-prepared.ensures.names) in
     let none = rw (c.in_default.is, c.as_slice.ensures ∙ c.in_ok-prepared.ensures.names) at c.in_ok-name.ensures in
-    let session = ghosts g.row.F g.row.T g.F.Files g.F.Files-dict g.T.Link g.T.Link-dict g.dyn-1 in
+    let session = ghosts g.row.F g.row.T g.row.E g.F.Files g.F.Files-dict g.T.Link g.T.Link-dict g.E.Link g.E.Link-dict g.dyn-1 in
     rw c.lifted-in-Back.ensures (held_does _ c.requires.asks (sym none) Back _ _ (rw (are, c.in-Back.is) at c.in_ok-hold.ensures.asks) c.back_up.result (comes_asking _ [] (session.state c.hold.new.self) (session.state c.back_up.new.self) c.back_up.result c.back_up.ensures.comes))
 
 pub take_answers-requires-clause-shown : goal.take_answers-requires-clause-shown

@@ -25,7 +25,7 @@ returns-in-Ok-clause-comes g c =
 
 pub returns-clause-comes : goal.returns-clause-comes
 returns-clause-comes g c =
-    let session = ghosts g.row.F g.row.T g.F.Files g.F.Files-dict g.T.Link g.T.Link-dict g.dyn-1 in
+    let session = ghosts g.row.F g.row.T g.row.E g.F.Files g.F.Files-dict g.T.Link g.T.Link-dict g.E.Link g.E.Link-dict g.dyn-1 in
     let old = session.state c.args.self.now in
     let are = c.as_slice-3.ensures ∙ c.in_ok-choices.ensures ∙ ap (filter_map (choice_for old.store.layers old.at)) (c.as_slice-2.ensures ∙ c.in_ok-prepared.ensures.names) in
     unset_comes old _ _ (gone old) _ _ c.in-Err.ensures.frame.context (λ e. refl) c.in-Err.error (rw are at c.in-Err.ensures.does) (rw are at c.in-Err.ensures.frame.others) c.refused.result c.refused.ensures
