@@ -1,3 +1,4 @@
 pub mod Counting
 pub mod Folders
+pub mod Known
 pub mod Locks

@@ -1,8 +1,11 @@
 // The files of the host. They tell nothing of what they hold.
-ghost use Rattle.std.specs.Prelude.{◌≡◌, ◌≤◌, [], None, length, IfOk, IfSome, OnErr, OnOk};
+ghost use Rattle.std.specs.Prelude.{◌≡◌, ◌≤◌, [], None, length, IfOk, IfSome, OnErr, OnOk, is_some, false};
+ghost use Rattle.std.specs.List.Sorted.{IsStrictlySortedBy};
 ghost use Rattle.std.specs.FinMap as map;
+ghost use Rattle.dc_text.specs.Maps.{text_cmp};
 ghost use Rattle.dc_outside.specs.Counts.{Counted};
 ghost use Rattle.dc_host.specs.Folders.{IsKept, Keeps};
+ghost use Rattle.dc_host.specs.Known.{known_renamed};
 ghost use Rattle.dc_host.specs.Locks.{KeepsLocks};
 
 use crate::counts::CallCounts;
@@ -12,7 +15,7 @@ use crate::paths::{done, failed, is_missing, join, path_of};
 use crate::search::files_below;
 use crate::system::{Handle, HostSystem, System};
 use dc_outside::{Files, FilesError};
-use dc_text::{List, Mem, Text};
+use dc_text::{List, Mem, Text, TextMap};
 use std::alloc::Global;
 use std::fs::File;
 use std::io::Read;
@@ -40,6 +43,8 @@ impl<R: SystemFiles<File = File> + Alloc + Clone + Drop> HostFiles<HostSystem<R>
     pub fn new(alloc: Global, rt: R, open_to_all: List<Text>) -> HostFiles<HostSystem<R>>
         ensures changed { result.changed ≡ map.empty }
         ensures counts { result.counts ≡ record { faults = 0; refusals = 0 } }
+        ensures locks { result.guard.locks.held ≡ map.empty }
+        ensures open_to_all { result.guard.open_to_all ≡ open_to_all }
     {
         HostFiles::over(alloc, HostSystem::new(rt), open_to_all)
     }
@@ -50,6 +55,8 @@ impl<S: System> HostFiles<S> {
     pub fn over(alloc: Global, system: S, open_to_all: List<Text>) -> HostFiles<S>
         ensures changed { result.changed ≡ map.empty }
         ensures counts { result.counts ≡ record { faults = 0; refusals = 0 } }
+        ensures locks { result.guard.locks.held ≡ map.empty }
+        ensures open_to_all { result.guard.open_to_all ≡ open_to_all }
     {
         HostFiles {
             alloc,
@@ -59,6 +66,102 @@ impl<S: System> HostFiles<S> {
             counts: CallCounts::new(),
         }
     }
+
+    // A file that is known to be too large isn't read.
+    #[tactic(auto, using(crate::proofs::LockLemmas::keeps_locks_same))]
+    fn read_file(&mut self, path: &Text) -> Result<Option<Text>, FilesError>
+        ensures small { IfOk result (λ found. IfSome found (λ bytes. length bytes ≤ MAX_FILE)) }
+        ensures known { IfOk result (λ found. map.contains_key self.new.guard.known path.now ≡ is_some found) }
+        ensures changed { self.new.changed ≡ self.old.changed }
+        ensures locks { KeepsLocks self.old.guard.locks.held self.new.guard.locks.held }
+        ensures counts { self.new.counts ≡ self.old.counts }
+    {
+        let Some(file) = self.guard.open(&mut self.system, path, path_of(path)?)? else {
+            return Ok(None);
+        };
+        let size = done(file.status())?.size;
+        if size > MAX_FILE as u64 {
+            return Err(FilesError::Failed);
+        }
+        Ok(Some(read_all(self.alloc, file, size)?))
+    }
+
+    #[tactic(auto, using(crate::proofs::FolderLemmas::keeps_same, crate::proofs::FolderLemmas::keeps_on, crate::proofs::FolderLemmas::kept_on, crate::proofs::LockLemmas::keeps_locks_same, crate::proofs::OrderLemmas::keys_rise))]
+    fn list_files(&mut self, dir: &Text) -> Result<List<Text>, FilesError>
+        ensures order { IfOk result (λ paths. IsStrictlySortedBy text_cmp paths) }
+        ensures changed { Keeps self.old.changed self.new.changed }
+        ensures locks { KeepsLocks self.old.guard.locks.held self.new.guard.locks.held }
+        ensures counts { self.new.counts ≡ self.old.counts }
+    {
+        self.guard.enter(&mut self.system, &mut self.changed, dir)?;
+        let found = files_below(self.alloc, &mut self.system, dir)?;
+        Ok(known_paths(self.alloc, &mut self.guard, dir, &found)?)
+    }
+
+    #[tactic(auto, using(crate::proofs::FolderLemmas::keeps_same, crate::proofs::FolderLemmas::keeps_on, crate::proofs::FolderLemmas::kept_on))]
+    fn write_file(&mut self, path: &Text, bytes: &[u8], mode: u16) -> Result<(), FilesError>
+        ensures kept { OnOk result (IsKept self.new.changed path.now) }
+        ensures changed { Keeps self.old.changed self.new.changed }
+        ensures locks { self.new.guard.locks ≡ self.old.guard.locks }
+        ensures known { self.new.guard.known ≡ self.old.guard.known }
+        ensures counts { self.new.counts ≡ self.old.counts }
+    {
+        let name = path_of(path)?;
+        self.changed.mark(name)?;
+        self.guard.write(
+            &mut self.system,
+            &mut self.changed,
+            (path, name),
+            bytes,
+            mode,
+        )
+    }
+
+    // The folders are synced too, since the file may be new in its own, and that in another.
+    fn sync_file(&mut self, path: &Text) -> Result<(), FilesError>
+        ensures changed { self.new.changed ≡ self.old.changed }
+        ensures locks { self.new.guard.locks ≡ self.old.guard.locks }
+        ensures known { self.new.guard.known ≡ self.old.guard.known }
+        ensures counts { self.new.counts ≡ self.old.counts }
+    {
+        let name = path_of(path)?;
+        self.guard.sync(&mut self.system, path, name)?;
+        self.changed.sync_with(&mut self.system, name)
+    }
+
+    #[tactic(auto, using(crate::proofs::FolderLemmas::keeps_same, crate::proofs::FolderLemmas::keeps_on, crate::proofs::FolderLemmas::kept_on, crate::proofs::LockLemmas::keeps_locks_same))]
+    fn rename_file(&mut self, from: &Text, to: &Text) -> Result<(), FilesError>
+        ensures from { OnOk result (IsKept self.new.changed from.now) }
+        ensures to { OnOk result (IsKept self.new.changed to.now) }
+        ensures known { OnOk result (self.new.guard.known ≡ known_renamed self.old.guard.known from.now to.now) }
+        ensures changed { Keeps self.old.changed self.new.changed }
+        ensures locks { KeepsLocks self.old.guard.locks.held self.new.guard.locks.held }
+        ensures counts { self.new.counts ≡ self.old.counts }
+    {
+        let old = path_of(from)?;
+        let new = path_of(to)?;
+        self.changed.mark_both(old, new)?;
+        self.guard.rename(&mut self.system, (from, old), (to, new))
+    }
+
+    #[tactic(auto, using(crate::proofs::FolderLemmas::keeps_same, crate::proofs::FolderLemmas::keeps_on, crate::proofs::FolderLemmas::kept_on))]
+    fn remove_file(&mut self, path: &Text) -> Result<(), FilesError>
+        ensures kept { OnOk result (IsKept self.new.changed path.now) }
+        ensures known { OnOk result (map.contains_key self.new.guard.known path.now ≡ false) }
+        ensures changed { Keeps self.old.changed self.new.changed }
+        ensures locks { self.new.guard.locks ≡ self.old.guard.locks }
+        ensures counts { self.new.counts ≡ self.old.counts }
+    {
+        let name = path_of(path)?;
+        self.changed.mark(name)?;
+        match self.system.remove(name) {
+            Err(error) if !is_missing(&error) => Err(failed(&error)),
+            _ => {
+                self.guard.forget(path);
+                Ok(())
+            }
+        }
+    }
 }
 
 impl<S: System> Files for HostFiles<S> {
@@ -66,78 +169,63 @@ impl<S: System> Files for HostFiles<S> {
 
     fn read(&mut self, path: &Text) -> Result<Option<Text>, FilesError>
         ensures small { IfOk result (λ found. IfSome found (λ bytes. length bytes ≤ MAX_FILE)) }
+        ensures known { IfOk result (λ found. map.contains_key self.new.guard.known path.now ≡ is_some found) }
         ensures changed { self.new.changed ≡ self.old.changed }
         ensures locks { KeepsLocks self.old.guard.locks.held self.new.guard.locks.held }
         ensures counts { Counted self.old.counts self.new.counts result }
     {
-        let answer = read_file(self.alloc, &mut self.system, &mut self.guard, path);
+        let answer = self.read_file(path);
         self.counts.count(answer)
     }
 
     fn list(&mut self, dir: &Text) -> Result<List<Text>, FilesError>
+        ensures order { IfOk result (λ paths. IsStrictlySortedBy text_cmp paths) }
         ensures changed { Keeps self.old.changed self.new.changed }
         ensures locks { KeepsLocks self.old.guard.locks.held self.new.guard.locks.held }
         ensures counts { Counted self.old.counts self.new.counts result }
     {
-        let answer = list_files(
-            self.alloc,
-            &mut self.system,
-            &mut self.changed,
-            &mut self.guard,
-            dir,
-        );
+        let answer = self.list_files(dir);
         self.counts.count(answer)
     }
 
     fn write(&mut self, path: &Text, bytes: &[u8], mode: u16) -> Result<(), FilesError>
         ensures kept { OnOk result (IsKept self.new.changed path.now) }
         ensures changed { Keeps self.old.changed self.new.changed }
-        ensures locks { KeepsLocks self.old.guard.locks.held self.new.guard.locks.held }
+        ensures locks { self.new.guard.locks ≡ self.old.guard.locks }
+        ensures known { self.new.guard.known ≡ self.old.guard.known }
         ensures counts { Counted self.old.counts self.new.counts result }
     {
-        let answer = write_file(
-            &mut self.system,
-            &mut self.changed,
-            &mut self.guard,
-            path,
-            bytes,
-            mode,
-        );
+        let answer = self.write_file(path, bytes, mode);
         self.counts.count(answer)
     }
 
-    #[tactic(auto, using(crate::proofs::LockLemmas::keeps_locks_same))]
     fn sync(&mut self, path: &Text) -> Result<(), FilesError>
         ensures changed { self.new.changed ≡ self.old.changed }
-        ensures locks { KeepsLocks self.old.guard.locks.held self.new.guard.locks.held }
+        ensures locks { self.new.guard.locks ≡ self.old.guard.locks }
+        ensures known { self.new.guard.known ≡ self.old.guard.known }
         ensures counts { Counted self.old.counts self.new.counts result }
     {
-        let answer = sync_file(&mut self.system, &self.changed, &self.guard, path);
+        let answer = self.sync_file(path);
         self.counts.count(answer)
     }
 
     fn rename(&mut self, from: &Text, to: &Text) -> Result<(), FilesError>
         ensures from { OnOk result (IsKept self.new.changed from.now) }
         ensures to { OnOk result (IsKept self.new.changed to.now) }
+        ensures known { OnOk result (self.new.guard.known ≡ known_renamed self.old.guard.known from.now to.now) }
         ensures changed { Keeps self.old.changed self.new.changed }
         ensures locks { KeepsLocks self.old.guard.locks.held self.new.guard.locks.held }
         ensures counts { Counted self.old.counts self.new.counts result }
     {
-        let answer = rename_file(
-            &mut self.system,
-            &mut self.changed,
-            &mut self.guard,
-            from,
-            to,
-        );
+        let answer = self.rename_file(from, to);
         self.counts.count(answer)
     }
 
-    #[tactic(auto, using(crate::proofs::LockLemmas::keeps_locks_same))]
     fn sync_names(&mut self) -> Result<(), FilesError>
         ensures none { OnOk result (self.new.changed ≡ map.empty) }
         ensures err { OnErr result (self.new.changed ≡ self.old.changed) }
-        ensures locks { KeepsLocks self.old.guard.locks.held self.new.guard.locks.held }
+        ensures locks { self.new.guard.locks ≡ self.old.guard.locks }
+        ensures known { self.new.guard.known ≡ self.old.guard.known }
         ensures counts { Counted self.old.counts self.new.counts result }
     {
         let answer = self.changed.sync(&mut self.system);
@@ -146,34 +234,33 @@ impl<S: System> Files for HostFiles<S> {
 
     fn remove(&mut self, path: &Text) -> Result<(), FilesError>
         ensures kept { OnOk result (IsKept self.new.changed path.now) }
+        ensures known { OnOk result (map.contains_key self.new.guard.known path.now ≡ false) }
         ensures changed { Keeps self.old.changed self.new.changed }
-        ensures locks { KeepsLocks self.old.guard.locks.held self.new.guard.locks.held }
+        ensures locks { self.new.guard.locks ≡ self.old.guard.locks }
         ensures counts { Counted self.old.counts self.new.counts result }
     {
-        let answer = remove_file(&mut self.system, &mut self.changed, &mut self.guard, path);
+        let answer = self.remove_file(path);
         self.counts.count(answer)
     }
 }
 
-// A file that is known to be too large isn't read.
-#[tactic(auto, using(crate::proofs::LockLemmas::keeps_locks_same, crate::proofs::LockLemmas::keeps_locks_on))]
-fn read_file<S: System>(
+// The paths that were found below the folder, in byte order. They are known then.
+fn known_paths<H: Handle + Drop>(
     alloc: Global,
-    system: &mut S,
-    guard: &mut Guard<S::Handle>,
-    path: &Text,
-) -> Result<Option<Text>, FilesError>
-    ensures small { IfOk result (λ found. IfSome found (λ bytes. length bytes ≤ MAX_FILE)) }
-    ensures locks { KeepsLocks guard.old.locks.held guard.new.locks.held }
+    guard: &mut Guard<H>,
+    dir: &Text,
+    found: &TextMap<()>,
+) -> Mem<List<Text>>
+    ensures paths { IfOk result (λ paths. paths ≡ map.keys found.now) }
+    ensures locks { guard.new.locks ≡ guard.old.locks }
+    ensures written { guard.new.written ≡ guard.old.written }
 {
-    let Some(file) = guard.open(system, path, path_of(path)?)? else {
-        return Ok(None);
-    };
-    let size = done(file.status())?.size;
-    if size > MAX_FILE as u64 {
-        return Err(FilesError::Failed);
+    let mut paths = List::new(alloc);
+    for (path, _) in found.iter() {
+        guard.know(join(alloc, dir.bytes(), path)?)?;
+        paths.push(Text::from_bytes(alloc, path)?)?;
     }
-    Ok(Some(read_all(alloc, file, size)?))
+    Ok(paths)
 }
 
 // The bytes of the file, unless there are too many. It is thought to have so many.
@@ -196,96 +283,4 @@ fn room_for(alloc: Global, size: u64) -> Mem<Vec<u8>>
 {
     let most = usize::try_from(size).unwrap_or(MAX_FILE).min(MAX_FILE);
     Ok(Vec::with_capacity(alloc, most + 1)?)
-}
-
-#[tactic(auto, using(crate::proofs::FolderLemmas::keeps_same, crate::proofs::FolderLemmas::keeps_on, crate::proofs::LockLemmas::keeps_locks_same, crate::proofs::LockLemmas::keeps_locks_on))]
-fn list_files<S: System>(
-    alloc: Global,
-    system: &mut S,
-    changed: &mut ChangedFolders,
-    guard: &mut Guard<S::Handle>,
-    dir: &Text,
-) -> Result<List<Text>, FilesError>
-    ensures changed { Keeps changed.old changed.new }
-    ensures locks { KeepsLocks guard.old.locks.held guard.new.locks.held }
-{
-    guard.enter(system, changed, dir)?;
-    let found = files_below(alloc, system, dir)?;
-    let mut paths = List::new(alloc);
-    for (path, _) in found.iter() {
-        guard.know(join(alloc, dir.bytes(), path)?)?;
-        paths.push(Text::from_bytes(alloc, path)?)?;
-    }
-    Ok(paths)
-}
-
-#[tactic(auto, using(crate::proofs::FolderLemmas::keeps_same, crate::proofs::FolderLemmas::keeps_on, crate::proofs::FolderLemmas::kept_on, crate::proofs::LockLemmas::keeps_locks_same, crate::proofs::LockLemmas::keeps_locks_on))]
-fn write_file<S: System>(
-    system: &mut S,
-    changed: &mut ChangedFolders,
-    guard: &mut Guard<S::Handle>,
-    path: &Text,
-    bytes: &[u8],
-    mode: u16,
-) -> Result<(), FilesError>
-    ensures kept { OnOk result (IsKept changed.new path.now) }
-    ensures changed { Keeps changed.old changed.new }
-    ensures locks { KeepsLocks guard.old.locks.held guard.new.locks.held }
-{
-    let name = path_of(path)?;
-    changed.mark(name)?;
-    guard.write(system, changed, (path, name), bytes, mode)
-}
-
-// The folders are synced too, since the file may be new in its own, and that in another.
-fn sync_file<S: System>(
-    system: &mut S,
-    changed: &ChangedFolders,
-    guard: &Guard<S::Handle>,
-    path: &Text,
-) -> Result<(), FilesError> {
-    let name = path_of(path)?;
-    guard.sync(system, path, name)?;
-    changed.sync_with(system, name)
-}
-
-#[tactic(auto, using(crate::proofs::FolderLemmas::keeps_same, crate::proofs::FolderLemmas::keeps_on, crate::proofs::FolderLemmas::kept_on, crate::proofs::LockLemmas::keeps_locks_same, crate::proofs::LockLemmas::keeps_locks_on))]
-fn rename_file<S: System>(
-    system: &mut S,
-    changed: &mut ChangedFolders,
-    guard: &mut Guard<S::Handle>,
-    from: &Text,
-    to: &Text,
-) -> Result<(), FilesError>
-    ensures from { OnOk result (IsKept changed.new from.now) }
-    ensures to { OnOk result (IsKept changed.new to.now) }
-    ensures changed { Keeps changed.old changed.new }
-    ensures locks { KeepsLocks guard.old.locks.held guard.new.locks.held }
-{
-    let old = path_of(from)?;
-    let new = path_of(to)?;
-    changed.mark_both(old, new)?;
-    guard.rename(system, (from, old), (to, new))
-}
-
-#[tactic(auto, using(crate::proofs::FolderLemmas::keeps_same, crate::proofs::FolderLemmas::keeps_on, crate::proofs::FolderLemmas::kept_on, crate::proofs::LockLemmas::keeps_locks_same, crate::proofs::LockLemmas::keeps_locks_on))]
-fn remove_file<S: System>(
-    system: &mut S,
-    changed: &mut ChangedFolders,
-    guard: &mut Guard<S::Handle>,
-    path: &Text,
-) -> Result<(), FilesError>
-    ensures kept { OnOk result (IsKept changed.new path.now) }
-    ensures changed { Keeps changed.old changed.new }
-    ensures locks { KeepsLocks guard.old.locks.held guard.new.locks.held }
-{
-    let name = path_of(path)?;
-    changed.mark(name)?;
-    match system.remove(name) {
-        Err(error) if !is_missing(&error) => Err(failed(&error)),
-        _ => {
-            guard.forget(path);
-            Ok(())
-        }
-    }
 }

@@ -81,8 +81,13 @@ impl ChangedFolders {
         }
     }
 
-    /// Syncs the folder of the path, and all that are kept, since that may be new in one of them.
-    pub fn sync_with<S: System>(&self, system: &mut S, path: &str) -> Result<(), FilesError> {
+    /// Syncs the folder of the path, and all that are kept, since that may be new in one of them. No clause says that it does: that is
+    /// the system's.
+    pub(crate) fn sync_with<S: System>(
+        &self,
+        system: &mut S,
+        path: &str,
+    ) -> Result<(), FilesError> {
         let folder = folder_of(path).as_bytes();
         if !self.folders.contains(folder) {
             sync_folder(self.alloc, system, folder)?;

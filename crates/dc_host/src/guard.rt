@@ -1,8 +1,10 @@
 // What keeps two programs apart on one file: advisory locks, and a new file for each write.
-ghost use Rattle.std.specs.Prelude.{◌≡◌, None, OnOk, nat_eq};
+ghost use Rattle.std.specs.Prelude.{◌≡◌, [], None, IfOk, IsSomeAnd, OnErr, OnOk, is_some, false, nat_eq};
 ghost use Rattle.std.specs.List.{list_any, starts_with};
 ghost use Rattle.std.specs.Str.{bytes_eq};
+ghost use Rattle.std.specs.FinMap as map;
 ghost use Rattle.dc_host.specs.Folders.{Keeps};
+ghost use Rattle.dc_host.specs.Known.{known_renamed};
 ghost use Rattle.dc_host.specs.Locks.{KeepsLocks};
 
 use crate::folders::ChangedFolders;
@@ -44,7 +46,13 @@ pub struct Guard<H> {
 
 impl<H: Handle + Drop> Guard<H> {
     /// No lock is held yet. What stands at the paths of `open_to_all` will be read without one.
-    pub fn new(alloc: Global, open_to_all: List<Text>) -> Guard<H> {
+    pub fn new(alloc: Global, open_to_all: List<Text>) -> Guard<H>
+        ensures open_to_all { result.open_to_all ≡ open_to_all }
+        ensures locks { result.locks.held ≡ map.empty }
+        ensures folders { result.folders ≡ [] }
+        ensures known { result.known ≡ map.empty }
+        ensures written { result.written ≡ None }
+    {
         Guard {
             alloc,
             open_to_all,
@@ -109,7 +117,7 @@ impl<H: Handle + Drop> Guard<H> {
         path: &Text,
         file: H,
     ) -> Result<bool, FilesError>
-        ensures { KeepsLocks self.old.locks.held self.new.locks.held }
+        ensures locks { KeepsLocks self.old.locks.held self.new.locks.held }
     {
         let id = id_of_file(&file)?;
         if self.holds(id) {
@@ -145,6 +153,8 @@ impl<H: Handle + Drop> Guard<H> {
 
     /// Knows that a file stands at the path.
     pub fn know(&mut self, path: Text) -> Mem<()>
+        ensures ok { OnOk result (self.new.known ≡ map.insert self.old.known path tt) }
+        ensures err { OnErr result (self.new.known ≡ self.old.known) }
         ensures locks { self.new.locks ≡ self.old.locks }
         ensures written { self.new.written ≡ self.old.written }
     {
@@ -153,6 +163,8 @@ impl<H: Handle + Drop> Guard<H> {
 
     /// Knows no more that a file stands at the path.
     pub fn forget(&mut self, path: &Text)
+        ensures known { self.new.known ≡ map.remove self.old.known path.now }
+        ensures gone { map.contains_key self.new.known path.now ≡ false }
         ensures locks { self.new.locks ≡ self.old.locks }
         ensures written { self.new.written ≡ self.old.written }
     {
@@ -161,14 +173,15 @@ impl<H: Handle + Drop> Guard<H> {
 
     /// Opens the file at the path to be read, and locks it if it can be opened for writing and no lock of a folder stands for it.
     /// `None` where nothing stands there. What isn't a file, and a file that another program has locked, is a fault.
-    #[tactic(auto, using(crate::proofs::LockLemmas::keeps_locks_same, crate::proofs::LockLemmas::keeps_locks_on))]
+    #[tactic(auto, using(crate::proofs::LockLemmas::keeps_locks_same, crate::proofs::LockLemmas::keeps_locks_on, crate::proofs::KnownLemmas::known_with))]
     pub fn open<S: System<Handle = H>>(
         &mut self,
         system: &mut S,
         path: &Text,
         name: &str,
     ) -> Result<Option<H>, FilesError>
-        ensures { KeepsLocks self.old.locks.held self.new.locks.held }
+        ensures known { IfOk result (λ file. map.contains_key self.new.known path.now ≡ is_some file) }
+        ensures locks { KeepsLocks self.old.locks.held self.new.locks.held }
     {
         let found = match system.status(name) {
             Ok(found) => found,
@@ -196,6 +209,7 @@ impl<H: Handle + Drop> Guard<H> {
     // Knows that no file stands at the path.
     fn find_nothing(&mut self, path: &Text) -> Option<H>
         ensures none { result ≡ None }
+        ensures known { map.contains_key self.new.known path.now ≡ false }
         ensures locks { self.new.locks ≡ self.old.locks }
     {
         self.forget(path);
@@ -219,7 +233,8 @@ impl<H: Handle + Drop> Guard<H> {
         path: &Text,
         name: &str,
     ) -> Result<Option<H>, FilesError>
-        ensures { KeepsLocks self.old.locks.held self.new.locks.held }
+        ensures known { self.new.known ≡ self.old.known }
+        ensures locks { KeepsLocks self.old.locks.held self.new.locks.held }
     {
         for _ in 0..TRIES {
             let file = match system.open(name, Access::Updating) {
@@ -251,8 +266,10 @@ impl<H: Handle + Drop> Guard<H> {
         bytes: &[u8],
         mode: u16,
     ) -> Result<(), FilesError>
+        ensures written { OnOk result (IsSomeAnd self.new.written (λ written. written.path ≡ place.entry.0.now)) }
         ensures changed { Keeps changed.old changed.new }
         ensures locks { self.new.locks ≡ self.old.locks }
+        ensures known { self.new.known ≡ self.old.known }
     {
         let (path, name) = place;
         let path = path.copy()?;
@@ -328,8 +345,9 @@ impl<H: Handle + Drop> Guard<H> {
         }
     }
 
-    /// Lets no crash take what was written at the path: through the handle that wrote it, if it was the last to.
-    pub fn sync<S: System<Handle = H>>(
+    /// Lets no crash take what was written at the path: through the handle that wrote it, if it was the last to. No clause says that
+    /// it does: that is the system's.
+    pub(crate) fn sync<S: System<Handle = H>>(
         &self,
         system: &mut S,
         path: &Text,
@@ -344,8 +362,9 @@ impl<H: Handle + Drop> Guard<H> {
         }
     }
 
-    /// Puts the file that was written last in the place of the other, and keeps its lock. It is a fault if it doesn't stand at its
-    /// path any more, if a file stands at the other that another program has locked, or anything at all where no file was known to stand.
+    /// Puts the file that was written last in the place of the other, and holds its lock for that path, unless a folder's stands for it.
+    /// It is a fault if it doesn't stand at its path any more, if a file stands at the other that another program has locked, or anything at
+    /// all where no file was known to stand. Where the system fails at it, the locks of both are held still.
     #[tactic(auto, using(crate::proofs::LockLemmas::keeps_locks_same, crate::proofs::LockLemmas::keeps_locks_on))]
     pub fn rename<S: System<Handle = H>>(
         &mut self,
@@ -354,82 +373,75 @@ impl<H: Handle + Drop> Guard<H> {
         to: (&Text, &str),
     ) -> Result<(), FilesError>
         ensures lost { OnOk result (self.new.written ≡ None) }
+        ensures known { OnOk result (self.new.known ≡ known_renamed self.old.known from.entry.0.now to.entry.0.now) }
+        ensures unknown { OnErr result (self.new.known ≡ self.old.known) }
         ensures locks { KeepsLocks self.old.locks.held self.new.locks.held }
     {
-        let lock = self.take_written(system, from)?;
-        if self.known.contains(to.0.bytes()) {
-            self.replace(system, from.1, to, lock)
+        let Written { path, lock } = self.take_written(system, from)?;
+        let is_known = self.known.contains(to.0.bytes());
+        // what stands there stays locked until it is replaced
+        let _standing = if is_known {
+            self.free(system, to.1)?
         } else {
-            self.add(system, from.1, to, lock)
+            Standing::Nothing
+        };
+        if self.is_below_listed(to.0) {
+            let answer = self.put(system, from, to);
+            drop(lock);
+            return answer;
         }
+        let last = self.locks.put(to.0, lock)?;
+        let answer = self.put(system, from, to);
+        if let (Err(_), Some(last)) = (&answer, last) {
+            let lock = self.locks.give_back(to.0, last);
+            self.written = Some(Written { path, lock });
+        }
+        answer
     }
 
-    // Puts the file in the place of the one that is known to stand there. The locks of both are held to the end.
-    #[tactic(auto, using(crate::proofs::LockLemmas::keeps_locks_same, crate::proofs::LockLemmas::keeps_locks_on))]
-    fn replace<S: System<Handle = H>>(
+    // Gives the file the other path: that of the file that is known to stand there, or else one at which nothing stands.
+    #[tactic(auto, using(crate::proofs::KnownLemmas::known_still, crate::proofs::KnownLemmas::known_no_more, crate::proofs::KnownLemmas::renamed_apart, crate::proofs::KnownLemmas::renamed_same))]
+    fn put<S: System<Handle = H>>(
         &mut self,
         system: &mut S,
-        from: &str,
+        from: (&Text, &str),
         to: (&Text, &str),
-        lock: Lock<H>,
     ) -> Result<(), FilesError>
+        ensures known { OnOk result (self.new.known ≡ known_renamed self.old.known from.entry.0.now to.entry.0.now) }
+        ensures err { OnErr result (self.new.known ≡ self.old.known) }
+        ensures locks { self.new.locks ≡ self.old.locks }
         ensures written { self.new.written ≡ self.old.written }
-        ensures locks { KeepsLocks self.old.locks.held self.new.locks.held }
     {
-        let _standing = self.free(system, to.1)?;
-        let _last = self.keep(to.0, lock)?;
-        done(system.rename(from, to.1))
-    }
-
-    // Puts the file at a path at which none is known to stand.
-    #[tactic(auto, using(crate::proofs::LockLemmas::keeps_locks_same, crate::proofs::LockLemmas::keeps_locks_on))]
-    fn add<S: System<Handle = H>>(
-        &mut self,
-        system: &mut S,
-        from: &str,
-        to: (&Text, &str),
-        lock: Lock<H>,
-    ) -> Result<(), FilesError>
-        ensures written { self.new.written ≡ self.old.written }
-        ensures locks { KeepsLocks self.old.locks.held self.new.locks.held }
-    {
-        let _last = self.keep(to.0, lock)?;
+        let is_known = self.known.contains(to.0.bytes());
         self.know(to.0.copy()?)?;
-        match put_new(system, from, to.1) {
-            Ok(()) => Ok(()),
-            Err(error) => {
-                self.forget(to.0);
-                Err(error)
-            }
+        let answer = if is_known {
+            done(system.rename(from.1, to.1))
+        } else {
+            put_new(system, from.1, to.1)
+        };
+        match &answer {
+            Ok(()) if from.0.bytes() != to.0.bytes() => self.forget(from.0),
+            Err(_) if !is_known => self.forget(to.0),
+            _ => {}
         }
+        answer
     }
 
-    // Holds the lock for the path, unless that lies below a folder that was listed, and hands out the one that isn't held any more.
-    #[tactic(auto, using(crate::proofs::LockLemmas::keeps_locks_same, crate::proofs::LockLemmas::keeps_locks_on))]
-    fn keep(&mut self, path: &Text, lock: Lock<H>) -> Mem<Option<Lock<H>>>
-        ensures written { self.new.written ≡ self.old.written }
-        ensures locks { KeepsLocks self.old.locks.held self.new.locks.held }
-    {
-        if self.is_below_listed(path) {
-            return Ok(Some(lock));
-        }
-        self.locks.put(path, lock)
-    }
-
-    // The lock of the file that was written last, which still stands at the path.
+    // The file that was written last, which still stands at the path.
     fn take_written<S: System<Handle = H>>(
         &mut self,
         system: &mut S,
         place: (&Text, &str),
-    ) -> Result<Lock<H>, FilesError>
+    ) -> Result<Written<H>, FilesError>
         ensures taken { OnOk result (self.new.written ≡ None) }
         ensures locks { self.new.locks ≡ self.old.locks }
+        ensures known { self.new.known ≡ self.old.known }
     {
         let (path, name) = place;
         match self.written.take() {
-            Some(Written { path: own, lock }) if own.bytes() == path.bytes() => {
-                if stands_at(system, name, lock.id) {
-                    Ok(lock)
+            Some(written) if written.path.bytes() == path.bytes() => {
+                if stands_at(system, name, written.lock.id) {
+                    Ok(written)
                 } else {
                     Err(FilesError::Failed)
                 }

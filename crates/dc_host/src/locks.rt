@@ -1,7 +1,7 @@
 // The locks that a program holds: advisory ones of the system, each on a whole file.
-ghost use Rattle.std.specs.Prelude.{◌≡◌, OnOk, true};
+ghost use Rattle.std.specs.Prelude.{◌≡◌, IfOk, OnErr, OnOk, Some, true};
 ghost use Rattle.std.specs.FinMap as map;
-ghost use Rattle.dc_host.specs.Locks.{KeepsLocks};
+ghost use Rattle.dc_host.specs.Locks.{holds, is_of, KeepsLocks};
 
 use crate::paths::failed;
 use crate::system::{FileId, Handle};
@@ -16,7 +16,16 @@ pub struct Lock<H> {
     pub id: FileId,
 }
 
-/// The locks that are held to the end of the program, each at the path of its file.
+impl<H> Lock<H> {
+    // Whether it is the lock of this file.
+    fn is_of(&self, id: FileId) -> bool
+        ensures { result ≡ is_of id self.now }
+    {
+        self.id.device == id.device && self.id.number == id.number
+    }
+}
+
+/// The locks that are held, each at the path of its file.
 #[derive(Drop)]
 pub struct Locks<H> {
     held: TextMap<Lock<H>>,
@@ -33,20 +42,25 @@ impl<H: Drop> Locks<H> {
     }
 
     /// Whether the lock of the file is held, at whichever path.
-    pub fn holds(&self, id: FileId) -> bool {
+    pub fn holds(&self, id: FileId) -> bool
+        ensures { result ≡ holds self.now.held id }
+    {
         for (_, lock) in self.held.iter() {
-            if lock.id == id {
+            if lock.is_of(id) {
                 return true;
             }
         }
         false
     }
 
-    /// Holds the lock for the path, and hands out the one that was held for it.
-    #[tactic(auto, using(crate::proofs::LockLemmas::holds_with, crate::proofs::LockLemmas::keeps_locks_with, crate::proofs::LockLemmas::keeps_locks_same))]
+    /// Holds the lock for the path, and hands out the last one, which was held for it.
+    #[tactic(auto, using(crate::proofs::LockLemmas::held_with, crate::proofs::LockLemmas::no_lock, crate::proofs::LockLemmas::keeps_locks_with, crate::proofs::LockLemmas::keeps_locks_same))]
     pub fn put(&mut self, path: &Text, lock: Lock<H>) -> Mem<Option<Lock<H>>>
-        ensures held { OnOk result (map.contains_key self.new.held path.now ≡ true) }
+        ensures held { OnOk result (map.get self.new.held path.now ≡ Some lock) }
+        ensures others { OnOk result (self.new.held ≡ map.insert self.old.held path.now lock) }
+        ensures last { IfOk result (λ last. last ≡ map.get self.old.held path.now) }
         ensures kept { KeepsLocks self.old.held self.new.held }
+        ensures err { OnErr result (self.new.held ≡ self.old.held) }
     {
         if self.held.contains(path.bytes()) {
             return Ok(Some(self.held.replace(path.bytes(), lock)));
@@ -54,10 +68,22 @@ impl<H: Drop> Locks<H> {
         self.held.insert(path.copy()?, lock)?;
         Ok(None)
     }
+
+    /// Holds the last lock for the path again, and hands out the one that was put in its place. It takes no memory.
+    #[tactic(auto, using(crate::proofs::LockLemmas::keeps_locks_with))]
+    pub fn give_back(&mut self, path: &Text, last: Lock<H>) -> Lock<H>
+        requires { map.contains_key self.old.held path.now ≡ true }
+        ensures put { map.get self.old.held path.now ≡ Some result }
+        ensures last { self.new.held ≡ map.insert self.old.held path.now last }
+        ensures kept { KeepsLocks self.old.held self.new.held }
+    {
+        self.held.replace(path.bytes(), last)
+    }
 }
 
-/// Locks the file without waiting. One that another program has locked is a fault.
-pub fn take_lock<H: Handle>(file: &H) -> Result<(), FilesError> {
+/// Locks the file without waiting. One that another program has locked is a fault. No clause says which is: what the system does is no
+/// value of this program.
+pub(crate) fn take_lock<H: Handle>(file: &H) -> Result<(), FilesError> {
     match file.try_lock() {
         Ok(true) => Ok(()),
         Ok(false) => Err(FilesError::Failed),

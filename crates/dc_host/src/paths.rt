@@ -1,5 +1,5 @@
 // Paths as the host takes them, and what its errors mean.
-ghost use Rattle.std.specs.Prelude.{◌≡◌, ◌↔◌, ◌⊎◌, IfErr, IfOk, IsOk, IsTrue};
+ghost use Rattle.std.specs.Prelude.{◌≡◌, ◌↔◌, ◌⊎◌, IfErr, IfOk, IsOk, IsTrue, Ok};
 ghost use Rattle.std.specs.IoError.{error_kind};
 ghost use Rattle.std.specs.Str.{IsUtf8};
 ghost use Rattle.dc_host.specs.Folders.{joined};
@@ -68,7 +68,9 @@ pub fn failed(error: &io::Error) -> FilesError
 
 /// The answer as the files give it.
 pub fn done<T: Drop>(answer: io::Result<T>) -> Result<T, FilesError>
-    ensures { IsOk result ↔ IsOk answer }
+    ensures taken { IsOk result ↔ IsOk answer }
+    ensures ok { IfOk result (λ value. answer ≡ Ok value) }
+    ensures failed { IfErr answer (λ cause. IfErr result (λ error. (error ≡ FilesError.OutOfMemory) ↔ (error_kind cause ≡ ErrorKind.OutOfMemory))) }
 {
     match answer {
         Ok(value) => Ok(value),

@@ -11,8 +11,8 @@ pub const LOCK_NAME: &[u8] = b".lock";
 
 /// The paths of all files at any depth below the folder, relative to it, but for that of its lock. Links are followed; one that
 /// leads nowhere is passed over, and so is what is neither a file nor a folder. A folder that is come to by two paths is a fault, since its
-/// files would be those of either. There are none below a folder that isn't there.
-pub fn files_below<S: System>(
+/// files would be those of either. There are none below a folder that isn't there. No clause says which they are: that is the system's.
+pub(crate) fn files_below<S: System>(
     alloc: Global,
     system: &mut S,
     root: &Text,
