@@ -1,6 +1,7 @@
 -- What an item keeps, when something is put into it, and owners in order.
-use Rattle.std.proofs.Common.{◌≡◌, ℕ, ◌+◌, ◌<◌, ◌≤◌, arith, length, take, get_or, Bool, true, false, cond, List, [], ◌∷◌, ◌++◌, Some, None, Option, map as each, refl, sym, ap, ◌∙◌}
-use Rattle.std.specs.Prelude.{is_some, not, ◌&&◌, ◌||◌}
+use Rattle.std.proofs.Common.{◌≡◌, ℕ, ◌+◌, ◌<◌, ◌≤◌, arith, length, take, get_or, Bool, Bor, true, false, cond, List, [], ◌∷◌, ◌++◌, Some, None, Option, map as each, refl, sym, ap, ◌∙◌}
+use Rattle.std.specs.Prelude.{is_some, IfSome, not, ◌&&◌, ◌||◌}
+use Rattle.std.specs.Option.{option_copied}
 use Rattle.std.specs.List.{filter, list_all, list_any}
 use Rattle.std.proofs.lemmas.List.{take_more}
 use Rattle.std.specs.declared.cmp.Ordering.{Ordering}
@@ -31,6 +32,11 @@ same_key q k e = exact_texts q k (is_equal _ e)
 -- each key passes, and each value
 abbrev pub Keeps : (List ℕ → Bool) → (List ℕ → Bool) → Texts (List ℕ) → Type 0
 Keeps p q m = (key value : List ℕ) → get m key ≡ Some value → (p key ≡ true) × (q value ≡ true)
+
+-- a value that is found passes
+pub found_passes : (p q : List ℕ → Bool) (m : Texts (List ℕ)) (key : List ℕ) (found : Option (Bor (List ℕ))) → option_copied found ≡ get m key → Keeps p q m → IfSome found (λ text. q text.now ≡ true)
+found_passes p q m key None is keeps = tt
+found_passes p q m key (Some text) is keeps = (keeps key text.now (sym is)).1
 
 no_value : (key value : List ℕ) → get (empty {K = List ℕ} {X = List ℕ} {R = text_cmp}) key ≡ Some value → ⊥
 no_value key value e = let n : get (empty {K = List ℕ} {X = List ℕ} {R = text_cmp}) key ≡ None = get-empty text_cmp key in cc

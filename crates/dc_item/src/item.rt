@@ -1,9 +1,10 @@
 // Items: the fields, flags, variables and owners of questions and templates.
-ghost use Rattle.std.specs.Prelude.{◌≡◌, IfOk, OnOk, OnErr, true, map as each};
+ghost use Rattle.std.specs.Prelude.{◌≡◌, IfOk, IfSome, OnOk, OnErr, true, map as each};
 ghost use Rattle.std.specs.FinMap as map;
 ghost use Rattle.std.specs.Option.{option_copied};
 ghost use Rattle.dc_text.specs.Bytes.{is_nil};
 ghost use Rattle.dc_text.specs.Names.{is_name, is_flag_name};
+ghost use Rattle.dc_text.specs.Settled.{is_settled};
 ghost use Rattle.dc_item.specs.After.{with_flag, without, parts_eq};
 ghost use Rattle.dc_item.specs.Item.{no_parts, IsItem};
 ghost use Rattle.dc_item.specs.Sections.{parts_in, IsParts, under, keys_under, fields_mark, owners_mark, flags_mark, variables_mark};
@@ -58,7 +59,8 @@ impl Item {
 
     /// The value of the field, if the item has it. Keys are in lower case.
     pub fn field(&self, key: &[u8]) -> Option<&[u8]>
-        ensures { option_copied result ≡ map.get self.now.fields key.now }
+        ensures value { option_copied result ≡ map.get self.now.fields key.now }
+        ensures settled { IfSome result (λ text. is_settled text.now ≡ true) }
     {
         self.parts.get(FIELDS, key)
     }
@@ -72,7 +74,8 @@ impl Item {
 
     /// The value of the variable, if the item has it.
     pub fn var(&self, key: &[u8]) -> Option<&[u8]>
-        ensures { option_copied result ≡ map.get self.now.variables key.now }
+        ensures value { option_copied result ≡ map.get self.now.variables key.now }
+        ensures settled { IfSome result (λ text. is_settled text.now ≡ true) }
     {
         self.parts.get(VARIABLES, key)
     }
