@@ -4,7 +4,6 @@ pub mod FirstBad
 pub mod FurtherLines
 pub mod Groups
 pub mod ItemLemmas
-pub mod LineNumberLemmas
 pub mod OpenRecord
 pub mod PartLemmas
 pub mod PieceLemmas

@@ -8,8 +8,7 @@ use Rattle.dc_text.specs.Maps.{set_of}
 use Rattle.dc_item.specs.Item.{no_parts}
 use Rattle.dc_item.specs.Records.{numbered}
 use Rattle.dc_item.specs.Table.{names_of}
-use Rattle.dc_item.specs.declared.record_line.RecordLine.{RecordLine}
-use Rattle.dc_item.specs.declared.record_line.RecordLine.TheVariants.{Blank, Name, Owners, Flags, Variables, Variable, Field, Nothing}
+use Rattle.dc_item.specs.Grammar.{RecordLine, Blank, Name, Owners, Flags, Variables, Variable, Field, Nothing}
 use Rattle.dc_item.specs.declared.entry.Entry.{Entry}
 use Rattle.dc_item.specs.declared.records.RecordError.{RecordError}
 use Rattle.dc_item.specs.declared.records.RecordError.TheVariants.{Bad, OutOfMemory}

@@ -9,13 +9,12 @@ ghost use Rattle.dc_text.specs.Names.{is_name as is_name_of, is_flag_name as is_
 ghost use Rattle.dc_text.specs.Settled.{settled};
 ghost use Rattle.dc_parts.specs.Usual.{usual_name};
 ghost use Rattle.dc_item.specs.Item.{no_parts};
-ghost use Rattle.dc_item.specs.Grammar.{line_said, pieces, headed_line, indented_line, name_line, owners_line, flags_line, variables_line, field_line, variable_line};
+ghost use Rattle.dc_item.specs.Grammar.{line_said, pieces, headed_line, indented_line, name_line, owners_line, flags_line, variables_line, field_line, variable_line, Name as NameLine};
 ghost use Rattle.dc_item.specs.Heads.{head_said};
 ghost use Rattle.dc_item.specs.Plain.{PlainIf};
 
 use crate::item_builder::ItemBuilder;
 use crate::reading::{Head, flags_in, is_word, names_in, usual_head};
-use crate::record_line::RecordLine;
 use crate::records_read::Records;
 use dc_parts::UsualKey;
 use dc_text::bytes::{is_blank, is_indented, split_at_byte, trim, without_space};
@@ -399,7 +398,7 @@ impl Reader {
 
     // Begins a record of the name, and answers whether one begins here.
     fn begin(&mut self, number: u64, name: Name) -> bool
-        ensures { step self.old number (RecordLine.Name name) ≡ (if result then Some self.new else None) }
+        ensures { step self.old number (NameLine name) ≡ (if result then Some self.new else None) }
     {
         if self.current.is_some() || self.done.has(name.bytes()) {
             return false;
