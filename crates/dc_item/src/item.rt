@@ -6,7 +6,7 @@ ghost use Rattle.dc_text.specs.Bytes.{is_nil};
 ghost use Rattle.dc_text.specs.Names.{is_name, is_flag_name};
 ghost use Rattle.dc_text.specs.Settled.{is_settled};
 ghost use Rattle.dc_item.specs.After.{with_flag, without, parts_eq};
-ghost use Rattle.dc_item.specs.Item.{no_parts, IsItem};
+ghost use Rattle.dc_item.specs.Item.{no_parts, with_field, with_variable, without_both, IsItem};
 ghost use Rattle.dc_item.specs.Sections.{parts_in, IsParts, under, keys_under, fields_mark, owners_mark, flags_mark, variables_mark};
 
 use crate::marks::{FIELDS, FLAGS, OWNERS, VARIABLES};
@@ -125,7 +125,7 @@ impl Item {
 
     /// The item without this field and this flag.
     pub fn without(&self, field: &[u8], flag: &[u8]) -> Mem<Item>
-        ensures { IfOk result (λ item. item ≡ record self.now { fields = map.remove self.now.fields field.now; flags = map.remove self.now.flags flag.now }) }
+        ensures { IfOk result (λ item. item ≡ without_both self.now field.now flag.now) }
     {
         let mut item = self.copy()?;
         item.drop_field(field);
@@ -135,7 +135,7 @@ impl Item {
 
     // Puts the field, in the place of one with its key.
     pub(crate) fn put_field(&mut self, key: &FieldKey, value: &Settled) -> Mem<()>
-        ensures ok { OnOk result (self.new ≡ record self.old { fields = map.insert self.old.fields key.now value.now }) }
+        ensures ok { OnOk result (self.new ≡ with_field self.old key.now value.now) }
         ensures err { OnErr result (self.new ≡ self.old) }
     {
         self.parts.insert(FIELDS, key.bytes(), value.bytes())?;
@@ -144,7 +144,7 @@ impl Item {
 
     // Puts the variable, in the place of one with its key.
     pub(crate) fn put_variable(&mut self, key: &VarKey, value: &Settled) -> Mem<()>
-        ensures ok { OnOk result (self.new ≡ record self.old { variables = map.insert self.old.variables key.now value.now }) }
+        ensures ok { OnOk result (self.new ≡ with_variable self.old key.now value.now) }
         ensures err { OnErr result (self.new ≡ self.old) }
     {
         self.parts.insert(VARIABLES, key.bytes(), value.bytes())?;
