@@ -99,6 +99,10 @@ pub list_all-push : (p : List ℕ → Bool) (ts : List (List ℕ)) (t : List ℕ
 list_all-push p [] t all e = rw e refl
 list_all-push p (s ∷ ts) t all e = let parts : (p s ≡ true) × (list_all p ts ≡ true) = both _ _ all in rw parts.0 (list_all-push p ts t parts.1 e)
 
+-- where each text of a list passes, the first does, and each of the others
+pub first_passes : (p : List ℕ → Bool) (all rest : List (List ℕ)) (t : List ℕ) → all ≡ t ∷ rest → list_all p all ≡ true → (p t ≡ true) × (list_all p rest ≡ true)
+first_passes p all rest t is passed = both (p t) (list_all p rest) (ap (list_all p) (sym is) ∙ passed)
+
 -- ---- items
 
 pub IsItem-no_parts : IsItem no_parts

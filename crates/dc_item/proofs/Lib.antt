@@ -5,6 +5,7 @@ pub mod FurtherLines
 pub mod Groups
 pub mod ItemLemmas
 pub mod OpenRecord
+pub mod OwnerLemmas
 pub mod PartLemmas
 pub mod PieceLemmas
 pub mod PlainLines

@@ -7,10 +7,11 @@ ghost use Rattle.dc_text.specs.Names.{is_name, is_flag_name};
 ghost use Rattle.dc_text.specs.Settled.{is_settled};
 ghost use Rattle.dc_item.specs.After.{with_flag, without, parts_eq};
 ghost use Rattle.dc_item.specs.Item.{no_parts, with_field, with_variable, without_both, IsItem};
+ghost use Rattle.dc_item.specs.Owners.{owners_left};
 ghost use Rattle.dc_item.specs.Sections.{parts_in, IsParts, under, keys_under, fields_mark, owners_mark, flags_mark, variables_mark};
 
 use crate::marks::{FIELDS, FLAGS, OWNERS, VARIABLES};
-use crate::owners::{are_all_named, owners_among};
+use crate::owners::{Owners, are_all_named, names_of};
 use crate::same::are_same;
 use dc_parts::PartMap;
 use dc_text::{FieldKey, FlagName, List, Mem, Name, Settled, VarKey};
@@ -80,14 +81,19 @@ impl Item {
         self.parts.get(VARIABLES, key)
     }
 
-    /// The owners, in byte order.
-    pub fn owners(&self) -> Mem<List<Name>>
-        ensures owners { IfOk result (λ owners. owners ≡ map.keys self.now.owners) }
+    /// The owners, in byte order. To go over them takes no memory.
+    pub fn owners(&self) -> Owners<'_>
+        ensures owners { owners_left result ≡ map.keys self.now.owners }
         ensures item { IsItem self.now }
     {
-        let entries = self.parts.entries()?;
-        let owners = owners_among(self.alloc, &entries)?;
-        Ok(owners)
+        Owners::among(self.parts.iter())
+    }
+
+    /// The names of the owners, in byte order.
+    pub fn owner_names(&self) -> Mem<List<Name>>
+        ensures { IfOk result (λ names. names ≡ map.keys self.now.owners) }
+    {
+        names_of(self.alloc, self.owners())
     }
 
     // All that stands in the item, at keys with their marks, in byte order.
@@ -235,7 +241,6 @@ impl Item {
     pub(crate) fn are_owners_named(&self, names: &List<Name>) -> Mem<bool>
         ensures { IfOk result (λ are. are ≡ is_nil (map.keys (without self.now.owners names.now))) }
     {
-        let owners = self.owners()?;
-        are_all_named(self.alloc, &owners, names)
+        are_all_named(self.alloc, self.owners(), names)
     }
 }

@@ -140,6 +140,17 @@ impl ItemBuilder {
         Ok(())
     }
 
+    /// Makes the item's owners the owners, where there are none. Where memory runs out, some of them may be.
+    pub fn put_owners_of(&mut self, item: &Item) -> Mem<()>
+        requires { self.old.owners ≡ map.empty }
+        ensures { OnOk result (self.new ≡ record self.old { owners = item.now.owners }) }
+    {
+        for owner in item.owners() {
+            self.put_owner(owner)?;
+        }
+        Ok(())
+    }
+
     /// Hands out the item, in memory of just its size, and leaves nothing but memory for others.
     pub fn take(&mut self) -> Mem<Item>
         ensures taken { IfOk result (λ taken. taken ≡ self.old) }

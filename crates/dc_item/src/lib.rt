@@ -22,7 +22,7 @@ pub use entry::Entry;
 pub use item::Item;
 pub use item_builder::ItemBuilder;
 pub use op::{After, Op};
-pub use owners::in_order;
+pub use owners::{Owners, in_order};
 pub use printing::{print_record, print_records};
 pub use records::{RecordError, read_records};
 pub use records_read::Records;

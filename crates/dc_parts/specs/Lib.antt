@@ -1,3 +1,4 @@
+pub mod Entries
 pub mod Keys
 pub mod Packed
 pub mod PartMap

@@ -51,6 +51,18 @@ fn split_key(bytes: &[u8]) -> (&[u8], &[u8])
     }
 }
 
+// The first of packed entries, its key and its value, and those behind it.
+pub(crate) fn split_entry<'a>(bytes: &'a [u8]) -> (&'a [u8], &'a [u8], &'a [u8])
+    requires packed { IsPacked bytes.now }
+    requires some { 0 < length bytes.now }
+    ensures first { entries_in bytes.now ≡ (result.0.now, result.1.now) ∷ entries_in result.2.now }
+    ensures rest { IsPacked result.2.now }
+{
+    let (key, behind_key) = split_key(bytes);
+    let (value, behind) = split_text(behind_key);
+    (key, value, behind)
+}
+
 // The order of a key and that of the first of packed entries, and what stands behind the latter.
 #[inline(always)]
 fn compare_front<'a>(key: PartKey, bytes: &'a [u8]) -> (Ordering, &'a [u8])
