@@ -7,10 +7,9 @@ use Rattle.std.proofs.lemmas.Bool.{cases_lt}
 use Rattle.dc_text.specs.Faults.{AllStand, IsFirstFault}
 use Rattle.dc_text.specs.Lines.{lines_of}
 use Rattle.dc_text.proofs.FaultLemmas.{not_in_nil}
-use Rattle.dc_item.specs.Grammar.{line_said}
+use Rattle.dc_item.specs.Grammar.{line_said, RecordLine}
 use Rattle.dc_item.specs.Records.{numbered, LineStands, HasReading, IsBadAt, IsBad, records_of}
 use Rattle.dc_item.proofs.Groups.{Line}
-use Rattle.dc_item.specs.declared.record_line.RecordLine.{RecordLine}
 
 -- a line that doesn't stand has one fault
 abbrev pub HasFault : List Line → Line → List Line → Unit {0} → Type 0

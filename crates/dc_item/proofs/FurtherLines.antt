@@ -8,14 +8,12 @@ use Rattle.dc_text.specs.Ascii.{equals_sign}
 use Rattle.dc_text.specs.Bytes.{is_blank as are_blank, is_indented, trimmed, without_space}
 use Rattle.dc_text.specs.Names.{is_name, is_field_key, is_flag_name, is_variable_key}
 use Rattle.dc_text.specs.Settled.{settled}
-use Rattle.dc_item.specs.Grammar.{pieces, line_said, headed_line, indented_line, name_line, owners_line, flags_line, variables_line, field_line, variable_line}
+use Rattle.dc_item.specs.Grammar.{pieces, line_said, headed_line, indented_line, name_line, owners_line, flags_line, variables_line, field_line, variable_line, RecordLine, Owners, Flags, Variables, Variable, Field, Nothing}
 use Rattle.dc_item.specs.Heads.{front_of, head_said}
 use Rattle.dc_item.specs.Reader.{added, step, with_current}
 use Rattle.dc_parts.specs.declared.usual.UsualKey.TheVariants as usual
 use Rattle.dc_item.specs.declared.reading.Head.{Head}
 use Rattle.dc_item.specs.declared.reading.Head.TheVariants as head
-use Rattle.dc_item.specs.declared.record_line.RecordLine.{RecordLine}
-use Rattle.dc_item.specs.declared.record_line.RecordLine.TheVariants.{Owners, Flags, Variables, Variable, Field, Nothing}
 use Rattle.dc_item.specs.declared.reader.Open.{Open}
 use Rattle.dc_item.specs.declared.reader.Reader.{Reader}
 

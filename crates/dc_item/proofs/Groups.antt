@@ -6,8 +6,7 @@ use Rattle.std.proofs.lemmas.List.{map-append}
 use Rattle.dc_text.proofs.FirstLemmas.{before_first-cons, before_first-later, after_last-cons}
 use Rattle.dc_item.specs.Records.{is_blank, until_blank, since_blank, name_in, item_of, lines_said, record_at, records_of}
 use Rattle.dc_item.specs.Table.{names_of}
-use Rattle.dc_item.specs.declared.record_line.RecordLine.{RecordLine}
-use Rattle.dc_item.specs.declared.record_line.RecordLine.TheVariants.{Blank, Name, Owners, Flags, Variables, Variable, Field, Nothing}
+use Rattle.dc_item.specs.Grammar.{RecordLine, Blank, Name, Owners, Flags, Variables, Variable, Field, Nothing}
 use Rattle.dc_item.specs.declared.entry.Entry.{Entry}
 
 -- a line and its number

@@ -1,6 +1,7 @@
 -- What an item keeps, when something is put into it, and owners in order.
-use Rattle.std.proofs.Common.{◌≡◌, ℕ, ◌+◌, ◌<◌, ◌≤◌, arith, length, take, get_or, Bool, true, false, cond, List, [], ◌∷◌, ◌++◌, Some, None, Option, map as each, refl, sym, ap, ◌∙◌}
-use Rattle.std.specs.Prelude.{is_some, not, ◌&&◌, ◌||◌}
+use Rattle.std.proofs.Common.{◌≡◌, ℕ, ◌+◌, ◌<◌, ◌≤◌, arith, length, take, get_or, Bool, Bor, true, false, cond, List, [], ◌∷◌, ◌++◌, Some, None, Option, map as each, refl, sym, ap, ◌∙◌}
+use Rattle.std.specs.Prelude.{is_some, IfSome, not, ◌&&◌, ◌||◌}
+use Rattle.std.specs.Option.{option_copied}
 use Rattle.std.specs.List.{filter, list_all, list_any}
 use Rattle.std.proofs.lemmas.List.{take_more}
 use Rattle.std.specs.declared.cmp.Ordering.{Ordering}
@@ -31,6 +32,11 @@ same_key q k e = exact_texts q k (is_equal _ e)
 -- each key passes, and each value
 abbrev pub Keeps : (List ℕ → Bool) → (List ℕ → Bool) → Texts (List ℕ) → Type 0
 Keeps p q m = (key value : List ℕ) → get m key ≡ Some value → (p key ≡ true) × (q value ≡ true)
+
+-- a value that is found passes
+pub found_passes : (p q : List ℕ → Bool) (m : Texts (List ℕ)) (key : List ℕ) (found : Option (Bor (List ℕ))) → option_copied found ≡ get m key → Keeps p q m → IfSome found (λ text. q text.now ≡ true)
+found_passes p q m key None is keeps = tt
+found_passes p q m key (Some text) is keeps = (keeps key text.now (sym is)).1
 
 no_value : (key value : List ℕ) → get (empty {K = List ℕ} {X = List ℕ} {R = text_cmp}) key ≡ Some value → ⊥
 no_value key value e = let n : get (empty {K = List ℕ} {X = List ℕ} {R = text_cmp}) key ≡ None = get-empty text_cmp key in cc
@@ -92,6 +98,10 @@ all_keys p s keeps = every p (keys s) (λ q e. keeps q (contains_key-keys s q �
 pub list_all-push : (p : List ℕ → Bool) (ts : List (List ℕ)) (t : List ℕ) → list_all p ts ≡ true → p t ≡ true → list_all p (ts ++ t ∷ []) ≡ true
 list_all-push p [] t all e = rw e refl
 list_all-push p (s ∷ ts) t all e = let parts : (p s ≡ true) × (list_all p ts ≡ true) = both _ _ all in rw parts.0 (list_all-push p ts t parts.1 e)
+
+-- where each text of a list passes, the first does, and each of the others
+pub first_passes : (p : List ℕ → Bool) (all rest : List (List ℕ)) (t : List ℕ) → all ≡ t ∷ rest → list_all p all ≡ true → (p t ≡ true) × (list_all p rest ≡ true)
+first_passes p all rest t is passed = both (p t) (list_all p rest) (ap (list_all p) (sym is) ∙ passed)
 
 -- ---- items
 

@@ -4,8 +4,8 @@ pub mod FirstBad
 pub mod FurtherLines
 pub mod Groups
 pub mod ItemLemmas
-pub mod LineNumberLemmas
 pub mod OpenRecord
+pub mod OwnerLemmas
 pub mod PartLemmas
 pub mod PieceLemmas
 pub mod PlainLines

@@ -16,8 +16,7 @@ use Rattle.dc_text.proofs.MapLemmas.{exact_texts}
 use Rattle.dc_item.specs.Records.{field_in, variable_in, owners_in, flags_in, item_of, IsNew, EndsInVariables, IsOfVariables, Slot, OfName, OfOwners, OfFlags, OfVariables, OfVariable, OfField, slot_of}
 use Rattle.dc_item.specs.Reader.{added}
 use Rattle.dc_item.proofs.Groups.{IsFurther}
-use Rattle.dc_item.specs.declared.record_line.RecordLine.{RecordLine}
-use Rattle.dc_item.specs.declared.record_line.RecordLine.TheVariants.{Blank, Name, Owners, Flags, Variables, Variable, Field, Nothing}
+use Rattle.dc_item.specs.Grammar.{RecordLine, Blank, Name, Owners, Flags, Variables, Variable, Field, Nothing}
 use Rattle.dc_item.specs.Item.{ItemParts}
 use Rattle.dc_item.specs.declared.reader.Open.{Open}
 

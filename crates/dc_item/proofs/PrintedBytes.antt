@@ -13,9 +13,8 @@ use Rattle.dc_text.specs.Names.{is_name, is_name_byte, is_visible, is_lower_lett
 use Rattle.dc_text.specs.Settled.{settled, is_settled, newlines_shown}
 use Rattle.dc_text.proofs.LineLemmas.{drop_back-passes}
 use Rattle.dc_text.proofs.SettledLemmas.{settled-shown}
-use Rattle.dc_item.specs.Grammar.{line_said, headed_line, pieces, indented_line, variable_line}
+use Rattle.dc_item.specs.Grammar.{line_said, headed_line, pieces, indented_line, variable_line, Blank, Name, Owners, Flags, Variable, Field, Nothing}
 use Rattle.dc_item.specs.Printed.{owners_head, flags_head, shown_field, shown_variable, joined}
-use Rattle.dc_item.specs.declared.record_line.RecordLine.TheVariants.{Blank, Name, Owners, Flags, Variable, Field, Nothing}
 
 -- ---- tests on bytes
 

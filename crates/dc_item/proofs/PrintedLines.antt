@@ -20,8 +20,7 @@ use Rattle.dc_item.specs.Records.{until_blank, since_blank, name_in, field_in, v
 use Rattle.dc_item.specs.Table.{contents}
 use Rattle.dc_item.proofs.Groups.{Line, lines_said-append, IsFurther, since_blank-blank, since_blank-push, until_blank-body}
 use Rattle.dc_item.proofs.OpenRecord.{FitsGroup, IsNew-push, ends_to}
-use Rattle.dc_item.specs.declared.record_line.RecordLine.{RecordLine}
-use Rattle.dc_item.specs.declared.record_line.RecordLine.TheVariants.{Blank, Name, Owners, Flags, Variables, Variable, Field, Nothing}
+use Rattle.dc_item.specs.Grammar.{RecordLine, Blank, Name, Owners, Flags, Variables, Variable, Field, Nothing}
 use Rattle.dc_item.specs.Item.{ItemParts}
 use Rattle.dc_item.specs.declared.entry.Entry.{Entry}
 

@@ -15,7 +15,7 @@ use Rattle.dc_text.proofs.LineLaws.{lines_of-text_of}
 use Rattle.dc_text.specs.Maps.{AreDistinct, Texts, TextSet, text_cmp}
 use Rattle.dc_text.specs.Names.{is_name, is_field_key, is_flag_name, is_variable_key}
 use Rattle.dc_text.specs.Settled.{is_settled}
-use Rattle.dc_item.specs.Grammar.{line_said}
+use Rattle.dc_item.specs.Grammar.{line_said, RecordLine, Blank, Name, Variables}
 use Rattle.dc_item.specs.Item.{ItemParts, IsItem}
 use Rattle.dc_item.specs.Records.{numbered, lines_said, records_of, Reads, ReadsLines, IsNewName}
 use Rattle.dc_item.specs.Printed.{canon, table_text, record_lines, shown_field, shown_variable, list_lines, variable_lines, owners_head, flags_head}
@@ -23,8 +23,6 @@ use Rattle.dc_item.specs.Table.{names_of, table_of, contents, IsEntry, IsTable, 
 use Rattle.dc_item.proofs.ItemLemmas.{same_key}
 use Rattle.dc_item.proofs.PrintedBytes.{Free, IsWord, name_word_is, owners_words, flags_words, name_said, owners_said, flags_said, list_one_line, field_one_line, field_said, variable_one_line, variable_said}
 use Rattle.dc_item.proofs.PrintedLines.{field_part, variable_part, owners_part, flags_part, variables_part, parts_of, PartsStand, PartsStand-nil, lines_stand, parts_stand, keys_apart, contents_of, contents-records_of, contents_again}
-use Rattle.dc_item.specs.declared.record_line.RecordLine.{RecordLine}
-use Rattle.dc_item.specs.declared.record_line.RecordLine.TheVariants.{Blank, Name, Variables}
 use Rattle.dc_item.specs.declared.entry.Entry.{Entry}
 
 -- ---- lines printed one after another are read as these lines

@@ -11,15 +11,13 @@ use Rattle.dc_text.specs.Maps.{text_cmp}
 use Rattle.dc_text.specs.Names.{is_name, is_field_key, is_flag_name, is_variable_key}
 use Rattle.dc_text.specs.Settled.{is_settled}
 use Rattle.dc_text.proofs.SettledLemmas.{is_settled-settled}
-use Rattle.dc_item.specs.Grammar.{line_said, pieces, name_line, owners_line, flags_line, variables_line, field_line, headed_line, variable_line, indented_line}
+use Rattle.dc_item.specs.Grammar.{line_said, pieces, name_line, owners_line, flags_line, variables_line, field_line, headed_line, variable_line, indented_line, RecordLine, Blank, Name, Owners, Flags, Variables, Variable, Field, Nothing}
 use Rattle.dc_item.specs.Item.{ItemParts, IsItem}
 use Rattle.dc_text.proofs.FirstLemmas.{before_first-cons}
 use Rattle.dc_item.specs.Records.{is_blank, until_blank, field_in, variable_in, owners_in, flags_in, item_of, lines_said, record_at, records_of, numbered, ReadsLines}
 use Rattle.dc_item.specs.Table.{contents, table_of, IsEntry, IsTable}
 use Rattle.dc_item.proofs.Groups.{Line}
 use Rattle.dc_item.proofs.ItemLemmas.{same_key, KeepsAll-set_of}
-use Rattle.dc_item.specs.declared.record_line.RecordLine.{RecordLine}
-use Rattle.dc_item.specs.declared.record_line.RecordLine.TheVariants.{Blank, Name, Owners, Flags, Variables, Variable, Field, Nothing}
 use Rattle.dc_item.specs.declared.entry.Entry.{Entry}
 
 -- ---- what a line says is such that an item can hold it

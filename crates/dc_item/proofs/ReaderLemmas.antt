@@ -21,8 +21,7 @@ use Rattle.dc_item.proofs.FirstBad.{HasFault, bad_from_fault, reading_from_all}
 use Rattle.dc_item.proofs.Groups.{Line, lines_said-append, IsFurther, since_blank-blank, since_blank-push, records_of-closed, until_blank-body, tail_only, names-records_of}
 use Rattle.dc_item.proofs.ItemLemmas.{same_key, contains_key-set_of}
 use Rattle.dc_item.proofs.OpenRecord.{IsOpen, FitsGroup, Taken, added_taken, added_refused}
-use Rattle.dc_item.specs.declared.record_line.RecordLine.{RecordLine}
-use Rattle.dc_item.specs.declared.record_line.RecordLine.TheVariants.{Blank, Name, Owners, Flags, Variables, Variable, Field, Nothing}
+use Rattle.dc_item.specs.Grammar.{RecordLine, Blank, Name, Owners, Flags, Variables, Variable, Field, Nothing}
 use Rattle.dc_item.specs.declared.entry.Entry.{Entry}
 use Rattle.dc_item.specs.declared.reader.Open.{Open}
 use Rattle.dc_item.specs.declared.reader.Reader.{Reader}

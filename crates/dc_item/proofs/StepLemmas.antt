@@ -5,8 +5,7 @@ use Rattle.std.specs.Option.{option_map_or}
 use Rattle.std.specs.FinMap.{contains_key}
 use Rattle.dc_item.specs.Reader.{added, entry_of, has_name, step, IsOpen, IsReading}
 use Rattle.dc_item.proofs.ReaderLemmas.{name_kept}
-use Rattle.dc_item.specs.declared.record_line.RecordLine.{RecordLine}
-use Rattle.dc_item.specs.declared.record_line.RecordLine.TheVariants.{Blank, Name, Owners, Flags, Variables, Variable, Field, Nothing}
+use Rattle.dc_item.specs.Grammar.{RecordLine, Blank, Name, Owners, Flags, Variables, Variable, Field, Nothing}
 use Rattle.dc_item.specs.declared.reader.Open.{Open}
 use Rattle.dc_item.specs.declared.reader.Reader.{Reader}
 

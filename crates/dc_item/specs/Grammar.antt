@@ -7,8 +7,19 @@ use Rattle.dc_text.specs.Bytes.{is_blank, is_indented, trimmed, without_space, l
 use Rattle.dc_text.specs.Lines.{unless_empty}
 use Rattle.dc_text.specs.Names.{is_name, is_field_key, is_flag_name, is_variable_key}
 use Rattle.dc_text.specs.Settled.{settled}
-use Rattle.dc_item.specs.declared.record_line.RecordLine.{RecordLine}
-use Rattle.dc_item.specs.declared.record_line.RecordLine.TheVariants.{Blank, Name, Owners, Flags, Variables, Variable, Field, Nothing}
+
+-- what a line says, wherever it stands
+pub data RecordLine : Type 0 where
+  Blank : RecordLine
+  Name : (name : List ℕ) → RecordLine
+  Owners : (names : List (List ℕ)) → RecordLine
+  Flags : (flags : List (List ℕ)) → RecordLine
+  -- it heads the variables
+  Variables : RecordLine
+  Variable : (key value : List ℕ) → RecordLine
+  Field : (key value : List ℕ) → RecordLine
+  -- it has no reading
+  Nothing : RecordLine
 
 -- the pieces between commas, each trimmed, without empty ones
 abbrev pub pieces : List ℕ → List (List ℕ)

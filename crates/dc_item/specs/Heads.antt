@@ -3,10 +3,9 @@ use Rattle.std.specs.Prelude.{ℕ, List, ◌++◌, codes}
 use Rattle.dc_parts.specs.Usual.{usual_name}
 use Rattle.dc_parts.specs.declared.usual.UsualKey.{UsualKey}
 use Rattle.dc_parts.specs.declared.usual.UsualKey.TheVariants.{Default, Description, ExtendedDescription, Template, «Type», Value}
-use Rattle.dc_item.specs.Grammar.{name_line, owners_line, flags_line, variables_line, field_line}
+use Rattle.dc_item.specs.Grammar.{name_line, owners_line, flags_line, variables_line, field_line, RecordLine}
 use Rattle.dc_item.specs.declared.reading.Head.{Head}
 use Rattle.dc_item.specs.declared.reading.Head.TheVariants.{Name, Owners, Flags, Variables, Field}
-use Rattle.dc_item.specs.declared.record_line.RecordLine.{RecordLine}
 
 -- the key of a usual field as it is printed
 abbrev pub printed_name : UsualKey → List ℕ

@@ -18,6 +18,18 @@ pub record ItemParts : Type 0 where
 abbrev pub no_parts : ItemParts
 no_parts = record { fields = map.empty; flags = map.empty; variables = map.empty; owners = map.empty }
 
+-- the item with a field, in the place of one with its key
+abbrev pub with_field : ItemParts → List ℕ → List ℕ → ItemParts
+with_field item key value = record item { fields = map.insert item.fields key value }
+
+-- with a variable
+abbrev pub with_variable : ItemParts → List ℕ → List ℕ → ItemParts
+with_variable item key value = record item { variables = map.insert item.variables key value }
+
+-- without a field and a flag
+abbrev pub without_both : ItemParts → List ℕ → List ℕ → ItemParts
+without_both item field flag = record item { fields = map.remove item.fields field; flags = map.remove item.flags flag }
+
 -- What every item keeps: its keys, flags and owners are such that can be written, and its values are settled.
 pub record IsItem (parts : ItemParts) : Type 0 where
   pub fields : (key value : List ℕ) → map.get parts.fields key ≡ Some value → (is_field_key key ≡ true) × (is_settled value ≡ true)

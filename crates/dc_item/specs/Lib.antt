@@ -2,7 +2,7 @@ pub mod After
 pub mod Grammar
 pub mod Heads
 pub mod Item
-pub mod LineNumbers
+pub mod Owners
 pub mod Plain
 pub mod Printed
 pub mod Reader

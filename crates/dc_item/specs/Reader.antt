@@ -8,8 +8,7 @@ use Rattle.dc_text.specs.Maps.{set_of}
 use Rattle.dc_item.specs.Item.{no_parts}
 use Rattle.dc_item.specs.Records.{numbered}
 use Rattle.dc_item.specs.Table.{names_of}
-use Rattle.dc_item.specs.declared.record_line.RecordLine.{RecordLine}
-use Rattle.dc_item.specs.declared.record_line.RecordLine.TheVariants.{Blank, Name, Owners, Flags, Variables, Variable, Field, Nothing}
+use Rattle.dc_item.specs.Grammar.{RecordLine, Blank, Name, Owners, Flags, Variables, Variable, Field, Nothing}
 use Rattle.dc_item.specs.declared.entry.Entry.{Entry}
 use Rattle.dc_item.specs.declared.records.RecordError.{RecordError}
 use Rattle.dc_item.specs.declared.records.RecordError.TheVariants.{Bad, OutOfMemory}
@@ -55,12 +54,16 @@ closed r = option_map_or (λ o. record r { done = r.done ++ entry_of o ∷ []; c
 abbrev pub with_current : Reader → (Open → Option Open) → Option Reader
 with_current r f = option_map_or (λ o. option_map_or (λ p. Some (record r { current = Some p })) (f o) None) r.current None
 
+-- after a line that goes on with that record
+abbrev pub continued : Reader → RecordLine → Option Reader
+continued r line = with_current r (λ o. added o line)
+
 -- the reader after the line of this number
 abbrev pub step : Reader → ℕ → RecordLine → Option Reader
 step r number Blank = Some (closed r)
 step r number (Name name) = if is_some r.current || has_name r.done name then None else Some (record r { current = Some (begun name number) })
 step r number Nothing = None
-step r number line = with_current r (λ o. added o line)
+step r number line = continued r line
 
 -- the reader before the first line
 abbrev pub at_start : Reader

@@ -5,10 +5,8 @@ use Rattle.std.specs.FinMap.{from_entries}
 use Rattle.dc_text.specs.Faults.{AllStand}
 use Rattle.dc_text.specs.Lines.{lines_of}
 use Rattle.dc_text.specs.Maps.{set_of}
-use Rattle.dc_item.specs.Grammar.{line_said}
+use Rattle.dc_item.specs.Grammar.{line_said, RecordLine, Blank, Name, Owners, Flags, Variables, Variable, Field, Nothing}
 use Rattle.dc_item.specs.Item.{ItemParts}
-use Rattle.dc_item.specs.declared.record_line.RecordLine.{RecordLine}
-use Rattle.dc_item.specs.declared.record_line.RecordLine.TheVariants.{Blank, Name, Owners, Flags, Variables, Variable, Field, Nothing}
 use Rattle.dc_item.specs.declared.records.RecordError.{RecordError}
 use Rattle.dc_item.specs.declared.records.RecordError.TheVariants.{Bad, OutOfMemory}
 use Rattle.dc_item.specs.declared.entry.Entry.{Entry}

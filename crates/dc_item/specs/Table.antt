@@ -32,6 +32,10 @@ IsTable table = (name : List ℕ) (item : ItemParts) → map.get table name ≡ 
 abbrev pub IsInOrder : List Entry → Type 0
 IsInOrder entries = each contents entries ≡ map.entries (table_of entries)
 
+-- a reading of the text has the table's names and items, in byte order of the names
+abbrev pub ReadsTable : List ℕ → Texts ItemParts → Type 0
+ReadsTable text table = (read : List Entry) × Reads text read × (each contents read ≡ map.entries table)
+
 -- a reading of the text has these names and items, in this order
 abbrev pub ReadsAs : List ℕ → List Entry → Type 0
 ReadsAs text entries = (read : List Entry) × Reads text read × (each contents read ≡ each contents entries)

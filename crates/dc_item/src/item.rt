@@ -1,15 +1,17 @@
 // Items: the fields, flags, variables and owners of questions and templates.
-ghost use Rattle.std.specs.Prelude.{◌≡◌, IfOk, OnOk, OnErr, true, map as each};
+ghost use Rattle.std.specs.Prelude.{◌≡◌, IfOk, IfSome, OnOk, OnErr, true, map as each};
 ghost use Rattle.std.specs.FinMap as map;
 ghost use Rattle.std.specs.Option.{option_copied};
 ghost use Rattle.dc_text.specs.Bytes.{is_nil};
 ghost use Rattle.dc_text.specs.Names.{is_name, is_flag_name};
+ghost use Rattle.dc_text.specs.Settled.{is_settled};
 ghost use Rattle.dc_item.specs.After.{with_flag, without, parts_eq};
-ghost use Rattle.dc_item.specs.Item.{no_parts, IsItem};
+ghost use Rattle.dc_item.specs.Item.{no_parts, with_field, with_variable, without_both, IsItem};
+ghost use Rattle.dc_item.specs.Owners.{owners_left};
 ghost use Rattle.dc_item.specs.Sections.{parts_in, IsParts, under, keys_under, fields_mark, owners_mark, flags_mark, variables_mark};
 
 use crate::marks::{FIELDS, FLAGS, OWNERS, VARIABLES};
-use crate::owners::{are_all_named, owners_among};
+use crate::owners::{Owners, are_all_named, names_of};
 use crate::same::are_same;
 use dc_parts::PartMap;
 use dc_text::{FieldKey, FlagName, List, Mem, Name, Settled, VarKey};
@@ -58,7 +60,8 @@ impl Item {
 
     /// The value of the field, if the item has it. Keys are in lower case.
     pub fn field(&self, key: &[u8]) -> Option<&[u8]>
-        ensures { option_copied result ≡ map.get self.now.fields key.now }
+        ensures value { option_copied result ≡ map.get self.now.fields key.now }
+        ensures settled { IfSome result (λ text. is_settled text.now ≡ true) }
     {
         self.parts.get(FIELDS, key)
     }
@@ -72,19 +75,25 @@ impl Item {
 
     /// The value of the variable, if the item has it.
     pub fn var(&self, key: &[u8]) -> Option<&[u8]>
-        ensures { option_copied result ≡ map.get self.now.variables key.now }
+        ensures value { option_copied result ≡ map.get self.now.variables key.now }
+        ensures settled { IfSome result (λ text. is_settled text.now ≡ true) }
     {
         self.parts.get(VARIABLES, key)
     }
 
-    /// The owners, in byte order.
-    pub fn owners(&self) -> Mem<List<Name>>
-        ensures owners { IfOk result (λ owners. owners ≡ map.keys self.now.owners) }
+    /// The owners, in byte order. To go over them takes no memory.
+    pub fn owners(&self) -> Owners<'_>
+        ensures owners { owners_left result ≡ map.keys self.now.owners }
         ensures item { IsItem self.now }
     {
-        let entries = self.parts.entries()?;
-        let owners = owners_among(self.alloc, &entries)?;
-        Ok(owners)
+        Owners::among(self.parts.iter())
+    }
+
+    /// The names of the owners, in byte order.
+    pub fn owner_names(&self) -> Mem<List<Name>>
+        ensures { IfOk result (λ names. names ≡ map.keys self.now.owners) }
+    {
+        names_of(self.alloc, self.owners())
     }
 
     // All that stands in the item, at keys with their marks, in byte order.
@@ -122,7 +131,7 @@ impl Item {
 
     /// The item without this field and this flag.
     pub fn without(&self, field: &[u8], flag: &[u8]) -> Mem<Item>
-        ensures { IfOk result (λ item. item ≡ record self.now { fields = map.remove self.now.fields field.now; flags = map.remove self.now.flags flag.now }) }
+        ensures { IfOk result (λ item. item ≡ without_both self.now field.now flag.now) }
     {
         let mut item = self.copy()?;
         item.drop_field(field);
@@ -132,7 +141,7 @@ impl Item {
 
     // Puts the field, in the place of one with its key.
     pub(crate) fn put_field(&mut self, key: &FieldKey, value: &Settled) -> Mem<()>
-        ensures ok { OnOk result (self.new ≡ record self.old { fields = map.insert self.old.fields key.now value.now }) }
+        ensures ok { OnOk result (self.new ≡ with_field self.old key.now value.now) }
         ensures err { OnErr result (self.new ≡ self.old) }
     {
         self.parts.insert(FIELDS, key.bytes(), value.bytes())?;
@@ -141,7 +150,7 @@ impl Item {
 
     // Puts the variable, in the place of one with its key.
     pub(crate) fn put_variable(&mut self, key: &VarKey, value: &Settled) -> Mem<()>
-        ensures ok { OnOk result (self.new ≡ record self.old { variables = map.insert self.old.variables key.now value.now }) }
+        ensures ok { OnOk result (self.new ≡ with_variable self.old key.now value.now) }
         ensures err { OnErr result (self.new ≡ self.old) }
     {
         self.parts.insert(VARIABLES, key.bytes(), value.bytes())?;
@@ -232,7 +241,6 @@ impl Item {
     pub(crate) fn are_owners_named(&self, names: &List<Name>) -> Mem<bool>
         ensures { IfOk result (λ are. are ≡ is_nil (map.keys (without self.now.owners names.now))) }
     {
-        let owners = self.owners()?;
-        are_all_named(self.alloc, &owners, names)
+        are_all_named(self.alloc, self.owners(), names)
     }
 }

@@ -5,7 +5,7 @@ ghost use Rattle.dc_text.specs.Maps.{set_of};
 ghost use Rattle.dc_text.specs.Names.{is_name, is_flag_name, is_field_key};
 ghost use Rattle.dc_text.specs.Settled.{settled, is_settled};
 ghost use Rattle.dc_parts.specs.Usual.{usual_name};
-ghost use Rattle.dc_item.specs.Item.{no_parts};
+ghost use Rattle.dc_item.specs.Item.{no_parts, with_field, with_variable};
 
 use crate::item::Item;
 use crate::marks::{FIELDS, FLAGS, OWNERS, VARIABLES};
@@ -51,7 +51,7 @@ impl ItemBuilder {
         requires key { is_field_key key.now ≡ true }
         requires value { is_settled value.now ≡ true }
         ensures new { IfOk result (λ is_new. is_new ≡ not (map.contains_key self.old.fields key.now)) }
-        ensures put { IfOk result (λ is_new. self.new ≡ (if is_new then record self.old { fields = map.insert self.old.fields key.now value.now } else self.old)) }
+        ensures put { IfOk result (λ is_new. self.new ≡ (if is_new then with_field self.old key.now value.now else self.old)) }
         ensures err { OnErr result (self.new ≡ self.old) }
     {
         let is_new = self.parts.insert_new(FIELDS, key, value)?;
@@ -62,7 +62,7 @@ impl ItemBuilder {
     pub fn put_written_field(&mut self, key: &[u8], written: &[u8]) -> Mem<bool>
         requires { is_field_key key.now ≡ true }
         ensures new { IfOk result (λ is_new. is_new ≡ not (map.contains_key self.old.fields key.now)) }
-        ensures put { IfOk result (λ is_new. self.new ≡ (if is_new then record self.old { fields = map.insert self.old.fields key.now (settled written.now) } else self.old)) }
+        ensures put { IfOk result (λ is_new. self.new ≡ (if is_new then with_field self.old key.now (settled written.now) else self.old)) }
         ensures err { OnErr result (self.new ≡ self.old) }
     {
         match split_at_byte(written, b'\\') {
@@ -78,7 +78,7 @@ impl ItemBuilder {
     pub fn put_new_usual_field(&mut self, key: UsualKey, value: &[u8]) -> Mem<bool>
         requires { is_settled value.now ≡ true }
         ensures new { IfOk result (λ is_new. is_new ≡ not (map.contains_key self.old.fields (usual_name key))) }
-        ensures put { IfOk result (λ is_new. self.new ≡ (if is_new then record self.old { fields = map.insert self.old.fields (usual_name key) value.now } else self.old)) }
+        ensures put { IfOk result (λ is_new. self.new ≡ (if is_new then with_field self.old (usual_name key) value.now else self.old)) }
         ensures err { OnErr result (self.new ≡ self.old) }
     {
         let is_new = self.parts.insert_new_usual(key, value)?;
@@ -89,7 +89,7 @@ impl ItemBuilder {
     pub fn put_new_variable(&mut self, key: &VarKey, value: &[u8]) -> Mem<bool>
         requires { is_settled value.now ≡ true }
         ensures new { IfOk result (λ is_new. is_new ≡ not (map.contains_key self.old.variables key.now)) }
-        ensures put { IfOk result (λ is_new. self.new ≡ (if is_new then record self.old { variables = map.insert self.old.variables key.now value.now } else self.old)) }
+        ensures put { IfOk result (λ is_new. self.new ≡ (if is_new then with_variable self.old key.now value.now else self.old)) }
         ensures err { OnErr result (self.new ≡ self.old) }
     {
         let is_new = self.parts.insert_new(VARIABLES, key.bytes(), value)?;
@@ -136,6 +136,17 @@ impl ItemBuilder {
         let all = owners.as_slice();
         for owner in all {
             self.put_owner(owner.bytes())?;
+        }
+        Ok(())
+    }
+
+    /// Makes the item's owners the owners, where there are none. Where memory runs out, some of them may be.
+    pub fn put_owners_of(&mut self, item: &Item) -> Mem<()>
+        requires { self.old.owners ≡ map.empty }
+        ensures { OnOk result (self.new ≡ record self.old { owners = item.now.owners }) }
+    {
+        for owner in item.owners() {
+            self.put_owner(owner)?;
         }
         Ok(())
     }

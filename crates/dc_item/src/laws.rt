@@ -1,13 +1,12 @@
 //! Laws of the records of texts, over the definitions alone.
-ghost use Rattle.std.specs.Prelude.{◌≡◌, ◌↔◌, ◌⊎◌, List, ℕ, map as each};
-ghost use Rattle.std.specs.FinMap as map;
+ghost use Rattle.std.specs.Prelude.{◌≡◌, ◌↔◌, ◌⊎◌, List, ℕ};
 ghost use Rattle.dc_text.specs.Lines.{lines_of};
 ghost use Rattle.dc_text.specs.Maps.{AreDistinct, Texts};
 ghost use Rattle.dc_item.specs.After.{after, after_none, asked, TakesAllOwners};
 ghost use Rattle.dc_item.specs.Item.{ItemParts};
 ghost use Rattle.dc_item.specs.Printed.{table_text};
 ghost use Rattle.dc_item.specs.Records.{Reads, IsBad, HasReading};
-ghost use Rattle.dc_item.specs.Table.{names_of, table_of, contents, IsTable};
+ghost use Rattle.dc_item.specs.Table.{names_of, table_of, IsTable, ReadsTable};
 ghost use Rattle.dc_item.specs.declared.entry.Entry.{Entry};
 ghost use Rattle.dc_item.specs.declared.op.Op.{Op};
 ghost use Rattle.dc_item.specs.declared.op.Op.TheVariants.{Put};
@@ -39,5 +38,5 @@ pub fn operations_meet_their_table()
 
 /// The printed text of a table is read as its records, in byte order of their names.
 pub fn printed_tables_are_read()
-    ensures { (table : Texts ItemParts) → IsTable table → (read : List Entry) × Reads (table_text table) read × (each contents read ≡ map.entries table) }
+    ensures { (table : Texts ItemParts) → IsTable table → ReadsTable (table_text table) table }
 {}

@@ -1,5 +1,5 @@
 // Owners, and names in byte order.
-ghost use Rattle.std.specs.Prelude.{◌≡◌, IfOk, true, map as each};
+ghost use Rattle.std.specs.Prelude.{◌≡◌, IfOk, true};
 ghost use Rattle.std.specs.List.{list_all};
 ghost use Rattle.std.specs.FinMap as map;
 ghost use Rattle.dc_text.specs.Bytes.{is_nil};
@@ -7,9 +7,12 @@ ghost use Rattle.dc_text.specs.Maps.{set_of};
 ghost use Rattle.dc_text.specs.Names.{is_name};
 ghost use Rattle.dc_item.specs.After.{left_of};
 ghost use Rattle.dc_item.specs.Item.{selves};
+ghost use Rattle.dc_item.specs.Owners.{owners_left};
 ghost use Rattle.dc_item.specs.Sections.{keys_under, owners_mark};
+ghost use Rattle.dc_parts.specs.Entries.{entries_left};
 
 use crate::marks::{OWNERS, has_mark, unmarked};
+use dc_parts::Entries;
 use dc_text::{List, Mem, Name, OutOfMemory, TextMap};
 use std::alloc::Global;
 
@@ -60,18 +63,52 @@ fn named(alloc: Global, names: &List<Name>) -> Mem<TextMap<()>>
     Ok(set)
 }
 
-/// The owners among the entries of an item.
-pub fn owners_among(alloc: Global, entries: &[(&[u8], &[u8])]) -> Mem<List<Name>>
-    requires { list_all is_name (keys_under owners_mark (each (λ e. (e.0.now, e.1.now)) entries.now)) ≡ true }
-    ensures { IfOk result (λ owners. owners ≡ keys_under owners_mark (each (λ e. (e.0.now, e.1.now)) entries.now)) }
-{
-    let mut owners = List::new(alloc);
-    for (key, _) in entries {
-        if has_mark(OWNERS, key) {
-            owners.push(name_of(alloc, unmarked(key))?)?;
-        }
+/// The owners of an item, in byte order. To go over them takes no memory.
+#[derive(Drop)]
+pub struct Owners<'a> {
+    entries: Entries<'a>,
+}
+
+impl<'a> Owners<'a> {
+    /// Those among the entries of an item.
+    pub(crate) fn among(entries: Entries<'a>) -> Self
+        ensures { owners_left result ≡ keys_under owners_mark (entries_left entries.entry) }
+    {
+        Owners { entries }
     }
-    Ok(owners)
+}
+
+impl<'a> Iterator for Owners<'a> {
+    ghost use Rattle.std.specs.Iterator.{YieldsFirstRef, item_count};
+    ghost use Rattle.dc_item.specs.Owners.{owners_left};
+
+    type Item = &'a [u8];
+
+    ghost next_gives = { YieldsFirstRef owners_left };
+
+    ghost remaining = { item_count owners_left };
+
+    #[tactic(auto, using(crate::proofs::OwnerLemmas::owner_here, crate::proofs::OwnerLemmas::no_owner))]
+    fn next(&mut self) -> Option<&'a [u8]> {
+        while let Some((key, _)) = self.entries.next() {
+            if has_mark(OWNERS, key) {
+                return Some(unmarked(key));
+            }
+        }
+        None
+    }
+}
+
+/// The owners as names.
+pub(crate) fn names_of(alloc: Global, owners: Owners) -> Mem<List<Name>>
+    requires { list_all is_name (owners_left owners) ≡ true }
+    ensures { IfOk result (λ names. names ≡ owners_left owners.entry) }
+{
+    let mut names = List::new(alloc);
+    for owner in owners {
+        names.push(name_of(alloc, owner)?)?;
+    }
+    Ok(names)
 }
 
 /// The name that the bytes are. They are one, so that nothing but memory fails.
@@ -86,12 +123,12 @@ pub(crate) fn name_of(alloc: Global, bytes: &[u8]) -> Mem<Name>
 }
 
 /// Whether the list names all owners.
-pub fn are_all_named(alloc: Global, owners: &List<Name>, names: &List<Name>) -> Mem<bool>
-    ensures { IfOk result (λ are. are ≡ is_nil (left_of owners.now names.now)) }
+pub(crate) fn are_all_named(alloc: Global, owners: Owners, names: &List<Name>) -> Mem<bool>
+    ensures { IfOk result (λ are. are ≡ is_nil (left_of (owners_left owners.entry) names.now)) }
 {
     let set = named(alloc, names)?;
-    for owner in owners.as_slice() {
-        if !set.contains(owner.bytes()) {
+    for owner in owners {
+        if !set.contains(owner) {
             return Ok(false);
         }
     }

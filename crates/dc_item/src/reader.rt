@@ -8,14 +8,13 @@ ghost use Rattle.dc_text.specs.Maps.{set_of};
 ghost use Rattle.dc_text.specs.Names.{is_name as is_name_of, is_flag_name as is_flag_name_of, is_field_key as is_field_key_of};
 ghost use Rattle.dc_text.specs.Settled.{settled};
 ghost use Rattle.dc_parts.specs.Usual.{usual_name};
-ghost use Rattle.dc_item.specs.Item.{no_parts};
-ghost use Rattle.dc_item.specs.Grammar.{line_said, pieces, headed_line, indented_line, name_line, owners_line, flags_line, variables_line, field_line, variable_line};
+ghost use Rattle.dc_item.specs.Item.{no_parts, with_field, with_variable};
+ghost use Rattle.dc_item.specs.Grammar.{line_said, pieces, headed_line, indented_line, name_line, owners_line, flags_line, variables_line, field_line, variable_line, Name as NameLine};
 ghost use Rattle.dc_item.specs.Heads.{head_said};
 ghost use Rattle.dc_item.specs.Plain.{PlainIf};
 
 use crate::item_builder::ItemBuilder;
 use crate::reading::{Head, flags_in, is_word, names_in, usual_head};
-use crate::record_line::RecordLine;
 use crate::records_read::Records;
 use dc_parts::UsualKey;
 use dc_text::bytes::{is_blank, is_indented, split_at_byte, trim, without_space};
@@ -254,7 +253,7 @@ fn put_field(
     requires key { is_field_key_of key.now ≡ true }
     requires plain { PlainIf is_plain value.now }
     ensures new { IfOk result (λ is_new. is_new ≡ not (map.contains_key item.old.fields key.now)) }
-    ensures put { IfOk result (λ is_new. item.new ≡ (if is_new then record item.old { fields = map.insert item.old.fields key.now (settled value.now) } else item.old)) }
+    ensures put { IfOk result (λ is_new. item.new ≡ (if is_new then with_field item.old key.now (settled value.now) else item.old)) }
 {
     if is_plain {
         return item.put_new_field(key, value);
@@ -272,7 +271,7 @@ fn put_usual_field(
 ) -> Mem<bool>
     requires { PlainIf is_plain value.now }
     ensures new { IfOk result (λ is_new. is_new ≡ not (map.contains_key item.old.fields (usual_name key))) }
-    ensures put { IfOk result (λ is_new. item.new ≡ (if is_new then record item.old { fields = map.insert item.old.fields (usual_name key) (settled value.now) } else item.old)) }
+    ensures put { IfOk result (λ is_new. item.new ≡ (if is_new then with_field item.old (usual_name key) (settled value.now) else item.old)) }
 {
     if is_plain {
         return item.put_new_usual_field(key, value);
@@ -290,7 +289,7 @@ fn put_variable(
 ) -> Mem<bool>
     requires { PlainIf is_plain value.now }
     ensures new { IfOk result (λ is_new. is_new ≡ not (map.contains_key item.old.variables key.now)) }
-    ensures put { IfOk result (λ is_new. item.new ≡ (if is_new then record item.old { variables = map.insert item.old.variables key.now (settled value.now) } else item.old)) }
+    ensures put { IfOk result (λ is_new. item.new ≡ (if is_new then with_variable item.old key.now (settled value.now) else item.old)) }
 {
     if is_plain {
         return item.put_new_variable(key, value);
@@ -306,7 +305,7 @@ pub struct Reader {
 }
 
 impl Reader {
-    ghost use Rattle.dc_item.specs.Reader.{step, with_current, added, closed, at_start, IsReading};
+    ghost use Rattle.dc_item.specs.Reader.{step, continued, closed, at_start, IsReading};
 
     /// Before the first line.
     pub fn new(alloc: Global) -> Self
@@ -399,7 +398,7 @@ impl Reader {
 
     // Begins a record of the name, and answers whether one begins here.
     fn begin(&mut self, number: u64, name: Name) -> bool
-        ensures { step self.old number (RecordLine.Name name) ≡ (if result then Some self.new else None) }
+        ensures { step self.old number (NameLine name) ≡ (if result then Some self.new else None) }
     {
         if self.current.is_some() || self.done.has(name.bytes()) {
             return false;
@@ -413,7 +412,7 @@ impl Reader {
     fn add_usual(&mut self, alloc: Global, head: Head, rest: &[u8], is_plain: bool) -> Mem<bool>
         requires is_reading { IsReading self.old }
         requires plain { PlainIf is_plain rest.now }
-        ensures { IfOk result (λ stands. with_current self.old (λ current. added current (head_said head rest.now)) ≡ (if stands then Some self.new else None)) }
+        ensures { IfOk result (λ stands. continued self.old (head_said head rest.now) ≡ (if stands then Some self.new else None)) }
     {
         match &mut self.current {
             None => Ok(false),
@@ -426,7 +425,7 @@ impl Reader {
         requires further { bytes_eq (each lower word.now) (codes "name") ≡ false }
         requires is_reading { IsReading self.old }
         requires plain { PlainIf is_plain rest.now }
-        ensures { IfOk result (λ stands. with_current self.old (λ current. added current (headed_line (each lower word.now) rest.now)) ≡ (if stands then Some self.new else None)) }
+        ensures { IfOk result (λ stands. continued self.old (headed_line (each lower word.now) rest.now) ≡ (if stands then Some self.new else None)) }
     {
         match &mut self.current {
             None => Ok(false),
@@ -437,7 +436,7 @@ impl Reader {
     // Gives a line that is indented to the record that is open.
     fn add_indented(&mut self, alloc: Global, line: &[u8], is_plain: bool) -> Mem<bool>
         requires { PlainIf is_plain line.now }
-        ensures { IfOk result (λ stands. with_current self.old (λ current. added current (indented_line line.now)) ≡ (if stands then Some self.new else None)) }
+        ensures { IfOk result (λ stands. continued self.old (indented_line line.now) ≡ (if stands then Some self.new else None)) }
     {
         match &mut self.current {
             None => Ok(false),

@@ -9,7 +9,6 @@ ghost use Rattle.dc_item.specs.Table.{names_of, table_of};
 use crate::entry::Entry;
 use crate::item::Item;
 use crate::item_builder::ItemBuilder;
-use crate::line_numbers::{LineNumbers, split_number};
 use crate::owners::name_of;
 use crate::table_key::TableKey;
 use dc_text::{List, Mem, Name};
@@ -22,7 +21,7 @@ use std::marker::Model;
 pub struct Records {
     items: IndexMap<TableKey, Item>,
     // The number of each record's Name line, from 1.
-    lines: LineNumbers,
+    lines: Vec<u64>,
     // An item in which nothing stands, with the memory in which the parts of the last record were put together.
     spare: ItemBuilder,
 }
@@ -38,9 +37,9 @@ impl Model for Records {
 
     ghost coded = { Prim.hlevel (codes, parts_code) };
 
-    ghost view = { λ r. with_lines r.items.entries r.lines };
+    ghost view = { λ r. with_lines r.items.entries r.lines.items };
 
-    ghost invariant = { λ r. AreKept r.items.entries r.lines × (r.spare ≡ no_parts) };
+    ghost invariant = { λ r. AreKept r.items.entries r.lines.items × (r.spare ≡ no_parts) };
 }
 
 impl Records {
@@ -50,7 +49,7 @@ impl Records {
     {
         Records {
             items: IndexMap::new(alloc),
-            lines: LineNumbers::new(alloc),
+            lines: Vec::new(alloc),
             spare: ItemBuilder::new(alloc),
         }
     }
@@ -119,15 +118,14 @@ impl Records {
             spare: _,
         } = self;
         let mut list = List::new(alloc);
-        let mut last = 0;
-        let mut rest = lines.bytes();
+        let mut rest = lines.as_slice();
         for (key, item) in items {
             let name = name_of(alloc, key.bytes())?;
-            let Some((line, after)) = split_number(last, rest) else {
+            let Some((line, after)) = rest.split_first() else {
                 unreachable!();
             };
+            let line = *line;
             list.push(Entry { name, item, line })?;
-            last = line;
             rest = after;
         }
         Ok(list)

@@ -2,7 +2,7 @@
 ghost use Rattle.std.specs.Prelude.{◌≡◌, ◌∷◌, OnOk, OnErr, IfOk, if◌then◌else◌, not};
 ghost use Rattle.std.specs.FinMap as map;
 ghost use Rattle.dc_parts.specs.PartMap.{map_built};
-ghost use Rattle.dc_parts.specs.Packed.{number_of};
+ghost use Rattle.dc_parts.specs.Keys.{whole};
 ghost use Rattle.dc_parts.specs.Usual.{usual_part};
 
 use crate::many::Many;
@@ -96,9 +96,8 @@ impl PartMapBuilder {
     // Puts the value at a key that isn't there, and answers whether it wasn't.
     #[inline(always)]
     fn put_new(&mut self, key: PartKey, value: &[u8]) -> Mem<bool>
-        requires numbered { key.number ≡ number_of (key.mark ∷ key.key.now) }
-        ensures new { IfOk result (λ is_new. is_new ≡ not (map.contains_key self.old (key.entry.mark ∷ key.entry.key.now))) }
-        ensures put { IfOk result (λ is_new. self.new ≡ (if is_new then map.insert self.old (key.entry.mark ∷ key.entry.key.now) value.now else self.old)) }
+        ensures new { IfOk result (λ is_new. is_new ≡ not (map.contains_key self.old (whole key.entry))) }
+        ensures put { IfOk result (λ is_new. self.new ≡ (if is_new then map.insert self.old (whole key.entry) value.now else self.old)) }
         ensures err { OnErr result (self.new ≡ self.old) }
     {
         if let Built::Few(few) = &mut self.kept {

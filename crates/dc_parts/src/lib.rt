@@ -2,9 +2,11 @@
 #![tactic(auto)]
 
 mod builder;
+mod entries;
 mod many;
 mod packed;
 mod packed_builder;
+mod packed_entries;
 mod part_key;
 pub mod part_map;
 mod places;
@@ -12,5 +14,6 @@ mod usual;
 mod writing;
 
 pub use builder::PartMapBuilder;
+pub use entries::Entries;
 pub use part_map::PartMap;
 pub use usual::UsualKey;

@@ -12,7 +12,7 @@ use std::marker::Model;
 
 /// A key and its value, behind a pointer, so that few bytes are moved where others are put before them.
 #[derive(Drop)]
-struct Pair {
+pub(crate) struct Pair {
     texts: Box<(Text, Text)>,
 }
 
@@ -35,13 +35,13 @@ impl Pair {
         Ok(Pair { texts })
     }
 
-    fn key(&self) -> &[u8]
+    pub(crate) fn key(&self) -> &[u8]
         ensures { result.now ≡ self.now.0 }
     {
         self.texts.as_ref().0.bytes()
     }
 
-    fn value(&self) -> &[u8]
+    pub(crate) fn value(&self) -> &[u8]
         ensures { result.now ≡ self.now.1 }
     {
         self.texts.as_ref().1.bytes()
@@ -215,6 +215,13 @@ impl Many {
         Many {
             pairs: std::mem::replace(&mut self.pairs, fresh),
         }
+    }
+
+    /// The entries, in byte order of their keys. They aren't copied.
+    pub(crate) fn pairs(&self) -> &[Pair]
+        ensures { result.now ≡ map.entries self.now }
+    {
+        self.pairs.as_slice()
     }
 
     /// The entries, in byte order of their keys.

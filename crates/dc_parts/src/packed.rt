@@ -5,6 +5,7 @@ ghost use Rattle.std.specs.FinMap as map;
 ghost use Rattle.dc_text.specs.Maps.{text_cmp};
 ghost use Rattle.dc_parts.specs.Packed.{entries_in, IsPacked};
 
+use crate::packed_entries::PackedEntries;
 use crate::part_key::PartKey;
 use crate::places::{count_of, entries_of, place_of, span_of};
 use crate::writing::{cut_out, put_between};
@@ -87,6 +88,13 @@ impl Packed {
         if span.is_there {
             cut_out(&mut self.bytes, span.start, span.end);
         }
+    }
+
+    /// The entries, in byte order of their keys. They aren't copied.
+    pub(crate) fn iter(&self) -> PackedEntries<'_>
+        ensures { entries_in result.bytes.now ≡ map.entries self.now }
+    {
+        PackedEntries::of(&self.bytes)
     }
 
     /// The entries, in byte order of their keys.

@@ -1,7 +1,7 @@
 // Few entries of a map from texts, while they are put together.
-ghost use Rattle.std.specs.Prelude.{◌≡◌, ◌∷◌, ◌<◌, ◌+◌, ◌^◌, OnOk, OnErr, IfOk, if◌then◌else◌, not};
+ghost use Rattle.std.specs.Prelude.{◌≡◌, ◌<◌, ◌+◌, ◌^◌, OnOk, OnErr, IfOk, if◌then◌else◌, not};
 ghost use Rattle.std.specs.FinMap as map;
-ghost use Rattle.dc_parts.specs.Packed.{number_of};
+ghost use Rattle.dc_parts.specs.Keys.{whole};
 
 use crate::packed::Packed;
 use crate::part_key::PartKey;
@@ -60,8 +60,7 @@ impl PackedBuilder {
 
     /// Puts the value at the key, in the place of one that stood there.
     pub(crate) fn insert(&mut self, key: PartKey, value: &[u8]) -> Mem<()>
-        requires numbered { key.number ≡ number_of (key.mark ∷ key.key.now) }
-        ensures ok { OnOk result (self.new ≡ map.insert self.old (key.entry.mark ∷ key.entry.key.now) value.now) }
+        ensures ok { OnOk result (self.new ≡ map.insert self.old (whole key.entry) value.now) }
         ensures err { OnErr result (self.new ≡ self.old) }
     {
         let span = span_of(&self.bytes, self.finger, key);
@@ -74,9 +73,8 @@ impl PackedBuilder {
     /// Puts the value at a key that isn't there, and answers whether it wasn't. Most keys come behind all others.
     #[inline(always)]
     pub(crate) fn insert_new(&mut self, key: PartKey, value: &[u8]) -> Mem<bool>
-        requires numbered { key.number ≡ number_of (key.mark ∷ key.key.now) }
-        ensures new { IfOk result (λ is_new. is_new ≡ not (map.contains_key self.old (key.entry.mark ∷ key.entry.key.now))) }
-        ensures put { IfOk result (λ is_new. self.new ≡ (if is_new then map.insert self.old (key.entry.mark ∷ key.entry.key.now) value.now else self.old)) }
+        ensures new { IfOk result (λ is_new. is_new ≡ not (map.contains_key self.old (whole key.entry))) }
+        ensures put { IfOk result (λ is_new. self.new ≡ (if is_new then map.insert self.old (whole key.entry) value.now else self.old)) }
         ensures err { OnErr result (self.new ≡ self.old) }
     {
         if key.key.len() < 254 && value.len() < 255 && is_behind(&self.bytes, self.finger, key) {
@@ -92,9 +90,8 @@ impl PackedBuilder {
     // The same, wherever the key's place is.
     #[inline(never)]
     fn insert_new_near(&mut self, key: PartKey, value: &[u8]) -> Mem<bool>
-        requires numbered { key.number ≡ number_of (key.mark ∷ key.key.now) }
-        ensures new { IfOk result (λ is_new. is_new ≡ not (map.contains_key self.old (key.entry.mark ∷ key.entry.key.now))) }
-        ensures put { IfOk result (λ is_new. self.new ≡ (if is_new then map.insert self.old (key.entry.mark ∷ key.entry.key.now) value.now else self.old)) }
+        ensures new { IfOk result (λ is_new. is_new ≡ not (map.contains_key self.old (whole key.entry))) }
+        ensures put { IfOk result (λ is_new. self.new ≡ (if is_new then map.insert self.old (whole key.entry) value.now else self.old)) }
         ensures err { OnErr result (self.new ≡ self.old) }
     {
         let span = span_of(&self.bytes, self.finger, key);

@@ -97,14 +97,14 @@ pub(crate) struct PartKey<'a> {
     pub(crate) mark: u8,
     pub(crate) key: &'a [u8],
     pub(crate) number: Option<u8>,
+    ghost numbered: { number ≡ number_of (mark ∷ key.now) },
 }
 
 impl<'a> PartKey<'a> {
     /// The key with this mark.
     #[inline(always)]
     pub(crate) fn new(mark: u8, key: &'a [u8]) -> Self
-        ensures part { result.mark ∷ result.key.now ≡ mark ∷ key.now }
-        ensures numbered { result.number ≡ number_of (result.mark ∷ result.key.now) }
+        ensures { result.mark ∷ result.key.now ≡ mark ∷ key.now }
     {
         PartKey {
             mark,
@@ -116,8 +116,7 @@ impl<'a> PartKey<'a> {
     /// The key of a usual field. No texts are compared.
     #[inline(always)]
     pub(crate) fn usual(key: UsualKey) -> Self
-        ensures part { result.mark ∷ result.key.now ≡ usual_part key }
-        ensures numbered { result.number ≡ number_of (result.mark ∷ result.key.now) }
+        ensures { result.mark ∷ result.key.now ≡ usual_part key }
     {
         PartKey {
             mark: 0,
@@ -130,8 +129,7 @@ impl<'a> PartKey<'a> {
 // The order of a key and the usual key of a number. Two usual keys are told apart by their numbers, with which they rise.
 #[inline(always)]
 pub(crate) fn compare_usual(key: PartKey, other: u8) -> Ordering
-    requires numbered { key.number ≡ number_of (key.mark ∷ key.key.now) }
-    requires usual { other < 8 }
+    requires { other < 8 }
     ensures { result ≡ text_cmp (key.entry.mark ∷ key.entry.key.now) (usual_key other) }
 {
     match key.number {

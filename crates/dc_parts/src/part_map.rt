@@ -2,8 +2,10 @@
 ghost use Rattle.std.specs.Prelude.{◌≡◌, ◌∷◌, OnOk, OnErr, IfOk, map as each};
 ghost use Rattle.std.specs.Option.{option_copied};
 ghost use Rattle.std.specs.FinMap as map;
+ghost use Rattle.dc_parts.specs.Entries.{entries_left};
 ghost use Rattle.dc_parts.specs.PartMap.{map_in};
 
+use crate::entries::{Entries, Left};
 use crate::many::Many;
 use crate::packed::Packed;
 use dc_text::Mem;
@@ -127,6 +129,17 @@ impl PartMap {
             Kept::Few(few) => few.remove(mark, key),
             Kept::Many(many) => many.remove(mark, key),
         }
+    }
+
+    /// The entries, in byte order of their keys, which have their marks in front. It takes no memory.
+    pub fn iter(&self) -> Entries<'_>
+        ensures { entries_left result ≡ map.entries self.now }
+    {
+        let left = match &self.kept {
+            Kept::Few(few) => Left::Few(few.iter()),
+            Kept::Many(many) => Left::Many(many.pairs()),
+        };
+        Entries { left }
     }
 
     /// The entries, in byte order of their keys, which have their marks in front.

@@ -3,7 +3,8 @@ ghost use Rattle.std.specs.Prelude.{T, true, ◌≡◌, ◌∷◌, ◌<◌, ◌�
 ghost use Rattle.std.specs.Option.{option_copied};
 ghost use Rattle.std.specs.FinMap as map;
 ghost use Rattle.dc_text.specs.Maps.{text_cmp};
-ghost use Rattle.dc_parts.specs.Packed.{packed, number_of, length_at, behind_length, text_at, behind_text, key_at, behind_key, HasText, entries_in, IsPacked, IsPlace, IsBehind, before, from, behind, value_at};
+ghost use Rattle.dc_parts.specs.Keys.{whole};
+ghost use Rattle.dc_parts.specs.Packed.{packed, length_at, behind_length, text_at, behind_text, key_at, behind_key, HasText, entries_in, IsPacked, IsPlace, IsBehind, before, from, behind, value_at};
 
 use crate::part_key::{PartKey, compare, compare_usual, usual_key};
 use dc_text::Mem;
@@ -50,13 +51,24 @@ fn split_key(bytes: &[u8]) -> (&[u8], &[u8])
     }
 }
 
+// The first of packed entries, its key and its value, and those behind it.
+pub(crate) fn split_entry<'a>(bytes: &'a [u8]) -> (&'a [u8], &'a [u8], &'a [u8])
+    requires packed { IsPacked bytes.now }
+    requires some { 0 < length bytes.now }
+    ensures first { entries_in bytes.now ≡ (result.0.now, result.1.now) ∷ entries_in result.2.now }
+    ensures rest { IsPacked result.2.now }
+{
+    let (key, behind_key) = split_key(bytes);
+    let (value, behind) = split_text(behind_key);
+    (key, value, behind)
+}
+
 // The order of a key and that of the first of packed entries, and what stands behind the latter.
 #[inline(always)]
 fn compare_front<'a>(key: PartKey, bytes: &'a [u8]) -> (Ordering, &'a [u8])
-    requires numbered { key.number ≡ number_of (key.mark ∷ key.key.now) }
     requires packed { IsPacked bytes.now }
     requires some { 0 < length bytes.now }
-    ensures order { result.0 ≡ text_cmp (key.entry.mark ∷ key.entry.key.now) (key_at bytes.now) }
+    ensures order { result.0 ≡ text_cmp (whole key.entry) (key_at bytes.now) }
     ensures rest { result.1.now ≡ behind_key bytes.now }
 {
     match bytes {
@@ -81,11 +93,10 @@ pub(crate) struct Place<'a> {
 
 // The place of the key among packed entries.
 pub(crate) fn place_of<'a>(bytes: &'a [u8], key: PartKey) -> Place<'a>
-    requires packed { IsPacked bytes.now }
-    requires numbered { key.number ≡ number_of (key.mark ∷ key.key.now) }
-    ensures from { result.from.now ≡ packed (from (key.entry.mark ∷ key.entry.key.now) (entries_in bytes.now)) }
-    ensures behind { result.behind.now ≡ packed (behind (key.entry.mark ∷ key.entry.key.now) (entries_in bytes.now)) }
-    ensures value { option_copied result.value ≡ value_at (key.entry.mark ∷ key.entry.key.now) (entries_in bytes.now) }
+    requires { IsPacked bytes.now }
+    ensures from { result.from.now ≡ packed (from (whole key.entry) (entries_in bytes.now)) }
+    ensures behind { result.behind.now ≡ packed (behind (whole key.entry) (entries_in bytes.now)) }
+    ensures value { option_copied result.value ≡ value_at (whole key.entry) (entries_in bytes.now) }
 {
     let mut rest = bytes;
     while !rest.is_empty() {
@@ -114,11 +125,10 @@ pub(crate) fn place_of<'a>(bytes: &'a [u8], key: PartKey) -> Place<'a>
 
 // The same, where mostly no entry is.
 fn place_behind<'a>(bytes: &'a [u8], key: PartKey) -> Place<'a>
-    requires packed { IsPacked bytes.now }
-    requires numbered { key.number ≡ number_of (key.mark ∷ key.key.now) }
-    ensures from { result.from.now ≡ packed (from (key.entry.mark ∷ key.entry.key.now) (entries_in bytes.now)) }
-    ensures behind { result.behind.now ≡ packed (behind (key.entry.mark ∷ key.entry.key.now) (entries_in bytes.now)) }
-    ensures value { option_copied result.value ≡ value_at (key.entry.mark ∷ key.entry.key.now) (entries_in bytes.now) }
+    requires { IsPacked bytes.now }
+    ensures from { result.from.now ≡ packed (from (whole key.entry) (entries_in bytes.now)) }
+    ensures behind { result.behind.now ≡ packed (behind (whole key.entry) (entries_in bytes.now)) }
+    ensures value { option_copied result.value ≡ value_at (whole key.entry) (entries_in bytes.now) }
 {
     if bytes.is_empty() {
         return Place {
@@ -135,10 +145,9 @@ fn place_near<'a>(bytes: &'a [u8], finger: usize, key: PartKey) -> Place<'a>
     requires packed { IsPacked bytes.now }
     requires sorted { T (map.is_sorted text_cmp (entries_in bytes.now)) }
     requires finger { IsPlace finger (entries_in bytes.now) }
-    requires numbered { key.number ≡ number_of (key.mark ∷ key.key.now) }
-    ensures from { result.from.now ≡ packed (from (key.entry.mark ∷ key.entry.key.now) (entries_in bytes.now)) }
-    ensures behind { result.behind.now ≡ packed (behind (key.entry.mark ∷ key.entry.key.now) (entries_in bytes.now)) }
-    ensures value { option_copied result.value ≡ value_at (key.entry.mark ∷ key.entry.key.now) (entries_in bytes.now) }
+    ensures from { result.from.now ≡ packed (from (whole key.entry) (entries_in bytes.now)) }
+    ensures behind { result.behind.now ≡ packed (behind (whole key.entry) (entries_in bytes.now)) }
+    ensures value { option_copied result.value ≡ value_at (whole key.entry) (entries_in bytes.now) }
 {
     let (_, from_finger) = bytes.split_at(finger);
     if !from_finger.is_empty() {
@@ -157,8 +166,7 @@ pub(crate) fn is_behind(bytes: &[u8], finger: usize, key: PartKey) -> bool
     requires packed { IsPacked bytes.now }
     requires sorted { T (map.is_sorted text_cmp (entries_in bytes.now)) }
     requires finger { IsPlace finger (entries_in bytes.now) }
-    requires numbered { key.number ≡ number_of (key.mark ∷ key.key.now) }
-    ensures { result ≡ true → IsBehind (key.entry.mark ∷ key.entry.key.now) (entries_in bytes.now) }
+    ensures { result ≡ true → IsBehind (whole key.entry) (entries_in bytes.now) }
 {
     let (_, from_finger) = bytes.split_at(finger);
     if from_finger.is_empty() {
@@ -181,12 +189,11 @@ pub(crate) fn span_of(bytes: &[u8], finger: usize, key: PartKey) -> Span
     requires packed { IsPacked bytes.now }
     requires sorted { T (map.is_sorted text_cmp (entries_in bytes.now)) }
     requires finger { IsPlace finger (entries_in bytes.now) }
-    requires numbered { key.number ≡ number_of (key.mark ∷ key.key.now) }
-    ensures start { take result.start bytes.now ≡ packed (before (key.entry.mark ∷ key.entry.key.now) (entries_in bytes.now)) }
-    ensures end { drop result.end bytes.now ≡ packed (behind (key.entry.mark ∷ key.entry.key.now) (entries_in bytes.now)) }
+    ensures start { take result.start bytes.now ≡ packed (before (whole key.entry) (entries_in bytes.now)) }
+    ensures end { drop result.end bytes.now ≡ packed (behind (whole key.entry) (entries_in bytes.now)) }
     ensures ordered { result.start ≤ result.end }
     ensures in_range { result.end ≤ length bytes.now }
-    ensures is_there { result.is_there ≡ is_some (value_at (key.entry.mark ∷ key.entry.key.now) (entries_in bytes.now)) }
+    ensures is_there { result.is_there ≡ is_some (value_at (whole key.entry) (entries_in bytes.now)) }
 {
     let place = place_near(bytes, finger, key);
     Span {

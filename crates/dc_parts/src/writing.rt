@@ -1,6 +1,8 @@
 // How entries are packed and written among others.
 ghost use Rattle.std.specs.Prelude.{◌≡◌, ◌++◌, ◌∷◌, ◌<◌, ◌≤◌, ◌+◌, ◌-◌, [], OnOk, OnErr, length, take, drop, vec_capacity};
-ghost use Rattle.dc_parts.specs.Packed.{packed_length, packed_text, packed_key, packed, number_of, IsBegunBy};
+ghost use Rattle.dc_parts.specs.Keys.{whole};
+ghost use Rattle.dc_parts.specs.Packed.{packed_length, packed_key, IsBegunBy};
+ghost use Rattle.dc_parts.specs.Writing.{packed_entry, short_entry, spliced};
 
 use crate::part_key::PartKey;
 use crate::places::Span;
@@ -49,9 +51,8 @@ pub(crate) struct ShortKey<'a> {
 
 #[inline(always)]
 pub(crate) fn short_key<'a>(key: PartKey<'a>) -> ShortKey<'a>
-    requires numbered { key.number ≡ number_of (key.mark ∷ key.key.now) }
-    requires short { length key.key.now < 254 }
-    ensures packed { result.first ∷ result.second ∷ result.rest.now ≡ packed_key (key.entry.mark ∷ key.entry.key.now) }
+    requires { length key.key.now < 254 }
+    ensures packed { result.first ∷ result.second ∷ result.rest.now ≡ packed_key (whole key.entry) }
     ensures short { length result.rest.now < 254 }
 {
     match key.number {
@@ -89,7 +90,7 @@ fn append_reserved(bytes: &mut Vec<u8>, text: &[u8])
 pub(crate) fn push_short(bytes: &mut Vec<u8>, key: ShortKey, value: &[u8]) -> Mem<()>
     requires key { length key.rest.now < 254 }
     requires value { length value.now < 255 }
-    ensures ok { OnOk result (bytes.new.items ≡ bytes.old.items ++ ((key.entry.first ∷ key.entry.second ∷ key.entry.rest.now) ++ packed_text value.now)) }
+    ensures ok { OnOk result (bytes.new.items ≡ bytes.old.items ++ short_entry key.entry value.now) }
     ensures err { OnErr result (bytes.new.items ≡ bytes.old.items) }
 {
     bytes.reserve(room_behind(bytes.len(), key.rest.len() + value.len() + 3))?;
@@ -103,8 +104,7 @@ pub(crate) fn push_short(bytes: &mut Vec<u8>, key: ShortKey, value: &[u8]) -> Me
 
 // Writes a key behind the bytes. Where memory runs out, part of it may stand there.
 fn write_key(bytes: &mut Vec<u8>, key: PartKey) -> Mem<()>
-    requires numbered { key.number ≡ number_of (key.mark ∷ key.key.now) }
-    ensures ok { OnOk result (bytes.new.items ≡ bytes.old.items ++ packed_key (key.entry.mark ∷ key.entry.key.now)) }
+    ensures ok { OnOk result (bytes.new.items ≡ bytes.old.items ++ packed_key (whole key.entry)) }
     ensures err { OnErr result (IsBegunBy bytes.old.items bytes.new.items) }
 {
     match key.number {
@@ -120,8 +120,7 @@ fn write_key(bytes: &mut Vec<u8>, key: PartKey) -> Mem<()>
 
 // Writes an entry behind the bytes. Where memory runs out, part of it may stand there.
 fn write_entry(bytes: &mut Vec<u8>, key: PartKey, value: &[u8]) -> Mem<()>
-    requires numbered { key.number ≡ number_of (key.mark ∷ key.key.now) }
-    ensures ok { OnOk result (bytes.new.items ≡ bytes.old.items ++ packed ((key.entry.mark ∷ key.entry.key.now, value.now) ∷ [])) }
+    ensures ok { OnOk result (bytes.new.items ≡ bytes.old.items ++ packed_entry (whole key.entry) value.now) }
     ensures err { OnErr result (IsBegunBy bytes.old.items bytes.new.items) }
 {
     write_key(bytes, key)?;
@@ -146,9 +145,8 @@ fn push_again(bytes: &mut Vec<u8>, start: usize, end: usize) -> Mem<()>
 // Writes an entry behind the bytes, and behind that again what stands from the end on. Where memory runs out, part of it may stand
 // there.
 fn write_with_rest(bytes: &mut Vec<u8>, end: usize, key: PartKey, value: &[u8]) -> Mem<()>
-    requires numbered { key.number ≡ number_of (key.mark ∷ key.key.now) }
     requires in_range { end ≤ length bytes.old.items }
-    ensures ok { OnOk result (bytes.new.items ≡ bytes.old.items ++ (packed ((key.entry.mark ∷ key.entry.key.now, value.now) ∷ []) ++ drop end bytes.old.items)) }
+    ensures ok { OnOk result (bytes.new.items ≡ bytes.old.items ++ (packed_entry (whole key.entry) value.now ++ drop end bytes.old.items)) }
     ensures err { OnErr result (IsBegunBy bytes.old.items bytes.new.items) }
 {
     let len = bytes.len();
@@ -186,7 +184,7 @@ fn put_within(bytes: &mut Vec<u8>, span: Span, key: ShortKey, value: &[u8])
     requires value { length value.now < 255 }
     requires fits { span.start + length key.rest.now + length value.now + 3 ≤ span.end }
     requires in_range { span.end ≤ length bytes.old.items }
-    ensures { bytes.new.items ≡ take span.start bytes.old.items ++ ((key.entry.first ∷ key.entry.second ∷ key.entry.rest.now) ++ packed_text value.now) ++ drop span.end bytes.old.items }
+    ensures { bytes.new.items ≡ spliced span.start span.end (short_entry key.entry value.now) bytes.old.items }
 {
     let at_rest = span.start + 2;
     let at_length = at_rest + key.rest.len();
@@ -245,7 +243,7 @@ fn put_short(bytes: &mut Vec<u8>, span: Span, key: ShortKey, value: &[u8]) -> Me
     requires value { length value.now < 255 }
     requires ordered { span.start ≤ span.end }
     requires in_range { span.end ≤ length bytes.old.items }
-    ensures ok { OnOk result (bytes.new.items ≡ take span.start bytes.old.items ++ ((key.entry.first ∷ key.entry.second ∷ key.entry.rest.now) ++ packed_text value.now) ++ drop span.end bytes.old.items) }
+    ensures ok { OnOk result (bytes.new.items ≡ spliced span.start span.end (short_entry key.entry value.now) bytes.old.items) }
     ensures err { OnErr result (bytes.new.items ≡ bytes.old.items) }
 {
     let end = span.start + key.rest.len() + value.len() + 3;
@@ -266,10 +264,9 @@ fn put_short(bytes: &mut Vec<u8>, span: Span, key: ShortKey, value: &[u8]) -> Me
 // Puts an entry between the bytes before the start and those from the end on. A long one is written behind all, and what it takes the
 // place of is cut out.
 pub(crate) fn put_between(bytes: &mut Vec<u8>, span: Span, key: PartKey, value: &[u8]) -> Mem<()>
-    requires numbered { key.number ≡ number_of (key.mark ∷ key.key.now) }
     requires ordered { span.start ≤ span.end }
     requires in_range { span.end ≤ length bytes.old.items }
-    ensures ok { OnOk result (bytes.new.items ≡ take span.start bytes.old.items ++ (packed ((key.entry.mark ∷ key.entry.key.now, value.now) ∷ []) ++ drop span.end bytes.old.items)) }
+    ensures ok { OnOk result (bytes.new.items ≡ spliced span.start span.end (packed_entry (whole key.entry) value.now) bytes.old.items) }
     ensures err { OnErr result (bytes.new.items ≡ bytes.old.items) }
 {
     let before = bytes.len();

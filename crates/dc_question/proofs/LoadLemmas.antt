@@ -1,14 +1,13 @@
 -- Templates that are loaded.
 use Rattle.std.proofs.Common.{◌≡◌, ◌≢◌, ℕ, true, Option, Some, List, [], ◌∷◌, map as each, refl, sym, ap, ◌∙◌, inl, inr}
 use Rattle.std.specs.List.{All, AllByRecursion, flat_map}
-use Rattle.std.specs.FinMap.{insert, empty, keys}
+use Rattle.std.specs.FinMap.{insert, empty}
 use Rattle.std.specs.Option.{option_map_or}
 use Rattle.std.proofs.lemmas.List.Elements.{All-nil, All-cons}
 use Rattle.std.proofs.lemmas.List.Kept.{AllPairs-cons}
-use Rattle.dc_text.specs.Maps.{set_of, AreDistinct as AllDiffer}
+use Rattle.dc_text.specs.Maps.{AreDistinct as AllDiffer}
 use Rattle.dc_item.specs.After.{after_at}
 use Rattle.dc_item.specs.Item.{ItemParts}
-use Rattle.dc_item.proofs.ItemLemmas.{set_of-keys}
 use Rattle.dc_item.specs.declared.op.Op.TheVariants.{Put}
 use Rattle.dc_template.specs.declared.kinds.Kind.{Kind}
 use Rattle.dc_conf.specs.Plans.{IsOver, are_disjoint}
@@ -31,8 +30,8 @@ with_owner name item = record item { owners = insert item.owners name tt }
 pub no_owners : (item : ItemParts) → item.owners ≡ empty → item ≡ record item { owners = empty }
 no_owners item h = ap (λ s. record item { owners = s }) h
 
-pub kept_owners : (old : Option ItemParts) (parts : ItemParts) (names : List (List ℕ)) → names ≡ keys parts.owners → old ≡ Some parts → set_of names ≡ option_map_or (λ parts. parts.owners) old empty
-kept_owners old parts names is some = ap set_of is ∙ set_of-keys parts.owners ∙ ap (λ o. option_map_or (λ parts. parts.owners) o empty) (sym some)
+pub kept_owners : (old : Option ItemParts) (parts : ItemParts) → old ≡ Some parts → parts.owners ≡ option_map_or (λ parts. parts.owners) old empty
+kept_owners old parts some = ap (λ o. option_map_or (λ parts. parts.owners) o empty) (sym some)
 
 pub load_made : (t : Stanza) (old : Option ItemParts) (a b c : ItemParts) (fields : List (List ℕ × List ℕ)) (name : List ℕ) → fields ≡ t.fields → name ≡ t.name
     → a ≡ of_fields fields

@@ -162,7 +162,7 @@ fn keep_owners(builder: &mut ItemBuilder, old: Option<&Item>) -> Mem<()>
 {
     match old {
         None => Ok(()),
-        Some(old) => builder.put_owners(&old.owners()?),
+        Some(old) => builder.put_owners_of(old),
     }
 }
 

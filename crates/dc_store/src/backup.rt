@@ -22,7 +22,7 @@ fn backup_op(item: Option<&Item>, kept: Option<&Item>) -> Mem<Option<Op>>
     match item {
         Some(item) => Ok(Some(Op::Put(item.copy()?))),
         None => match kept {
-            Some(kept) => Ok(Some(Op::DropOwners(kept.owners()?))),
+            Some(kept) => Ok(Some(Op::DropOwners(kept.owner_names()?))),
             None => Ok(None),
         },
     }

@@ -14,7 +14,7 @@ use Rattle.indexmap.specs.IndexMap.{insert_entry}
 use Rattle.indexmap.proofs.SetLemmas.{keys_insert_entry}
 use Rattle.dc_text.specs.Bytes.{is_nil}
 use Rattle.dc_table.specs.Places.{put}
-use Rattle.dc_table.specs.Marks.{Marks, AtPlaces, AsNames, name_at, touched_in, are_within, has_none, has_mark, with_mark, without_last}
+use Rattle.dc_table.specs.Marks.{Marks, AtPlaces, AsNames, name_at, touched_in, are_within, AreApart, has_none, has_mark, with_mark, without_last}
 use Rattle.dc_table.specs.Tracked.{touch}
 use Rattle.dc_table.proofs.PlaceLemmas.{turned}
 use Rattle.dc_table.proofs.TouchedLemmas.{touched_already, touched_new, flips}
@@ -101,6 +101,11 @@ module _ {X : Type 0} (es : List (List ℕ × X)) where
 
   pub name_of_entry : (i : ℕ) (k : List ℕ) (v : X) → slice_get es i ≡ Some (k, v) → name_at (keys_of es) i ≡ k
   name_of_entry i k v is = get_or_from_slice_get (keys_of es) i k [] (slice_get-map (λ (e : List ℕ × X). e.0) es i ∙ ap (option_map (λ e. e.0)) is)
+
+-- no name is touched twice
+pub touched_apart : {X : Type 0} (es : List (List ℕ × X)) (marks : Marks) → are_within (length es) marks ≡ true → IsDistinct bytes_eq (keys_of es) → AreApart marks → IsDistinct bytes_eq (touched_in (keys_of es) marks)
+touched_apart es (AtPlaces places) within distinct apart = named_apart es places within distinct apart
+touched_apart es (AsNames names) within distinct apart = apart
 
 -- one more name is read
 pub named_next : (keys : List (List ℕ)) (places : List ℕ) (i d : ℕ) (read : List (List ℕ)) (k : List ℕ) → i < length places → read ≡ map (name_at keys) (take i places) → name_at keys (get_or places i d) ≡ k

@@ -1,6 +1,6 @@
 -- How the names that were touched are kept: as the places of their entries, or themselves. No public clause cites this module.
 use Rattle.std.specs.Prelude.{ℕ, ◌-◌, Bool, true, List, [], length, take, nat_eq, nat_lt, slice_index_or, map as each}
-use Rattle.std.specs.List.{list_all, list_any}
+use Rattle.std.specs.List.{list_all, list_any, IsDistinct}
 use Rattle.std.specs.Str.{bytes_eq}
 use Rattle.dc_text.specs.Bytes.{is_nil}
 use Rattle.dc_table.specs.Places.{put}
@@ -33,6 +33,11 @@ are_within bound (AsNames names) = true
 abbrev pub has_none : Marks → Bool
 has_none (AtPlaces places) = is_nil places
 has_none (AsNames names) = is_nil names
+
+-- none of them comes twice
+abbrev pub AreApart : Marks → Type 0
+AreApart (AtPlaces places) = IsDistinct nat_eq places
+AreApart (AsNames names) = IsDistinct bytes_eq names
 
 -- whether the name is touched already, which has this place
 abbrev pub has_mark : Marks → ℕ → List ℕ → Bool

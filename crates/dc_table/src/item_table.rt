@@ -227,10 +227,12 @@ impl ItemTable {
         Ok(text)
     }
 
-    /// Whether a name was touched.
+    /// Whether a name was touched. No name is touched twice.
     pub fn is_touched(&self) -> bool
-        ensures { result ≡ not (is_nil self.now.touched) }
+        ensures some { result ≡ not (is_nil self.now.touched) }
+        ensures distinct { IsDistinct bytes_eq self.now.touched }
     {
+        let _entries = self.items.as_slice();
         !self.touched.is_empty()
     }
 

@@ -3,8 +3,9 @@ ghost use Rattle.std.specs.Prelude.{◌≡◌, ℕ, ◌-◌, ◌&&◌, ◌||◌,
 ghost use Rattle.std.specs.List.{list_any, IsDistinct};
 ghost use Rattle.std.specs.Str.{bytes_eq};
 ghost use Rattle.indexmap.specs.IndexMap.{keys, index_map_len};
+ghost use Rattle.dc_text.specs.Bytes.{is_nil};
 ghost use Rattle.dc_table.specs.Places.{put as put_of};
-ghost use Rattle.dc_table.specs.Marks.{marks_of, touched_in, are_within, has_none, has_mark, with_mark, without_last, name_at, AtPlaces, AsNames};
+ghost use Rattle.dc_table.specs.Marks.{marks_of, touched_in, are_within, AreApart, has_none, has_mark, with_mark, without_last, name_at, AtPlaces, AsNames};
 ghost use Rattle.dc_table.specs.Tracked.{touch as touch_of};
 
 use dc_item::{Item, TableKey};
@@ -75,7 +76,8 @@ impl Places {
     }
 
     pub(crate) fn is_empty(&self) -> bool
-        ensures { (length self.now ≡ 0 → result ≡ true) × (result ≡ true → length self.now ≡ 0) }
+        ensures empty { (length self.now ≡ 0 → result ≡ true) × (result ≡ true → length self.now ≡ 0) }
+        ensures distinct { IsDistinct nat_eq self.now }
     {
         self.order.is_empty()
     }
@@ -150,11 +152,12 @@ impl Touched {
     }
 
     pub(crate) fn is_empty(&self) -> bool
-        ensures { result ≡ has_none (marks_of self.now) }
+        ensures none { result ≡ has_none (marks_of self.now) }
+        ensures apart { AreApart (marks_of self.now) }
     {
         match self {
             Touched::Places(places) => places.is_empty(),
-            Touched::Names(names) => names.is_empty(),
+            Touched::Names(names) => is_none_named(names),
         }
     }
 
@@ -206,6 +209,14 @@ fn drop_last(names: &mut IndexSet<TableKey>)
     ensures { names.new.keys ≡ take (length names.old.keys - 1) names.old.keys }
 {
     let _ = names.pop();
+}
+
+fn is_none_named(names: &IndexSet<TableKey>) -> bool
+    ensures none { result ≡ is_nil names.now.keys }
+    ensures distinct { IsDistinct bytes_eq names.now.keys }
+{
+    let _names = names.as_slice();
+    names.is_empty()
 }
 
 // The names at the places.

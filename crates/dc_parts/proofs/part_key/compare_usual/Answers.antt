@@ -4,4 +4,4 @@ use Rattle.dc_parts.proofs.part_key.compare_usual.Goals as goal
 
 pub returns-in-Some : goal.returns-in-Some
 returns-in-Some c =
-    order_by_number c.in-Some.number c.args.other (c.args.key.mark ∷ c.args.key.key.now) c.cmp.result c.cmp.ensures (sym c.requires.numbered ∙ c.in-Some.is) c.requires.usual
+    order_by_number c.in-Some.number c.args.other (c.args.key.mark ∷ c.args.key.key.now) c.cmp.result c.cmp.ensures (sym c.args.key.numbered ∙ c.in-Some.is) c.requires

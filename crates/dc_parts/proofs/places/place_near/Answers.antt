@@ -16,8 +16,8 @@ compare_front-order-requires-clause-some c = some_left _ _ c.is_empty.ensures c.
 pub split_text-requires : goal.split_text-requires
 split_text-requires c = subst HasText (sym c.compare_front-order.ensures.rest) (has_value c.split_at.result.1.now (some_left _ _ c.is_empty.ensures c.if-not-is_empty.true) (tail_packed c.args.finger c.args.bytes.now c.requires.packed c.requires.finger c.split_at.result.1.now c.split_at.ensures.back).1)
 
-pub place_behind-requires-clause-packed : goal.place_behind-requires-clause-packed
-place_behind-requires-clause-packed c =
+pub place_behind-requires : goal.place_behind-requires
+place_behind-requires c =
     let rest = c.split_text.ensures.rest ∙ ap behind_text c.compare_front-order.ensures.rest in
     subst IsPacked (sym rest) (later_packed c.split_at.result.1.now (some_left _ _ c.is_empty.ensures c.if-not-is_empty.true) (tail_packed c.args.finger c.args.bytes.now c.requires.packed c.requires.finger c.split_at.result.1.now c.split_at.ensures.back).1)
 

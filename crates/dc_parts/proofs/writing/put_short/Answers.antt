@@ -1,6 +1,6 @@
-use Rattle.std.proofs.Common.{ℕ, ◌≡◌, ◌+◌, ◌-◌, ◌++◌, ◌∷◌, List, length, take, drop, arith, sym, ap, ◌∙◌}
+use Rattle.std.proofs.Common.{ℕ, ◌≡◌, ◌+◌, ◌-◌, ◌++◌, List, length, take, drop, arith, sym, ap, ◌∙◌}
 use Rattle.std.proofs.lemmas.List.{take-take}
-use Rattle.dc_parts.specs.Packed.{packed_text}
+use Rattle.dc_parts.specs.Writing.{short_entry}
 use Rattle.dc_parts.proofs.writing.put_short.Goals as goal
 
 -- what stands before and behind the wider span is as it was
@@ -14,4 +14,4 @@ returns-clause-ok c =
     ∙ take-take c.args.span.start c.args.span.end old c.requires.ordered in
     let end : count ≡ c.args.span.end + (count - c.args.span.end) = omega (arith, c.if-end-span.false) in
     let rest : drop count new ≡ drop c.args.span.end old = ap (λ n. drop n new) end ∙ c.in_ok-open_gap.ensures.rest in
-    c.put_within-2.ensures ∙ (λ i. front i ++ ((c.args.key.first ∷ c.args.key.second ∷ c.args.key.rest.now) ++ packed_text c.args.value.now) ++ rest i)
+    c.put_within-2.ensures ∙ (λ i. front i ++ (short_entry c.args.key c.args.value.now ++ rest i))

@@ -14,13 +14,13 @@ returns-in-SetField c =
     let key = c.in-SetField.key in
     let value = c.in-SetField.value in
     c.is_value-stays.ensures
-    ∙ ap (λ o. option_map_or (λ bytes. bytes_eq bytes value) o false) (c.field.ensures ∙ ap (map.get c.args.self.now.fields) c.bytes.ensures.value)
+    ∙ ap (λ o. option_map_or (λ bytes. bytes_eq bytes value) o false) (c.field.ensures.value ∙ ap (map.get c.args.self.now.fields) c.bytes.ensures.value)
     ∙ stays_field c.args.self.now key value ∙ ap (λ op. parts_eq (asked op c.args.self.now) c.args.self.now) (sym c.in-SetField.is)
 
 pub returns-in-DropField : goal.returns-in-DropField
 returns-in-DropField c =
     let key = c.in-DropField.key in
-    let is = sym (ap is_some (c.field-in-DropField.ensures ∙ ap (map.get c.args.self.now.fields) c.bytes-in-DropField.ensures.value)) ∙ copied_is c.field-in-DropField.result ∙ c.is_none-stays.ensures in
+    let is = sym (ap is_some (c.field-in-DropField.ensures.value ∙ ap (map.get c.args.self.now.fields) c.bytes-in-DropField.ensures.value)) ∙ copied_is c.field-in-DropField.result ∙ c.is_none-stays.ensures in
     stays_without_field c.args.self.now key c.is_none-stays.result is ∙ ap (λ op. parts_eq (asked op c.args.self.now) c.args.self.now) (sym c.in-DropField.is)
 
 pub returns-in-SetFlag : goal.returns-in-SetFlag
@@ -36,7 +36,7 @@ returns-in-SetVar c =
     let key = c.in-SetVar.key in
     let value = c.in-SetVar.value in
     c.is_value-stays-in-SetVar.ensures
-    ∙ ap (λ o. option_map_or (λ bytes. bytes_eq bytes value) o false) (c.var.ensures ∙ ap (map.get c.args.self.now.variables) c.bytes-in-SetVar.ensures.value)
+    ∙ ap (λ o. option_map_or (λ bytes. bytes_eq bytes value) o false) (c.var.ensures.value ∙ ap (map.get c.args.self.now.variables) c.bytes-in-SetVar.ensures.value)
     ∙ stays_variable c.args.self.now key value ∙ ap (λ op. parts_eq (asked op c.args.self.now) c.args.self.now) (sym c.in-SetVar.is)
 
 pub returns-in-AddOwner : goal.returns-in-AddOwner

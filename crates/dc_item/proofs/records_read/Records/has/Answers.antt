@@ -8,4 +8,4 @@ use Rattle.dc_item.proofs.records_read.Records.has.Goals as goal
 pub returns : goal.returns
 returns c =
     c.contains_key.ensures ∙ has_name c.args.name.now c.self.inside.items.entries
-    ∙ ap (λ names. map.contains_key (set_of names) c.args.name.now) (sym (names-with_lines _ c.self.inside.lines c.self.invariant.0.as_many) ∙ ap names_of c.self.view_is)
+    ∙ ap (λ names. map.contains_key (set_of names) c.args.name.now) (sym (names-with_lines _ c.self.inside.lines.items c.self.invariant.0.as_many) ∙ ap names_of c.self.view_is)

@@ -9,9 +9,9 @@ pub loop-key-init : goal.loop-key-init
 loop-key-init c =
     let all = c.into_iter-key-iterator.ensures.into_iter_gives.0 in
     record {
-      as_many = ap length c.bytes-rest.ensures ∙ c.self.invariant.0.as_many ∙ sym (ap length all);
+      as_many = ap length c.as_slice-rest.ensures.value ∙ c.self.invariant.0.as_many ∙ sym (ap length all);
       named = ap (λ es. list_all is_name (names_in es)) all ∙ c.self.invariant.0.named;
-      so_far = (λ i. c.new-list.ensures i ++ with_lines (all i) (c.bytes-rest.ensures i)) ∙ c.self.view_is;
+      so_far = (λ i. c.new-list.ensures i ++ with_lines (all i) (c.as_slice-rest.ensures.value i)) ∙ c.self.view_is;
     }
 
 pub name_of-requires : goal.name_of-requires

@@ -9,4 +9,4 @@ returns c =
     let q = c.new.result.mark ∷ c.new.result.key.now in
     c.place_of.ensures.value ∙ ap (λ bytes. value_at q (entries_in bytes)) c.deref.ensures.value
     ∙ get-place q (entries_in c.self.inside.bytes.items) c.self.invariant.1 ∙ ap (λ m. map.get m q) c.self.view_is
-    ∙ ap (map.get c.args.self.now) c.new.ensures.part
+    ∙ ap (map.get c.args.self.now) c.new.ensures

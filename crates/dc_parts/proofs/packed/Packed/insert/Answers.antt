@@ -27,4 +27,4 @@ returns-clause-put c =
     let is = put_packed q c.self.inside.bytes.items span.start span.end starts ends c.args.value.now _ c.put_between.new.bytes.items refl c.in_ok-put_between.ensures.ok in
     from_sorted_put q c.args.value.now (entries_in c.self.inside.bytes.items) _ c.self.invariant.1 is.0
     ∙ ap (λ m. map.insert m q c.args.value.now) c.self.view_is
-    ∙ ap (λ k. map.insert c.args.self.now k c.args.value.now) c.new-part.ensures.part
+    ∙ ap (λ k. map.insert c.args.self.now k c.args.value.now) c.new-part.ensures

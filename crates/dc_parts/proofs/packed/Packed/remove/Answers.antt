@@ -25,7 +25,7 @@ returns-then-span c =
     let there = rw c.deref.ensures.value at c.span_of-span.ensures.is_there in
     let is = cut_packed q c.self.inside.bytes.items span.start span.end starts ends c.cut_out.new.bytes.items c.self.invariant.1 c.cut_out.ensures in
     from_sorted_without q (entries_in c.self.inside.bytes.items) _ c.self.invariant.1 is.0
-    ∙ ap (λ m. map.remove m q) c.self.view_is ∙ ap (map.remove c.args.self.now) c.new.ensures.part
+    ∙ ap (λ m. map.remove m q) c.self.view_is ∙ ap (map.remove c.args.self.now) c.new.ensures
 
 -- it isn't
 pub returns-else-span : goal.returns-else-span
@@ -34,4 +34,4 @@ returns-else-span c =
     let there = rw c.deref.ensures.value at c.span_of-span.ensures.is_there in
     sym c.self.view_is
     ∙ from_sorted_without q (entries_in c.self.inside.bytes.items) _ c.self.invariant.1 (without_missing q (entries_in c.self.inside.bytes.items) c.self.invariant.1 (sym there ∙ c.if-span.false))
-    ∙ ap (λ m. map.remove m q) c.self.view_is ∙ ap (map.remove c.args.self.now) c.new.ensures.part
+    ∙ ap (λ m. map.remove m q) c.self.view_is ∙ ap (map.remove c.args.self.now) c.new.ensures
