@@ -21,9 +21,9 @@ use Rattle.dc_serve.specs.LinkRun.{Answered}
 use Rattle.dc_serve.specs.declared.outcome.LinkEnd.{LinkEnd}
 use Rattle.dc_serve.specs.declared.outcome.LinkEnd.TheVariants as link
 use Rattle.dc_session.specs.Machine.{Handles, Aborts}
-use Rattle.dc_session.specs.Serving.{IsServed}
+use Rattle.dc_session.specs.Serving.{IsServed, Resources}
 use Rattle.dc_outside.specs.State.{FilesState, LinkState}
-use Rattle.dc_session.specs.SessionState.{SessionState}
+use Rattle.dc_session.specs.SessionState.{SessionState, TerminalState}
 use Rattle.dc_session.specs.declared.stepped.StepError.{StepError}
 use Rattle.dc_session.specs.declared.stepped.StepError.TheVariants as step
 use Rattle.dc_session.proofs.TerminalLaws.{CountsBreak, AsksNobody, breaks_count, course_counts, course_nobody, never_fails}
@@ -45,9 +45,9 @@ use Rattle.dc_run.specs.Saves.{Save}
 use Rattle.dc_run.specs.Running.{IsNotStarted, IsStarted, end_unstarted, Awaits}
 use Rattle.dc_run.specs.Starting.{EndsBefore, begun}
 use Rattle.dc_run.specs.TemplateLoading.{EndsAt}
-use Rattle.dc_run.specs.World.{Links, Stock, World}
+use Rattle.dc_run.specs.World.{Links, Stock, World, RunState, before_rounds}
 use Rattle.dc_run.proofs.CrashLemmas.{state_left, broken_off}
-use Rattle.dc_run.proofs.RoundLemmas.{as_used}
+use Rattle.dc_run.proofs.UsedLemmas.{as_used}
 use Rattle.dc_run.proofs.RunLemmas.{ends_so}
 
 -- ---- ends before the tool
@@ -136,10 +136,10 @@ module _ (before now : Counts) where
   by_session served ended (inl same) counts = rw same (by_link served counts)
   by_session served ended (inr none) counts = rw none (may_rise (tool_end_of served) (by_link served counts))
 
-served_counts : (start : SessionState) (layers : List LayerState) (files : FilesState) (terminal old new : LinkState) (ended : LinkEnd StepError) (code : ℕ) → IsServed start layers files terminal old new ended code
+served_counts : (start : SessionState) (left : Resources) (old new : LinkState) (ended : LinkEnd StepError) (before code : ℕ) → IsServed start left old new ended before code
     → ServedCounts (tool_end_of ended) old.counts new.counts
-served_counts start layers files terminal old new ended code is =
-    by_session old.counts new.counts is.served ended (ends_so is.served is.state layers ended is.finishes) is.counts
+served_counts start left old new ended before code is =
+    by_session old.counts new.counts is.served ended (ends_so is.served is.state left.layers ended is.finishes) is.counts
 
 -- ---- its terminal
 
@@ -148,24 +148,24 @@ abbrev TerminalCounts : LinkEnd StepError → Counts → Counts → Type 0
 TerminalCounts (link.Broken error) before now = CountsBreak error before now
 TerminalCounts ended before now = Stays before now
 
-module _ (start new : SessionState) (turns : List (Transition SessionState)) (rest : List Line) (talk : List Piece) (input : Option (List ℕ)) (code : ℕ) (course : IsExecution Handles start turns) where
+module _ (start new : SessionState) (turns : List (Transition SessionState)) (rest : List Line) (talk : List Piece) (input : Option (List ℕ)) (code_before code : ℕ) (course : IsExecution Handles start turns) where
   unused : new ≡ state_after start turns → new.terminal.link.counts ≡ start.terminal.link.counts
   unused is = ap (λ (s : SessionState). s.terminal.link.counts) is ∙ course_counts start turns course
 
   moved : (error : StepError) (before mid now : Counts) → mid ≡ before → CountsBreak error mid now → CountsBreak error before now
   moved error before mid now same counts = subst (λ (c : Counts). CountsBreak error c now) same counts
 
-  terminal_counts : (ended : LinkEnd StepError) → Answered Aborts ended start turns rest talk input new code → TerminalCounts ended start.terminal.link.counts new.terminal.link.counts
-  terminal_counts link.Done answered = unused (state_left start new turns rest talk input code link.Done tt answered)
-  terminal_counts link.LinkFault answered = unused (state_left start new turns rest talk input code link.LinkFault tt answered)
-  terminal_counts link.TooLong answered = unused (state_left start new turns rest talk input code link.TooLong tt answered)
-  terminal_counts link.OutOfMemory answered = unused (broken_off start new turns rest talk input code answered)
+  terminal_counts : (ended : LinkEnd StepError) → Answered Aborts ended start turns rest talk input code_before new code → TerminalCounts ended start.terminal.link.counts new.terminal.link.counts
+  terminal_counts link.Done answered = unused (state_left start new turns rest talk input code_before code link.Done tt answered)
+  terminal_counts link.LinkFault answered = unused (state_left start new turns rest talk input code_before code link.LinkFault tt answered)
+  terminal_counts link.TooLong answered = unused (state_left start new turns rest talk input code_before code link.TooLong tt answered)
+  terminal_counts link.OutOfMemory answered = unused (broken_off start new turns rest talk input code_before code answered)
   terminal_counts (link.Broken error) answered =
       moved error start.terminal.link.counts (state_after start turns).terminal.link.counts new.terminal.link.counts (course_counts start turns course)
       (breaks_count (state_after start turns) new answered.line error answered.broke)
 
   -- a session that asks nobody doesn't break off at its terminal
-  unbroken : AsksNobody start → (error : StepError) → error ≡ step.Term → Answered Aborts (link.Broken error) start turns rest talk input new code → ⊥
+  unbroken : AsksNobody start → (error : StepError) → error ≡ step.Term → Answered Aborts (link.Broken error) start turns rest talk input code_before new code → ⊥
   unbroken nobody step.Term is answered = never_fails (state_after start turns) new answered.line (course_nobody start turns nobody course) answered.broke
   unbroken nobody step.OutOfMemory is answered = cc
 
@@ -201,17 +201,17 @@ no_term served (link.Broken step.OutOfMemory) by other is = cc
 no_term served (link.Broken step.Term) (inl same) other is = other (sym same)
 no_term served (link.Broken step.Term) (inr none) other is = cc
 
-communicated_links : (start : SessionState) (before now : Links) (answer : ToolAnswer) (layers : List LayerState) (files : FilesState) → AsksNobody start → HasCommunicated start before.io now.io answer layers files
+communicated_links : (start : SessionState) (before now : Links) (code : ℕ) (answer : ToolAnswer) (left : Resources) → AsksNobody start → HasCommunicated start before.io now.io code answer left
     → now.child ≡ before.child → ToolLinks answer.ended before now
-communicated_links start before now answer layers files nobody is child =
+communicated_links start before now code answer left nobody is child =
     let served = is.served in
     let ran = served.ran in
     rw is.ended_is
     (own_links before now child (tool_end_of is.ended)
-    (no_term served.served is.ended (ends_so served.served served.state layers is.ended served.finishes)
-    (λ broken. unbroken start served.state ran.transitions ran.rest ran.pieces before.io.input answer.last_code ran.course nobody step.Term refl
-    (subst (λ (e : LinkEnd StepError). Answered Aborts e start ran.transitions ran.rest ran.pieces before.io.input served.state answer.last_code) broken ran.answered)))
-    (served_counts start layers files is.terminal before.io now.io is.ended answer.last_code served))
+    (no_term served.served is.ended (ends_so served.served served.state left.layers is.ended served.finishes)
+    (λ broken. unbroken start served.state ran.transitions ran.rest ran.pieces before.io.input code answer.last_code ran.course nobody step.Term refl
+    (subst (λ (e : LinkEnd StepError). Answered Aborts e start ran.transitions ran.rest ran.pieces before.io.input code served.state answer.last_code) broken ran.answered)))
+    (served_counts start left before.io now.io is.ended code answer.last_code served))
 
 silent_links : (ended : ToolEnd) (state : SessionState) (rest : List (List ℕ)) (new : SessionState) (links : Links) → EndsAt ended state rest new → ToolLinks ended links links
 silent_links tool.Done state rest new links ends = all_stay links
@@ -248,22 +248,22 @@ module _ (before now : Links) where
   program_links served ended (inr none) child io =
       rw none (record { on_io = any_io served io; on_child = subst (λ (e : LinkEnd StepError). ServedCounts (tool_end_of e) before.child.counts now.child.counts) none child })
 
-started_links : (command : List (List ℕ)) (start : SessionState) (before now : Links) (answer : ToolAnswer) (layers : List LayerState) (files : FilesState) → start.terminal.link ≡ before.io
-    → IsStarted command start before now answer layers files → ToolLinks answer.ended before now
-started_links command start before now answer layers files asks is =
+started_links : (command : List (List ℕ)) (start : SessionState) (before now : Links) (code : ℕ) (answer : ToolAnswer) (left : Resources) → start.terminal.link ≡ before.io
+    → IsStarted command start before now code answer left → ToolLinks answer.ended before now
+started_links command start before now code answer left asks is =
     let served = is.served in
     let ran = served.ran in
-    let shown = terminal_counts start served.state ran.transitions ran.rest ran.pieces is.mid.input answer.last_code ran.course served.served ran.answered in
+    let shown = terminal_counts start served.state ran.transitions ran.rest ran.pieces is.mid.input code answer.last_code ran.course served.served ran.answered in
     rw is.ended_is
-    (program_links before now served.served is.ended (ends_so served.served served.state layers is.ended served.finishes)
+    (program_links before now served.served is.ended (ends_so served.served served.state left.layers is.ended served.finishes)
     (subst (λ (c : Counts). ServedCounts (tool_end_of is.ended) c now.child.counts) (ap (λ (l : LinkState). l.counts) is.starts.state)
-    (served_counts start layers files now.io is.mid now.child is.ended answer.last_code served))
+    (served_counts start left is.mid now.child is.ended code answer.last_code served))
     (subst (λ (c : Counts). TerminalCounts served.served c now.io.counts) (ap (λ (l : LinkState). l.counts) asks)
-    (subst (λ (c : Counts). TerminalCounts served.served start.terminal.link.counts c) (ap (λ (l : LinkState). l.counts) (sym served.terminal_is)) shown)))
+    (subst (λ (c : Counts). TerminalCounts served.served start.terminal.link.counts c) (ap (λ (l : LinkState). l.counts) (sym (is.io ∙ ap (λ (t : TerminalState). t.link) served.terminal_is))) shown)))
 
-unstarted_links : (command : List (List ℕ)) (start : SessionState) (before now : Links) (answer : ToolAnswer) (layers : List LayerState) (files : FilesState)
-    → IsNotStarted command start before now answer layers files → ToolLinks answer.ended before now
-unstarted_links command start before now answer layers files is = rw is.ended_is (by_error is.error is.starts) where
+unstarted_links : (command : List (List ℕ)) (start : SessionState) (before now : Links) (code : ℕ) (answer : ToolAnswer) (left : Resources)
+    → IsNotStarted command start before now code answer left → ToolLinks answer.ended before now
+unstarted_links command start before now code answer left is = rw is.ended_is (by_error is.error is.starts) where
   io : now.io.counts ≡ before.io.counts
   io = ap (λ (l : LinkState). l.counts) is.io
 
@@ -271,15 +271,15 @@ unstarted_links command start before now answer layers files is = rw is.ended_is
   by_error Failed failed = record { on_io = io; on_child = ap (λ (l : LinkState). l.counts) failed.state }
   by_error OutOfMemory refused = record { on_io = inl io; on_child = inr (inr refused.rose) }
 
-tool_links : (used : Tool) (stock : Stock) (roots : Roots) (settings : Settings) (before now : Links) (answer : ToolAnswer) (said : List ℕ) (layers : List LayerState) (files : FilesState)
-    → Uses used (begun used stock roots settings before.io) before now answer said layers files → ToolLinks answer.ended before now
-tool_links (Communicate owner) stock roots settings before now answer said layers files uses =
-    communicated_links (begun (Communicate owner) stock roots settings before.io) before now answer layers files refl uses.0 uses.1
-tool_links (LoadTemplate owner paths) stock roots settings before now answer said layers files uses =
-    rw uses.links_are (silent_links answer.ended _ uses.loaded.rest uses.state before uses.loaded.ends)
-tool_links (Run owner frontend priority command) stock roots settings before now answer said layers files uses = elim uses.0 [
-  | inl none ↦ unstarted_links command (begun (Run owner frontend priority command) stock roots settings before.io) before now answer layers files none
-  | inr started ↦ started_links command (begun (Run owner frontend priority command) stock roots settings before.io) before now answer layers files refl started
+tool_links : (used : Tool) (state : RunState) (roots : Roots) (settings : Settings) (now : Links) (answer : ToolAnswer) (said : List ℕ) (left : Resources)
+    → Uses used (begun used state roots settings) state.world.links now state.code answer said left → ToolLinks answer.ended state.world.links now
+tool_links (Communicate owner) state roots settings now answer said left uses =
+    communicated_links (begun (Communicate owner) state roots settings) state.world.links now state.code answer left refl uses.0 uses.1
+tool_links (LoadTemplate owner paths) state roots settings now answer said left uses =
+    rw uses.links_are (silent_links answer.ended _ uses.loaded.rest uses.state state.world.links uses.loaded.ends)
+tool_links (Run owner frontend priority command) state roots settings now answer said left uses = elim uses.0 [
+  | inl none ↦ unstarted_links command (begun (Run owner frontend priority command) state roots settings) state.world.links now state.code answer left none
+  | inr started ↦ started_links command (begun (Run owner frontend priority command) state roots settings) state.world.links now state.code answer left refl started
 ]
 
 -- ---- the end of the run
@@ -372,12 +372,12 @@ unstarted_program : (command : List (List ℕ)) (error : LinkError) (before now 
 unstarted_program command Failed before now failed = failed.rose.failures
 unstarted_program command OutOfMemory before now refused = ap (λ (l : LinkState). l.program.failures) refused.state
 
-tool_program : (used : Tool) (start : SessionState) (before now : Links) (answer : ToolAnswer) (said : List ℕ) (layers : List LayerState) (files : FilesState)
-    → Uses used start before now answer said layers files → StartCounts answer.ended before.child.program.failures now.child.program.failures
-tool_program (Communicate owner) start before now answer said layers files uses = rw uses.0.ended_is (served_start uses.0.ended _ _ (ap (λ (c : LinkState). c.program.failures) uses.1))
-tool_program (LoadTemplate owner paths) start before now answer said layers files uses =
+tool_program : (used : Tool) (start : SessionState) (before now : Links) (code : ℕ) (answer : ToolAnswer) (said : List ℕ) (left : Resources)
+    → Uses used start before now code answer said left → StartCounts answer.ended before.child.program.failures now.child.program.failures
+tool_program (Communicate owner) start before now code answer said left uses = rw uses.0.ended_is (served_start uses.0.ended _ _ (ap (λ (c : LinkState). c.program.failures) uses.1))
+tool_program (LoadTemplate owner paths) start before now code answer said left uses =
     rw uses.links_are (silent_start answer.ended _ uses.loaded.rest uses.state before.child.program.failures uses.loaded.ends)
-tool_program (Run owner frontend priority command) start before now answer said layers files uses = elim uses.0 [
+tool_program (Run owner frontend priority command) start before now code answer said left uses = elim uses.0 [
   | inl none ↦ rw none.ended_is (unstarted_program command none.error before.child now.child none.starts)
   | inr started ↦ rw started.ended_is (served_start started.ended before.child.program.failures now.child.program.failures (ap (λ (p : Program). p.failures) started.served.program ∙ started.starts.began.failures))
 ]
@@ -434,8 +434,8 @@ module _ (used : Tool) (settings : Settings) (old new : World) (outcome : Outcom
   links_counted saves (inr worked) =
       let run = as_used used settings old new outcome saves worked in
       awaited_links old.links run.links new.links run.io_is run.answer.is_started run.how outcome.end run.answer.status run.status run.awaits
-      (run_links run.layers new.stock.used run.files new.stock.files old.links run.links run.answer.ended run.how run.finishes
-      (tool_links used run.mid run.roots settings old.links run.links run.answer run.told run.layers run.files run.uses))
+      (run_links run.left.layers new.stock.used run.left.files new.stock.files old.links run.links run.answer.ended run.how run.finishes
+      (tool_links used (before_rounds (record old { stock = run.mid })) run.roots settings run.links run.answer run.told run.left run.uses))
 
   pub program_counted : (saves : List Save) → HasRunTool used settings old new outcome saves → ProgramCounts outcome.end old.links.child.program.failures new.links.child.program.failures
   program_counted saves (inl before) = subst (λ (l : Links). ProgramCounts outcome.end old.links.child.program.failures l.child.program.failures) (sym before.1.links_are)
@@ -443,5 +443,5 @@ module _ (used : Tool) (settings : Settings) (old new : World) (outcome : Outcom
   program_counted saves (inr worked) =
       let run = as_used used settings old new outcome saves worked in
       awaited_program run.answer.is_started old.links.child.program.failures run.links.child new.links.child run.how outcome.end run.answer.status run.status run.awaits
-      (run_program run.layers new.stock.used run.files new.stock.files old.links.child.program.failures run.links.child.program.failures run.answer.ended run.how run.finishes
-      (tool_program used (begun used run.mid run.roots settings old.links.io) old.links run.links run.answer run.told run.layers run.files run.uses))
+      (run_program run.left.layers new.stock.used run.left.files new.stock.files old.links.child.program.failures run.links.child.program.failures run.answer.ended run.how run.finishes
+      (tool_program used (begun used (before_rounds (record old { stock = run.mid })) run.roots settings) old.links run.links 0 run.answer run.told run.left run.uses))

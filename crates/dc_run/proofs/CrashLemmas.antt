@@ -55,7 +55,7 @@ use Rattle.dc_session.specs.Answers.{CommandInputs, answer, after_command, names
 use Rattle.dc_session.specs.Asking.{with_seen}
 use Rattle.dc_session.specs.Machine.{Handles, Steps, StepsHeard, Aborts, HasDone, GivesInPart, IsDoneInPart}
 use Rattle.dc_session.specs.declared.stepped.StepError.TheVariants as step
-use Rattle.dc_session.specs.Serving.{IsFinished, Finishes as FinishesSession, IsServed}
+use Rattle.dc_session.specs.Serving.{IsFinished, Finishes as FinishesSession, IsServed, Resources}
 use Rattle.dc_outside.specs.State.{FilesState}
 use Rattle.dc_session.specs.SessionState.{SessionState}
 use Rattle.dc_session.specs.TemplateFiles.{Finds, FindsNoMemory}
@@ -242,16 +242,16 @@ last_after : (start : SessionState) (gone : List (Transition SessionState)) (las
 last_after start [] last = refl
 last_after start (turn ∷ gone) last = last_after turn.new gone last
 
-module _ (start new : SessionState) (turns : List (Transition SessionState)) (rest : List Line) (talk : List Piece) (input : Option (List ℕ)) (code : ℕ) where
+module _ (start new : SessionState) (turns : List (Transition SessionState)) (rest : List Line) (talk : List Piece) (input : Option (List ℕ)) (before code : ℕ) where
   behind : (gone : List (Transition SessionState)) (last : Transition SessionState) → turns ≡ gone ++ last ∷ [] → new ≡ last.new → new ≡ state_after start turns
   behind gone last are is = is ∙ sym (last_after start gone last) ∙ ap (state_after start) (sym are)
 
-  pub broken_off : BreaksOff start turns (said talk) 0 new code → new ≡ state_after start turns
+  pub broken_off : BreaksOff start turns (said talk) before new code → new ≡ state_after start turns
   broken_off (inl all) = all.1.state_is
   broken_off (inr unsaid) = behind unsaid.gone unsaid.last unsaid.turns_are unsaid.state_is
 
   -- the state is the one that the turns leave, where the layers are saved
-  pub state_left : (ended : LinkEnd StepError) → IsEnded (tool_end_of ended) → Answered Aborts ended start turns rest talk input new code → new ≡ state_after start turns
+  pub state_left : (ended : LinkEnd StepError) → IsEnded (tool_end_of ended) → Answered Aborts ended start turns rest talk input before new code → new ≡ state_after start turns
   state_left link.Done is answered = answered.are_said.state_is
   state_left link.LinkFault is (inl lost) = lost.answered.are_said.state_is
   state_left link.LinkFault is (inr cut) = behind cut.answered.gone cut.answered.last cut.answered.turns_are cut.answered.state_is
@@ -264,7 +264,7 @@ module _ (start new : SessionState) (turns : List (Transition SessionState)) (re
   reads_to course is = ap (λ (s : SessionState). s.files.view.disk) is ∙ course_reads start turns course
 
   -- at each end the session has only read files
-  session_reads : IsExecution Handles start turns → (ended : LinkEnd StepError) → Answered Aborts ended start turns rest talk input new code → new.files.view.disk ≡ start.files.view.disk
+  session_reads : IsExecution Handles start turns → (ended : LinkEnd StepError) → Answered Aborts ended start turns rest talk input before new code → new.files.view.disk ≡ start.files.view.disk
   session_reads course link.Done answered = reads_to course (state_left link.Done tt answered)
   session_reads course link.LinkFault answered = reads_to course (state_left link.LinkFault tt answered)
   session_reads course link.TooLong answered = reads_to course (state_left link.TooLong tt answered)
@@ -379,30 +379,30 @@ pub record KeepsAll (start : SessionState) (ended : ToolEnd) (layers : List Laye
   pub disk : files.view.disk ≡ start.files.view.disk
   pub specs : IsEnded ended → specs_in layers ≡ specs_of start
 
-served_keeps : (start : SessionState) (old new terminal : LinkState) (given : ToolAnswer) (layers : List LayerState) (files : FilesState) (ended : LinkEnd StepError) → given.ended ≡ tool_end_of ended
-    → IsServed start layers files terminal old new ended given.last_code → KeepsAll start given.ended layers files
-served_keeps start old new terminal given layers files ended ended_is served =
+served_keeps : (start : SessionState) (old new : LinkState) (before : ℕ) (given : ToolAnswer) (left : Resources) (ended : LinkEnd StepError) → given.ended ≡ tool_end_of ended
+    → IsServed start left old new ended before given.last_code → KeepsAll start given.ended left.layers left.files
+served_keeps start old new before given left ended ended_is served =
     let ran = served.ran in
     record {
-      disk = ap (λ (f : FilesState). f.view.disk) served.files_are ∙ session_reads start served.state ran.transitions ran.rest ran.pieces old.input given.last_code ran.course served.served ran.answered;
+      disk = ap (λ (f : FilesState). f.view.disk) served.files_are ∙ session_reads start served.state ran.transitions ran.rest ran.pieces old.input before given.last_code ran.course served.served ran.answered;
       specs = λ is.
-          let done : IsEnded (tool_end_of served.served) = was_served served.served ended (ends_so served.served served.state layers ended served.finishes) (subst IsEnded ended_is is) in
-          session_keeps served.state layers served.served ended served.finishes
-          ∙ ap specs_of (state_left start served.state ran.transitions ran.rest ran.pieces old.input given.last_code served.served done ran.answered)
+          let done : IsEnded (tool_end_of served.served) = was_served served.served ended (ends_so served.served served.state left.layers ended served.finishes) (subst IsEnded ended_is is) in
+          session_keeps served.state left.layers served.served ended served.finishes
+          ∙ ap specs_of (state_left start served.state ran.transitions ran.rest ran.pieces old.input before given.last_code served.served done ran.answered)
           ∙ course_keeps start ran.transitions ran.course;
     }
 
-pub tool_keeps : (used : Tool) (start : SessionState) (old new : Links) (given : ToolAnswer) (told : List ℕ) (layers : List LayerState) (files : FilesState) → Uses used start old new given told layers files → KeepsAll start given.ended layers files
-tool_keeps (Communicate owner) start old new given told layers files uses = served_keeps start old.io new.io uses.0.terminal given layers files uses.0.ended uses.0.ended_is uses.0.served
-tool_keeps (LoadTemplate owner paths) start old new given told layers files uses =
+pub tool_keeps : (used : Tool) (start : SessionState) (old new : Links) (before : ℕ) (given : ToolAnswer) (told : List ℕ) (left : Resources) → Uses used start old new before given told left → KeepsAll start given.ended left.layers left.files
+tool_keeps (Communicate owner) start old new before given told left uses = served_keeps start old.io new.io before given left uses.0.ended uses.0.ended_is uses.0.served
+tool_keeps (LoadTemplate owner paths) start old new before given told left uses =
     let loads = uses.loaded in
     record {
-      disk = ap (λ (f : FilesState). f.view.disk) uses.files_are ∙ end_reads given.ended (file_state start loads.turns) loads.rest uses.state loads.ends ∙ files_read start loads.turns loads.course;
-      specs = λ is. ap specs_in uses.layers_are ∙ end_keeps given.ended is (file_state start loads.turns) loads.rest uses.state loads.ends ∙ files_keep start loads.turns loads.course;
+      disk = ap (λ (l : Resources). l.files.view.disk) uses.left_is ∙ end_reads given.ended (file_state start loads.turns) loads.rest uses.state loads.ends ∙ files_read start loads.turns loads.course;
+      specs = λ is. ap (λ (l : Resources). specs_in l.layers) uses.left_is ∙ end_keeps given.ended is (file_state start loads.turns) loads.rest uses.state loads.ends ∙ files_keep start loads.turns loads.course;
     }
-tool_keeps (Run owner frontend priority command) start old new given told layers files uses = elim uses.0 [
-  | inl none ↦ record { disk = ap (λ (f : FilesState). f.view.disk) none.files_are; specs = λ is. ap specs_in none.layers_are }
-  | inr started ↦ served_keeps start started.mid new.child new.io given layers files started.ended started.ended_is started.served
+tool_keeps (Run owner frontend priority command) start old new before given told left uses = elim uses.0 [
+  | inl none ↦ record { disk = ap (λ (l : Resources). l.files.view.disk) none.left_is; specs = λ is. ap (λ (l : Resources). specs_in l.layers) none.left_is }
+  | inr started ↦ served_keeps start started.mid new.child before given left started.ended started.ended_is started.served
 ]
 
 -- ---- the save of a round

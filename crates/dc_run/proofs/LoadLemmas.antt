@@ -155,14 +155,16 @@ one_joined start paths old new ended before one later either left is loads =
     subst (λ (r : Bool). LoadsFiles start paths old new (record { ended = ended; refused = r }) left) (or_grouped before one later ∙ ap (λ (r : Bool). r || later) (sym is)) loads
 
 -- the files were loaded into these layers
-pub loaded_over : (start begun left : SessionState) (slice paths : List (List ℕ)) (old new : LinkState) (loaded : FilesLoaded) (answer : ToolAnswer) (layers : List LayerState) (files : FilesState) → start ≡ begun → slice ≡ paths → LoadsFiles start slice old new loaded left
-    → layers ≡ left.store.layers → files ≡ left.files → answer ≡ record { ended = loaded.ended; is_started = false; last_code = 0; status = status_by loaded.refused } → HasLoadedOver begun paths old new answer layers files
-loaded_over start begun left slice paths old new loaded answer layers files same all loads layers_are files_are is =
-    subst (λ (a : ToolAnswer). HasLoadedOver begun paths old new a layers files) (sym is) (record {
+pub loaded_over : (start begun left : SessionState) (slice paths : List (List ℕ)) (old new : LinkState) (before : ℕ) (loaded : FilesLoaded) (answer : ToolAnswer) (layers : List LayerState) (files : FilesState) → start ≡ begun → slice ≡ paths → LoadsFiles start slice old new loaded left
+    → layers ≡ left.store.layers → files ≡ left.files → left.terminal ≡ begun.terminal → left.err ≡ begun.err → answer ≡ record { ended = loaded.ended; is_started = false; last_code = before; status = status_by loaded.refused } → HasLoadedOver begun paths old new before answer layers files
+loaded_over start begun left slice paths old new before loaded answer layers files same all loads layers_are files_are terminal_is err_is is =
+    subst (λ (a : ToolAnswer). HasLoadedOver begun paths old new before a layers files) (sym is) (record {
       said = loads.said;
       state = left;
       layers_are = layers_are;
       files_are = files_are;
+      terminal_is = terminal_is;
+      err_is = err_is;
       loads = subst (λ (s : SessionState). HasLoadedFiles s paths loaded.ended loads.said (status_by loaded.refused) left) same (subst (λ (p : List (List ℕ)). HasLoadedFiles start p loaded.ended loads.said (status_by loaded.refused) left) all loads.loads);
       last_code_is = refl;
       waits = refl;

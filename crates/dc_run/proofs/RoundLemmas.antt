@@ -20,16 +20,19 @@ use Rattle.dc_run.specs.Ends.{status_of, end_by, comes_to_save}
 use Rattle.dc_run.specs.Finishing.{Finishes}
 use Rattle.dc_run.specs.Headline.{HasWorked}
 use Rattle.dc_run.specs.OneRound.{HasUsed}
-use Rattle.dc_run.specs.Rounds.{Job, Whole, RunState, Round, HasDone, Works, IsRound, AreRounds, HaveRounds, IsOneRound, is_saved_at, report, status_by, jobs_done, state_after, end_after, status_in, saves_of}
+use Rattle.dc_run.specs.Rounds.{Job, Whole, Round, HasDone, Works, IsRound, AreRounds, HaveRounds, HasDoneJobs, FindsJobs, DoesFound, IsOneRound, is_saved_at, report, status_by, jobs_done, state_after, end_after, status_in, saves_of}
 use Rattle.dc_run.specs.Running.{Awaits}
 use Rattle.dc_run.specs.Saves.{Save, HasSaved, HasNotSaved, Commits, kept_by}
 use Rattle.dc_run.specs.Starting.{HasStarted}
-use Rattle.dc_run.specs.World.{Stock, World}
+use Rattle.dc_run.specs.World.{Stock, World, RunState, before_rounds}
 use Rattle.dc_run.proofs.FinishLemmas.{finished}
 use Rattle.dc_run.proofs.Saying.{said_then}
 
 pub most_none : (n : ℕ) → max n 0 ≡ n
 most_none n = omega arith
+
+pub none_most : (n : ℕ) → max 0 n ≡ n
+none_most n = omega arith
 
 -- ---- the save
 
@@ -95,62 +98,20 @@ pub one_round : (roots : Roots) (settings : Settings) (job : Job) (old new : Run
 one_round roots settings job old new how status saves have =
     by_rounds roots settings job old new how status saves have.rest have.rounds have.jobs_are have.are have.all have.new_is have.how_is have.status_is have.saves_are
 
--- ---- what is said of it at once
+-- ---- a run's jobs
 
-module _ (used : Tool) (settings : Settings) (roots : Roots) (old : World) (mid : Stock) (job : Job) (given : ToolAnswer) (left : RunState) (inner last : List Save) (finish : End) (status : ℕ) (how : End) (after : RunState) (job_is : job ≡ Whole used) where
-  abbrev start : RunState
-  start = record { world = record old { stock = mid }; code = 0 }
+-- the jobs of a tool were found: it is one
+module _ (used : Tool) (roots : Roots) (settings : Settings) (old left ready : RunState) (how : End) (first later status : ℕ) (saves : List Save) where
+  by_found : (found : Result (List Job) End) → FindsJobs used old ready found first → DoesFound found roots settings ready left how later saves → status ≡ max first later
+      → HaveRounds roots settings (Whole used ∷ []) old left how status saves
+  by_found (Ok jobs) finds have is =
+      subst (λ (n : ℕ). HaveRounds roots settings (Whole used ∷ []) old left how n saves) (sym (is ∙ ap (λ (n : ℕ). max n later) finds.2 ∙ none_most later))
+      (subst (λ (s : RunState). HaveRounds roots settings (Whole used ∷ []) s left how later saves) finds.1 (subst (λ (js : List Job). HaveRounds roots settings js ready left how later saves) finds.0 have))
+  by_found (Err error) finds have is = absurd finds
 
-  abbrev this : Round
-  this = record { job = job; answer = given; left = left; inner = inner; last = last; finish = finish; status = status; how = how; new = after }
-
-  module _ (is : IsRound roots settings start this) where
-    works : HasDone used roots settings start left given inner
-    works = subst (λ (j : Job). Works j roots settings start left given inner) job_is is.works
-
-    commits : Commits (comes_to_save given.ended) given.ended left.world.stock after.world.stock last finish
-    commits = subst (λ (j : Job). Commits (is_saved_at j given.ended) given.ended left.world.stock after.world.stock last finish) job_is is.commits
-
-    told : HasSaid [] left.world.err after.world.err
-    told = subst (λ (j : Job). HasSaid (report j how status) left.world.err after.world.err) job_is is.told
-
-    pub used_once : (outcome : Outcome) (new : World) → HasStarted settings.conf_path old.stock.files mid roots → outcome.end ≡ how → HasSaid (end_line outcome.end) after.world.err new.err → new ≡ record after.world { err = new.err }
-        → outcome.last_code ≡ after.code → outcome.status ≡ status_of outcome.end status → HasUsed used settings old new outcome
-    used_once outcome new started end_is said rest code_is status_is =
-        let behind = said_then [] (end_line outcome.end) left.world.err after.world.err new.err told said in
-        record {
-          mid = mid;
-          roots = roots;
-          started = started;
-          answer = given;
-          told = works.told;
-          layers = left.world.stock.used;
-          files = left.world.stock.files;
-          links = left.world.links;
-          uses = works.uses;
-          how = finish;
-          finishes = subst (λ (s : Stock). Finishes left.world.stock.used s.used given.ended left.world.stock.files s.files finish) (sym (ap (λ (w : World). w.stock) rest)) (finishes left.world.stock after.world.stock last finish given.ended commits);
-          io_is = ap (λ (w : World). w.links.io) rest ∙ is.io_is;
-          status = status;
-          awaits = subst (λ (h : End). Awaits given.is_started left.world.links.child new.links.child finish h given.status status) (sym end_is)
-              (subst (λ (l : LinkState). Awaits given.is_started left.world.links.child l finish how given.status status) (sym (ap (λ (w : World). w.links.child) rest)) is.awaits);
-          said = said_then works.told (end_line outcome.end) old.err left.world.err new.err works.said behind;
-          code_is = code_is ∙ is.code_is ∙ works.code_is;
-          status_is = status_is;
-        }
-
--- a run of a tool is one round
-pub as_used : (used : Tool) (settings : Settings) (old new : World) (outcome : Outcome) (saves : List Save) → HasWorked used settings old new outcome saves → HasUsed used settings old new outcome
-as_used used settings old new outcome saves worked =
-    let start : RunState = record { world = worked.mid; code = 0 } in
-    let one = one_round worked.roots settings (Whole used) start worked.left outcome.end worked.status saves worked.rounds in
-    let r = one.round in
-    used_once used settings worked.roots old worked.mid.stock r.job r.answer r.left r.inner r.last r.finish r.status r.how r.new one.job_is
-    (subst (λ (w : World). IsRound worked.roots settings (record { world = w; code = 0 }) r) worked.mid_is one.is) outcome new worked.started one.how_is
-    (subst (λ (s : RunState). HasSaid (end_line outcome.end) s.world.err new.err) one.new_is worked.said)
-    (worked.rest_is ∙ ap (λ (s : RunState). record s.world { err = new.err }) one.new_is)
-    (worked.code_is ∙ ap (λ (s : RunState). s.code) one.new_is)
-    (worked.status_is ∙ ap (status_of outcome.end) one.status_is)
+pub jobs_had : (used : Tool) (roots : Roots) (settings : Settings) (old left : RunState) (how : End) (status : ℕ) (saves : List Save) → HasDoneJobs used roots settings old left how status saves
+    → HaveRounds roots settings (Whole used ∷ []) old left how status saves
+jobs_had used roots settings old left how status saves has = by_found used roots settings old left has.ready how has.first has.later status saves has.found has.finds has.does has.status_is
 
 -- ---- a round that didn't do all
 

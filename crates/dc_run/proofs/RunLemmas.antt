@@ -7,9 +7,9 @@ use Rattle.dc_frontend.specs.declared.frontend.Frontend.TheVariants.{Noninteract
 use Rattle.dc_proto.specs.declared.priority.Priority.{Priority}
 use Rattle.dc_serve.specs.declared.outcome.LinkEnd.{LinkEnd}
 use Rattle.dc_serve.specs.declared.outcome.LinkEnd.TheVariants as link
-use Rattle.dc_session.specs.Serving.{IsFinished, Finishes as FinishesSession, IsServed}
+use Rattle.dc_session.specs.Serving.{IsFinished, Finishes as FinishesSession, IsServed, Resources, resources_in}
 use Rattle.dc_outside.specs.State.{FilesState, LinkState}
-use Rattle.dc_session.specs.SessionState.{SessionState}
+use Rattle.dc_session.specs.SessionState.{SessionState, TerminalState}
 use Rattle.dc_session.specs.declared.stepped.StepError.{StepError}
 use Rattle.dc_session.specs.declared.stepped.StepError.TheVariants as step
 use Rattle.dc_cli.specs.Tools.{AreRefusedAt, IsToolWords, Names, NamesTool, IsCommand, owner_of}
@@ -25,13 +25,14 @@ use Rattle.dc_run.specs.EndLines.{end_line, HasSaid}
 use Rattle.dc_run.specs.Ends.{status_of, tool_end_of, comes_to_save}
 use Rattle.dc_run.specs.Headline.{HasRunTool, HasRunWords}
 use Rattle.dc_run.specs.Jobs.{HasCommunicated}
-use Rattle.dc_run.specs.Rounds.{Whole, RunState, Round}
+use Rattle.dc_run.specs.Rounds.{Whole, Round, HasDone}
+use Rattle.dc_teletype.specs.TerminalLines.{TypeAhead}
 use Rattle.dc_run.specs.Saves.{Save, Commits}
-use Rattle.dc_run.specs.Inside.{HasCommand, HasLoadedOver, HasServedProgram, HasUsedTool}
+use Rattle.dc_run.specs.Inside.{HasCommand, HasLoadedOver, HasServedProgram}
 use Rattle.dc_run.specs.Running.{HasRunProgram, Awaits}
-use Rattle.dc_run.specs.Starting.{EndsBefore, HasStarted, begun, chosen, chosen_frontend, chosen_priority, session_at, terminal_of}
-use Rattle.dc_run.specs.World.{Links, Stock, World}
-use Rattle.dc_run.proofs.RoundLemmas.{most_none}
+use Rattle.dc_run.specs.Starting.{EndsBefore, HasStarted, begun, chosen, chosen_frontend, chosen_priority, resources_for, session_at}
+use Rattle.dc_run.specs.World.{Links, Stock, World, RunState, before_rounds, links_of, run_state, stock_of}
+use Rattle.dc_run.proofs.RoundLemmas.{most_none, none_most}
 use Rattle.dc_run.proofs.Saying.{none_said}
 
 -- ---- a session that was served
@@ -52,55 +53,87 @@ ends_so (link.Broken step.OutOfMemory) state layers ended finishes = inr finishe
 -- ---- what a tool does
 
 -- a session of a tool that begins with these as the frontend and the priority that were chosen
-abbrev begun_with : Tool → Stock → Roots → Settings → LinkState → Option Frontend → Option Priority → SessionState
-begun_with used stock roots settings io frontend priority = session_at stock (terminal_of used io) roots settings (owner_of used) frontend priority
+abbrev begun_with : Tool → RunState → Roots → Settings → Option Frontend → Option Priority → SessionState
+begun_with used state roots settings frontend priority = session_at (resources_for used state) roots settings (owner_of used) frontend priority
 
-module _ (used : Tool) (stock : Stock) (roots : Roots) (settings : Settings) (io terminal old new : LinkState) (layers : List LayerState) (files : FilesState) (ended : LinkEnd StepError) (code : ℕ) where
+module _ (used : Tool) (state : RunState) (roots : Roots) (settings : Settings) (left : Resources) (old new : LinkState) (ended : LinkEnd StepError) (before code : ℕ) where
   -- it was served with these
   pub served_with : (frontend : Option Frontend) (priority : Option Priority) → frontend ≡ chosen_frontend used settings roots → priority ≡ chosen_priority used settings roots
-      → IsServed (begun_with used stock roots settings io frontend priority) layers files terminal old new ended code → IsServed (begun used stock roots settings io) layers files terminal old new ended code
+      → IsServed (begun_with used state roots settings frontend priority) left old new ended before code → IsServed (begun used state roots settings) left old new ended before code
   served_with frontend priority same_frontend same_priority served =
-      subst (λ (f : Option Frontend). IsServed (begun_with used stock roots settings io f (chosen_priority used settings roots)) layers files terminal old new ended code) same_frontend
-      (subst (λ (p : Option Priority). IsServed (begun_with used stock roots settings io frontend p) layers files terminal old new ended code) same_priority served)
+      subst (λ (f : Option Frontend). IsServed (begun_with used state roots settings f (chosen_priority used settings roots)) left old new ended before code) same_frontend
+      (subst (λ (p : Option Priority). IsServed (begun_with used state roots settings frontend p) left old new ended before code) same_priority served)
 
 -- the link was served, and that is the answer
-pub was_communicated : (stock : Stock) (roots : Roots) (settings : Settings) (owner : List ℕ) (io terminal old new : LinkState) (layers : List LayerState) (files : FilesState) (ended : LinkEnd StepError) (code : ℕ)
+pub was_communicated : (state : RunState) (roots : Roots) (settings : Settings) (owner : List ℕ) (left : Resources) (old new : LinkState) (ended : LinkEnd StepError) (before code : ℕ)
     (priority : Option Priority) → priority ≡ chosen settings roots → (answer : ToolAnswer) → answer.last_code ≡ code → answer.ended ≡ tool_end_of ended → answer.status ≡ answer.last_code → answer.is_started ≡ false
-    → IsServed (begun_with (Communicate owner) stock roots settings io (Some Noninteractive) priority) layers files terminal old new ended code
-    → HasCommunicated (begun (Communicate owner) stock roots settings io) old new answer layers files
-was_communicated stock roots settings owner io terminal old new layers files ended code priority same answer code_is ended_is status_is waits served = record {
+    → IsServed (begun_with (Communicate owner) state roots settings (Some Noninteractive) priority) left old new ended before code
+    → HasCommunicated (begun (Communicate owner) state roots settings) old new before answer left
+was_communicated state roots settings owner left old new ended before code priority same answer code_is ended_is status_is waits served = record {
   ended = ended;
   ended_is = ended_is;
-  terminal = terminal;
-  served = subst (λ (n : ℕ). IsServed (begun (Communicate owner) stock roots settings io) layers files terminal old new ended n) (sym code_is)
-      (served_with (Communicate owner) stock roots settings io terminal old new layers files ended code (Some Noninteractive) priority refl same served);
+  served = subst (λ (n : ℕ). IsServed (begun (Communicate owner) state roots settings) left old new ended before n) (sym code_is)
+      (served_with (Communicate owner) state roots settings left old new ended before code (Some Noninteractive) priority refl same served);
   status_is = status_is;
   waits = waits;
 }
 
-module _ (stock : Stock) (roots : Roots) (settings : Settings) (old new err err_new : LinkState) (child : LinkState) (answer : ToolAnswer) (layers : List LayerState) (files : FilesState) where
+module _ (roots : Roots) (settings : Settings) (io child new new_child err new_err : LinkState) (files left_files : FilesState) (layers left_layers : List LayerState) (ahead unused : TypeAhead) (before : ℕ) (answer : ToolAnswer) where
+  abbrev found : RunState
+  found = run_state io child err files layers ahead before
+
+  abbrev left : RunState
+  left = run_state new new_child new_err left_files left_layers unused answer.last_code
+
   -- the link was served
-  pub communicated : (owner : List ℕ) → HasCommunicated (begun (Communicate owner) stock roots settings old) old new answer layers files → err_new ≡ err
-      → HasUsedTool (Communicate owner) stock roots settings (record { io = old; child = child }) (record { io = new; child = child }) err err_new answer layers files
-  communicated owner served same = ([], (served, refl, refl), subst (λ (l : LinkState). HasSaid [] err l) (sym same) (none_said err))
+  pub communicated : (owner : List ℕ) → new_child ≡ child → HasCommunicated (begun (Communicate owner) found roots settings) io new before answer (resources_for (Communicate owner) left)
+      → HasDone (Communicate owner) roots settings found left answer []
+  communicated owner same served = record {
+    told = [];
+    left = resources_for (Communicate owner) left;
+    uses = (served, same, refl);
+    stock_is = refl;
+    said = none_said new_err;
+    ahead_is = refl;
+    saves_are = refl;
+    code_is = refl;
+  }
 
-module _ (stock : Stock) (roots : Roots) (settings : Settings) (links : Links) (err err_new : LinkState) (answer : ToolAnswer) (layers : List LayerState) (files : FilesState) where
-  -- files were loaded
-  pub loaded_files : (owner : List ℕ) (paths : List (List ℕ)) → HasLoadedOver (begun (LoadTemplate owner paths) stock roots settings links.io) paths err err_new answer layers files
-      → HasUsedTool (LoadTemplate owner paths) stock roots settings links links err err_new answer layers files
-  loaded_files owner paths over =
-      (over.said, record { state = over.state; layers_are = over.layers_are; files_are = over.files_are; loaded = over.loads; last_code_is = over.last_code_is; links_are = refl; waits = over.waits }, over.telling)
-
-module _ (stock : Stock) (roots : Roots) (settings : Settings) (old new : Links) (err err_new : LinkState) (answer : ToolAnswer) (layers : List LayerState) (files : FilesState) where
   -- a program was started, or not
-  pub ran_program : (owner : List ℕ) (frontend : Option Frontend) (priority : Option Priority) (command : List (List ℕ)) → HasRunProgram command (begun (Run owner frontend priority command) stock roots settings old.io) old new answer layers files
-      → err_new ≡ err → HasUsedTool (Run owner frontend priority command) stock roots settings old new err err_new answer layers files
-  ran_program owner frontend priority command ran same = ([], (ran, refl), subst (λ (l : LinkState). HasSaid [] err l) (sym same) (none_said err))
+  pub ran_program : (owner : List ℕ) (frontend : Option Frontend) (priority : Option Priority) (command : List (List ℕ))
+      → HasRunProgram command (begun (Run owner frontend priority command) found roots settings) (links_of io child) (links_of new new_child) before answer (resources_for (Run owner frontend priority command) left)
+      → HasDone (Run owner frontend priority command) roots settings found left answer []
+  ran_program owner frontend priority command ran = record {
+    told = [];
+    left = resources_for (Run owner frontend priority command) left;
+    uses = (ran, refl);
+    stock_is = refl;
+    said = none_said new_err;
+    ahead_is = refl;
+    saves_are = refl;
+    code_is = refl;
+  }
+
+module _ (roots : Roots) (settings : Settings) (io child err new_err : LinkState) (files left_files : FilesState) (layers left_layers : List LayerState) (ahead : TypeAhead) (before : ℕ) (answer : ToolAnswer) where
+  -- files were loaded
+  pub loaded_files : (owner : List ℕ) (paths : List (List ℕ)) → HasLoadedOver (begun (LoadTemplate owner paths) (run_state io child err files layers ahead before) roots settings) paths err new_err before answer left_layers left_files
+      → HasDone (LoadTemplate owner paths) roots settings (run_state io child err files layers ahead before) (run_state io child new_err left_files left_layers ahead answer.last_code) answer []
+  loaded_files owner paths over = record {
+    told = over.said;
+    left = resources_in over.state;
+    uses = record { state = over.state; left_is = refl; loaded = over.loads; last_code_is = over.last_code_is; links_are = refl; waits = over.waits };
+    stock_is = λ i. stock_of (over.files_are i) (over.layers_are i);
+    said = subst (λ (l : LinkState). HasSaid over.said l new_err) (sym over.err_is) over.telling;
+    ahead_is = sym (ap (λ (t : TerminalState). t.ahead) over.terminal_is);
+    saves_are = refl;
+    code_is = refl;
+  }
 
 -- the program was started and served
-pub started_so : (command : List (List ℕ)) (start : SessionState) (old new : Links) (answer : ToolAnswer) (layers : List LayerState) (files : FilesState) (mid : LinkState)
-    → Starts {T = Unit {0}} command old.child mid (Ok tt) → HasServedProgram start new.io mid new.child answer layers files → HasRunProgram command start old new answer layers files
-started_so command start old new answer layers files mid starts served = inr (record { mid = mid; starts = starts; ended = served.ended; ended_is = served.ended_is; served = served.served; waits = served.waits })
+pub started_so : (command : List (List ℕ)) (start : SessionState) (old new : Links) (before : ℕ) (answer : ToolAnswer) (left : Resources) (mid : LinkState)
+    → Starts {T = Unit {0}} command old.child mid (Ok tt) → HasServedProgram start mid new.child before answer left → new.io ≡ left.terminal.link → HasRunProgram command start old new before answer left
+started_so command start old new before answer left mid starts served io =
+    inr (record { mid = mid; starts = starts; ended = served.ended; ended_is = served.ended_is; served = served.served; io = io; waits = served.waits })
 
 -- ---- the command
 
@@ -126,13 +159,12 @@ module _ (used : Tool) (settings : Settings) (old new : World) (outcome : Outcom
   ended_before before same said is =
       subst (λ (o : Outcome). HasRunTool used settings old new o []) (sym is) (inl (before, record { links_are = same; said = said; code_is = refl; status_is = refl }, refl))
 
-  pub ended_after : (mid : Stock) (roots : Roots) (links : Links) (answer : ToolAnswer) (layers : List LayerState) (files : FilesState) (err : LinkState) (saved : End) (status : ℕ) → HasStarted settings.conf_path old.stock.files mid roots
-      → HasUsedTool used mid roots settings old.links links old.err err answer layers files → (commits : (last : List Save) × Commits (comes_to_save answer.ended) answer.ended (record { files = files; used = layers }) new.stock last saved)
-      → new.links.io ≡ links.io → Awaits answer.is_started links.child new.links.child saved how answer.status status → HasSaid (end_line how) err new.err
+  pub ended_after : (mid : Stock) (roots : Roots) (left : RunState) (answer : ToolAnswer) (saved : End) (status : ℕ) → HasStarted settings.conf_path old.stock.files mid roots
+      → HasDone used roots settings (before_rounds (record old { stock = mid })) left answer [] → (commits : (last : List Save) × Commits (comes_to_save answer.ended) answer.ended left.world.stock new.stock last saved)
+      → new.links.io ≡ left.world.links.io → Awaits answer.is_started left.world.links.child new.links.child saved how answer.status status → HasSaid (end_line how) left.world.err new.err
       → outcome ≡ record { status = status_of how status; end = how; last_code = answer.last_code } → HasRunTool used settings old new outcome (commits.0 ++ [])
-  ended_after mid roots links answer layers files err saved status started uses commits io awaits said is =
-      let left : RunState = record { world = record { stock = record { files = files; used = layers }; links = links; err = err }; code = answer.last_code } in
-      let after : RunState = record { world = record { stock = new.stock; links = new.links; err = err }; code = answer.last_code } in
+  ended_after mid roots left answer saved status started does commits io awaits said is =
+      let after : RunState = record { world = record { stock = new.stock; links = new.links; err = left.world.err }; ahead = left.ahead; code = left.code } in
       let round : Round = record { job = Whole used; answer = answer; left = left; inner = []; last = commits.0; finish = saved; status = status; how = how; new = after } in
       subst (λ (o : Outcome). HasRunTool used settings old new o (commits.0 ++ [])) (sym is) (inr (record {
         mid = record old { stock = mid };
@@ -141,31 +173,40 @@ module _ (used : Tool) (settings : Settings) (old new : World) (outcome : Outcom
         mid_is = refl;
         left = after;
         status = status;
-        rounds = record {
-          rounds = round ∷ [];
-          rest = [];
-          jobs_are = refl;
-          are = (
-            record {
-              works = record { told = uses.0; uses = uses.1; said = uses.2; saves_are = refl; code_is = refl };
-              commits = commits.1;
-              awaits = awaits;
-              told = none_said err;
-              io_is = io;
-              code_is = refl;
-            },
-            (λ broken. refl),
-            tt,
-          );
-          all = λ done. refl;
-          new_is = refl;
-          how_is = refl;
-          status_is = sym (most_none status);
-          saves_are = refl;
+        does = record {
+          found = Ok (Whole used ∷ []);
+          ready = before_rounds (record old { stock = mid });
+          first = 0;
+          finds = (refl, refl, refl);
+          later = status;
+          does = record {
+            rounds = round ∷ [];
+            rest = [];
+            jobs_are = refl;
+            are = (
+              record {
+                works = does;
+                commits = commits.1;
+                awaits = awaits;
+                told = none_said left.world.err;
+                io_is = io;
+                ahead_is = refl;
+                code_is = refl;
+              },
+              (λ broken. refl),
+              tt,
+            );
+            all = λ done. refl;
+            new_is = refl;
+            how_is = refl;
+            status_is = sym (most_none status);
+            saves_are = refl;
+          };
+          status_is = sym (none_most status);
         };
         said = said;
         rest_is = refl;
-        code_is = refl;
+        code_is = sym does.code_is;
         status_is = refl;
       }))
 

@@ -9,10 +9,10 @@ use Rattle.dc_run.specs.Crashes.{AreOfConfiguration, KeepsDatabases}
 use Rattle.dc_run.specs.Ends.{comes_to_save}
 use Rattle.dc_run.specs.Headline.{HasWorked, HasRunTool, HasRunWords}
 use Rattle.dc_run.specs.Kills.{AllDone}
-use Rattle.dc_run.specs.Rounds.{Job, Whole, RunState, HasDone, IsOneRound, Works, is_saved_at}
+use Rattle.dc_run.specs.Rounds.{Job, Whole, HasDone, IsOneRound, Works, is_saved_at}
 use Rattle.dc_run.specs.Saves.{Save, AreSaves, Commits}
 use Rattle.dc_run.specs.Starting.{begun, databases_of}
-use Rattle.dc_run.specs.World.{Stock, World}
+use Rattle.dc_run.specs.World.{Stock, World, RunState, before_rounds}
 use Rattle.dc_run.specs.declared.outcome.End.{End}
 use Rattle.dc_run.specs.declared.outcome.End.TheVariants as end
 use Rattle.dc_run.specs.declared.outcome.Outcome.{Outcome}
@@ -20,7 +20,7 @@ use Rattle.dc_run.specs.declared.outcome.ToolEnd.{ToolEnd}
 use Rattle.dc_run.specs.declared.settings.Settings.{Settings}
 use Rattle.dc_run.proofs.CrashLemmas.{KeepsAll, all_read, before_reads, loads_keep, set_up_specs, set_for, specs_in, tool_keeps, ended_then, each_save, all_saved_then, done_before, of_configuration}
 use Rattle.dc_run.proofs.Kills.{keeps_saves}
-use Rattle.dc_run.proofs.RoundLemmas.{one_round}
+use Rattle.dc_run.proofs.RoundLemmas.{one_round, jobs_had}
 
 saved_between : (saves : Bool) (ended : ToolEnd) (left new : Stock) (last : List Save) (how : End) → Commits saves ended left new last how → AreSaves left.files.view.disk last new.files.view.disk
 saved_between true ended left new last how has = subst (λ (l : List Save). AreSaves left.files.view.disk l new.files.view.disk) (sym has.saves_are) (refl, has.is, (λ failed. refl), refl)
@@ -45,10 +45,10 @@ none_kept path old new how saves none same = subst (KeepsDatabases path old new 
 
 module _ (used : Tool) (settings : Settings) (old new : World) (outcome : Outcome) (saves : List Save) (worked : HasWorked used settings old new outcome saves) where
   abbrev start : RunState
-  start = record { world = worked.mid; code = 0 }
+  start = before_rounds worked.mid
 
   one : IsOneRound worked.roots settings (Whole used) start worked.left outcome.end worked.status saves
-  one = one_round worked.roots settings (Whole used) start worked.left outcome.end worked.status saves worked.rounds
+  one = one_round worked.roots settings (Whole used) start worked.left outcome.end worked.status saves (jobs_had used worked.roots settings start worked.left outcome.end worked.status saves worked.does)
 
   works : HasDone used worked.roots settings start one.round.left one.round.answer one.round.inner
   works = subst (λ (j : Job). Works j worked.roots settings start one.round.left one.round.answer one.round.inner) one.job_is one.is.works
@@ -59,8 +59,9 @@ module _ (used : Tool) (settings : Settings) (old new : World) (outcome : Outcom
   saves_are : saves ≡ one.round.last
   saves_are = one.saves_are ∙ ap (λ (l : List Save). l ++ one.round.last) works.saves_are
 
-  keeps : KeepsAll (begun used worked.mid.stock worked.roots settings worked.mid.links.io) one.round.answer.ended one.round.left.world.stock.used one.round.left.world.stock.files
-  keeps = tool_keeps used (begun used worked.mid.stock worked.roots settings worked.mid.links.io) worked.mid.links one.round.left.world.links one.round.answer works.told one.round.left.world.stock.used one.round.left.world.stock.files works.uses
+  keeps : KeepsAll (begun used start worked.roots settings) one.round.answer.ended one.round.left.world.stock.used one.round.left.world.stock.files
+  keeps = subst (λ (s : Stock). KeepsAll (begun used start worked.roots settings) one.round.answer.ended s.used s.files) (sym works.stock_is)
+      (tool_keeps used (begun used start worked.roots settings) worked.mid.links one.round.left.world.links 0 one.round.answer works.told works.left works.uses)
 
   stock_is : new.stock ≡ one.round.new.world.stock
   stock_is = ap (λ (w : World). w.stock) (worked.rest_is ∙ ap (λ (s : RunState). record s.world { err = new.err }) one.new_is)

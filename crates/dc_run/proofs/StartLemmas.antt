@@ -17,7 +17,7 @@ use Rattle.dc_conf.specs.declared.plans.ResolveError.{ResolveError}
 use Rattle.dc_conf.specs.declared.plans.Resolved.{Resolved}
 use Rattle.dc_conf.proofs.CleanLemmas.{no_fault}
 use Rattle.dc_conf.proofs.TestLemmas.{nil-append}
-use Rattle.dc_shelf.specs.Shelves.{all_set_up, LoadsAll}
+use Rattle.dc_shelf.specs.Shelves.{all_patterns, all_set_up, LoadsAll}
 use Rattle.dc_run.specs.Starting.{IsSomeConfiguration, databases_of, roots, conf_read, IsConfiguration, HasReadConf, HasLoaded}
 use Rattle.dc_outside.specs.State.{FilesState}
 use Rattle.dc_conf.specs.declared.plans.Plan.{Plan}
@@ -107,14 +107,14 @@ whole_slice (x ∷ new) (y ∷ old) (suc count) same long = ap (λ (l : List _).
 
 module _ (path : List ℕ) (conf : Configuration) (old mid files : FilesState) (specs : List LayerSpec) (set made used : List LayerState) (result : Result (Unit {0}) LoadError) where
   -- the layers of a configuration were loaded
-  pub loaded_by : IsConfiguration old.view.disk path conf → HasReadConf path old mid → specs ≡ databases_of conf → set ≡ all_set_up specs → LoadsAll specs set made mid.view files.view mid.counts files.counts result → used ≡ made
+  pub loaded_by : IsConfiguration old.view.disk path conf → HasReadConf path old mid → specs ≡ databases_of conf → all_patterns specs ≡ true → set ≡ all_set_up specs → LoadsAll specs set made mid.view files.view mid.counts files.counts result → used ≡ made
       → HasLoaded path conf old (record { files = files; used = used }) result
-  loaded_by conf_is read are set_is loads used_is =
+  loaded_by conf_is read are built set_is loads used_is =
       let after_set : LoadsAll specs (all_set_up specs) made mid.view files.view mid.counts files.counts result = subst (λ (l : List LayerState). LoadsAll specs l made mid.view files.view mid.counts files.counts result) set_is loads in
       let of_conf : LoadsAll (databases_of conf) (all_set_up (databases_of conf)) made mid.view files.view mid.counts files.counts result = subst (λ (s : List LayerSpec). LoadsAll s (all_set_up s) made mid.view files.view mid.counts files.counts result) are after_set in
       let from : LoadsAll (databases_of conf) (all_set_up (databases_of conf)) made (conf_read old.view path) files.view mid.counts files.counts result = subst (λ (t : FilesView). LoadsAll (databases_of conf) (all_set_up (databases_of conf)) made t files.view mid.counts files.counts result) read.files_are of_conf in
       let counted : LoadsAll (databases_of conf) (all_set_up (databases_of conf)) made (conf_read old.view path) files.view old.counts files.counts result = subst (λ (n : Counts). LoadsAll (databases_of conf) (all_set_up (databases_of conf)) made (conf_read old.view path) files.view n files.counts result) read.counts from in
-      record { conf_is = conf_is; loads = subst (λ (l : List LayerState). LoadsAll (databases_of conf) (all_set_up (databases_of conf)) l (conf_read old.view path) files.view old.counts files.counts result) (sym used_is) counted }
+      record { conf_is = conf_is; patterns = subst (λ (s : List LayerSpec). all_patterns s ≡ true) are built; loads = subst (λ (l : List LayerState). LoadsAll (databases_of conf) (all_set_up (databases_of conf)) l (conf_read old.view path) files.view old.counts files.counts result) (sym used_is) counted }
 
 -- the two plans are those of the roots
 pub both_plans : (conf : Configuration) (plans : List Plan) (config templates : Plan) → plans ≡ plan_of conf (databases_of conf) conf.config ∷ plan_of conf (databases_of conf) conf.templates ∷ [] → plans ≡ config ∷ templates ∷ []

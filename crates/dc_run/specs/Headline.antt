@@ -10,10 +10,10 @@ use Rattle.dc_cli.specs.declared.tool.Tool.{Tool}
 use Rattle.dc_run.specs.Crashes.{KeepsDatabases}
 use Rattle.dc_run.specs.EndLines.{end_line, HasSaid}
 use Rattle.dc_run.specs.Ends.{status_of, LinksCount, ProgramCounts}
-use Rattle.dc_run.specs.Rounds.{RunState, HaveRounds, jobs_of}
+use Rattle.dc_run.specs.Rounds.{HasDoneJobs}
 use Rattle.dc_run.specs.Saves.{Save}
 use Rattle.dc_run.specs.Starting.{HasStarted, EndsBefore}
-use Rattle.dc_run.specs.World.{World}
+use Rattle.dc_run.specs.World.{RunState, World, before_rounds}
 
 -- ---- a run of a tool
 
@@ -24,7 +24,7 @@ pub record IsSilent (old new : World) (outcome : Outcome) : Type 0 where
   pub code_is : outcome.last_code ≡ 0
   pub status_is : outcome.status ≡ status_of outcome.end 0
 
--- The layers were loaded, the jobs of the tool had their rounds over them, and the end is told behind all else.
+-- The layers were loaded, the jobs of the tool were found and had their rounds over them, and the end is told behind all else.
 pub record HasWorked (tool : Tool) (settings : Settings) (old new : World) (outcome : Outcome) (saves : List Save) : Type 0 where
   pub mid : World
   pub roots : Roots
@@ -32,7 +32,7 @@ pub record HasWorked (tool : Tool) (settings : Settings) (old new : World) (outc
   pub mid_is : mid ≡ record old { stock = mid.stock }
   pub left : RunState
   pub status : ℕ
-  pub rounds : HaveRounds roots settings (jobs_of tool) (record { world = mid; code = 0 }) left outcome.end status saves
+  pub does : HasDoneJobs tool roots settings (before_rounds mid) left outcome.end status saves
   pub said : HasSaid (end_line outcome.end) left.world.err new.err
   pub rest_is : new ≡ record left.world { err = new.err }
   pub code_is : outcome.last_code ≡ left.code

@@ -3,27 +3,27 @@ use Rattle.std.specs.Prelude.{◌≡◌, ℕ, Bool, true, false, List, [], ◌�
 use Rattle.std.specs.Option.{option_map_or}
 use Rattle.dc_text.specs.Ascii.{newline}
 use Rattle.dc_layer.specs.State.{LayerState}
+use Rattle.dc_question.specs.Questions.{QuestionContext}
 use Rattle.dc_session.specs.Refusals.{refusal}
 use Rattle.dc_serve.specs.declared.outcome.LinkEnd.{LinkEnd}
-use Rattle.dc_session.specs.Serving.{IsServed}
+use Rattle.dc_session.specs.Serving.{IsServed, Resources}
 use Rattle.dc_outside.specs.State.{FilesState, LinkState}
 use Rattle.dc_session.specs.SessionState.{SessionState}
+use Rattle.dc_session.specs.declared.asking.Asking.{Asking}
+use Rattle.dc_session.specs.declared.policy.AskPolicy.{AskPolicy}
 use Rattle.dc_session.specs.declared.stepped.StepError.{StepError}
+use Rattle.dc_store.specs.Plans.{stored}
 use Rattle.dc_session.specs.declared.template_loading.FileEnd.{FileEnd}
 use Rattle.dc_session.specs.declared.template_loading.FileEnd.TheVariants as file
 use Rattle.dc_run.specs.declared.loading_templates.FilesLoaded.{FilesLoaded}
 use Rattle.dc_run.specs.declared.outcome.ToolAnswer.{ToolAnswer}
 use Rattle.dc_run.specs.declared.outcome.ToolEnd.{ToolEnd}
-use Rattle.dc_run.specs.declared.settings.Settings.{Settings}
-use Rattle.dc_run.specs.declared.starting.Roots.{Roots}
+use Rattle.dc_run.specs.declared.serving.RunAsking.{RunAsking}
 use Rattle.dc_cli.specs.declared.tool.Tool.{Tool}
 use Rattle.dc_cli.specs.declared.tool.Tool.TheVariants.{Run}
 use Rattle.dc_run.specs.EndLines.{HasSaid}
 use Rattle.dc_run.specs.Ends.{tool_end_of}
-use Rattle.dc_run.specs.Jobs.{Uses}
-use Rattle.dc_run.specs.Starting.{begun}
 use Rattle.dc_run.specs.TemplateLoading.{FileTurn, IsFileTurn, refusal_of, EndsAt, HasLoadedFiles}
-use Rattle.dc_run.specs.World.{Links, Stock}
 
 -- ---- one template file
 
@@ -68,32 +68,46 @@ pub record LoadsFiles (start : SessionState) (paths : List (List ℕ)) (old new 
   pub loads : HasLoadedFiles start paths loaded.ended said (status_by loaded.refused) left
   pub telling : HasSaid said old new
 
--- the same over layers and files
-pub record HasLoadedOver (start : SessionState) (paths : List (List ℕ)) (old new : LinkState) (answer : ToolAnswer) (layers : List LayerState) (files : FilesState) : Type 0 where
+-- a session over these, whatever it asks, which the loading of templates doesn't look at
+abbrev pub loading_over : Resources → QuestionContext → List ℕ → AskPolicy → Asking → SessionState
+loading_over resources at owner policy asking = record {
+  store = stored resources.layers [];
+  files = resources.files;
+  terminal = resources.terminal;
+  err = resources.err;
+  at = at;
+  owner = owner;
+  policy = policy;
+  asking = asking;
+}
+
+-- the same over layers and files, behind a reply of this code
+pub record HasLoadedOver (start : SessionState) (paths : List (List ℕ)) (old new : LinkState) (before : ℕ) (answer : ToolAnswer) (layers : List LayerState) (files : FilesState) : Type 0 where
   pub said : List ℕ
   pub state : SessionState
   pub layers_are : layers ≡ state.store.layers
   pub files_are : files ≡ state.files
+  pub terminal_is : state.terminal ≡ start.terminal
+  pub err_is : state.err ≡ start.err
   pub loads : HasLoadedFiles start paths answer.ended said answer.status state
-  pub last_code_is : answer.last_code ≡ 0
+  pub last_code_is : answer.last_code ≡ before
   pub waits : answer.is_started ≡ false
   pub telling : HasSaid said old new
 
 -- ---- a tool
 
 -- the commands of a program were served, with the terminal left so
-pub record HasServedProgram (start : SessionState) (terminal old new : LinkState) (answer : ToolAnswer) (layers : List LayerState) (files : FilesState) : Type 0 where
+pub record HasServedProgram (start : SessionState) (old new : LinkState) (before : ℕ) (answer : ToolAnswer) (left : Resources) : Type 0 where
   pub ended : LinkEnd StepError
   pub ended_is : answer.ended ≡ tool_end_of ended
-  pub served : IsServed start layers files terminal old new ended answer.last_code
+  pub served : IsServed start left old new ended before answer.last_code
   pub waits : answer.is_started ≡ true
+
+-- the tool that asks so, with this command
+abbrev pub asked_run : RunAsking → List (List ℕ) → Tool
+asked_run asking command = Run asking.owner.now asking.frontend asking.priority command
 
 -- the command of a tool that has one has a word
 abbrev pub HasCommand : Tool → Type 0
 HasCommand (Run owner frontend priority command) = 0 < length command
 HasCommand used = Unit {0}
-
--- what a tool does, and what it tells
-abbrev pub HasUsedTool : Tool → Stock → Roots → Settings → Links → Links → LinkState → LinkState → ToolAnswer → List LayerState → FilesState → Type 0
-HasUsedTool tool stock roots settings old new err err_new answer layers files =
-    (told : List ℕ) × Uses tool (begun tool stock roots settings old.io) old new answer told layers files × HasSaid told err err_new

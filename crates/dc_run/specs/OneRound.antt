@@ -1,7 +1,6 @@
 -- A run of one round, as it is said of it at once.
 use Rattle.std.specs.Prelude.{◌≡◌, ℕ, List, ◌++◌}
-use Rattle.dc_layer.specs.State.{LayerState}
-use Rattle.dc_outside.specs.State.{FilesState}
+use Rattle.dc_session.specs.Serving.{Resources}
 use Rattle.dc_run.specs.declared.outcome.End.{End}
 use Rattle.dc_run.specs.declared.outcome.Outcome.{Outcome}
 use Rattle.dc_run.specs.declared.outcome.ToolAnswer.{ToolAnswer}
@@ -14,7 +13,7 @@ use Rattle.dc_run.specs.Finishing.{Finishes}
 use Rattle.dc_run.specs.Jobs.{Uses}
 use Rattle.dc_run.specs.Running.{Awaits}
 use Rattle.dc_run.specs.Starting.{HasStarted, begun}
-use Rattle.dc_run.specs.World.{Links, Stock, World}
+use Rattle.dc_run.specs.World.{Links, Stock, World, before_rounds}
 
 -- The layers were loaded, the tool ran over them, and what it left was saved, or not, by how it ended. A program that was started is waited
 -- for then. The end is told behind what the tool told.
@@ -24,12 +23,11 @@ pub record HasUsed (tool : Tool) (settings : Settings) (old new : World) (outcom
   pub started : HasStarted settings.conf_path old.stock.files mid roots
   pub answer : ToolAnswer
   pub told : List ℕ
-  pub layers : List LayerState
-  pub files : FilesState
+  pub left : Resources
   pub links : Links
-  pub uses : Uses tool (begun tool mid roots settings old.links.io) old.links links answer told layers files
+  pub uses : Uses tool (begun tool (before_rounds (record old { stock = mid })) roots settings) old.links links 0 answer told left
   pub how : End
-  pub finishes : Finishes layers new.stock.used answer.ended files new.stock.files how
+  pub finishes : Finishes left.layers new.stock.used answer.ended left.files new.stock.files how
   pub io_is : new.links.io ≡ links.io
   pub status : ℕ
   pub awaits : Awaits answer.is_started links.child new.links.child how outcome.end answer.status status

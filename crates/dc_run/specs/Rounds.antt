@@ -1,5 +1,5 @@
 -- A run in rounds: each job is done, saved and waited for, before the next is begun.
-use Rattle.std.specs.Prelude.{◌≡◌, ◌≢◌, ℕ, Bool, List, [], ◌∷◌, ◌++◌, max}
+use Rattle.std.specs.Prelude.{◌≡◌, ◌≢◌, ℕ, Bool, List, [], ◌∷◌, ◌++◌, max, Result, Ok, Err}
 use Rattle.dc_run.specs.declared.outcome.End.{End}
 use Rattle.dc_run.specs.declared.outcome.End.TheVariants.{Done}
 use Rattle.dc_run.specs.declared.outcome.ToolAnswer.{ToolAnswer}
@@ -13,28 +13,29 @@ use Rattle.dc_run.specs.Jobs.{Uses}
 use Rattle.dc_run.specs.Running.{Awaits}
 use Rattle.dc_run.specs.Saves.{Save, Commits}
 use Rattle.dc_run.specs.Starting.{begun}
-use Rattle.dc_run.specs.World.{World}
+use Rattle.dc_run.specs.World.{RunState, stock_of}
+use Rattle.dc_session.specs.Serving.{Resources}
 
 -- the work of one round: all that a tool does
 pub data Job : Type 0 where
   Whole : (used : Tool) → Job
 
--- the jobs of a tool, in order
-abbrev pub jobs_of : Tool → List Job
-jobs_of used = Whole used ∷ []
-
--- what one round hands to the next: the world, and the code of the last reply
-pub record RunState : Type 0 where
-  pub world : World
-  pub code : ℕ
+-- What a run finds to do, once its databases are loaded, and what it leaves and tells as its status in finding it: its jobs in order, or an end
+-- that comes before the first. Each tool of today is one job, and nothing is to be found.
+abbrev pub FindsJobs : Tool → RunState → RunState → Result (List Job) End → ℕ → Type 0
+FindsJobs used old new (Ok jobs) status = (jobs ≡ Whole used ∷ []) × (new ≡ old) × (status ≡ 0)
+FindsJobs used old new (Err how) status = ⊥
 
 -- ---- one round
 
--- The tool did what it does from the state that the round found, told what it tells, and saved nothing in its middle.
+-- The tool did what it does from the state that the round found, told what it tells behind its session, and saved nothing in its middle.
 pub record HasDone (used : Tool) (roots : Roots) (settings : Settings) (old new : RunState) (answer : ToolAnswer) (saves : List Save) : Type 0 where
   pub told : List ℕ
-  pub uses : Uses used (begun used old.world.stock roots settings old.world.links.io) old.world.links new.world.links answer told new.world.stock.used new.world.stock.files
-  pub said : HasSaid told old.world.err new.world.err
+  pub left : Resources
+  pub uses : Uses used (begun used old roots settings) old.world.links new.world.links old.code answer told left
+  pub stock_is : new.world.stock ≡ stock_of left.files left.layers
+  pub said : HasSaid told left.err new.world.err
+  pub ahead_is : new.ahead ≡ left.terminal.ahead
   pub saves_are : saves ≡ []
   pub code_is : new.code ≡ answer.last_code
 
@@ -75,6 +76,7 @@ pub record IsRound (roots : Roots) (settings : Settings) (old : RunState) (round
   pub awaits : Awaits round.answer.is_started round.left.world.links.child round.new.world.links.child round.finish round.how round.answer.status round.status
   pub told : HasSaid (report round.job round.how round.status) round.left.world.err round.new.world.err
   pub io_is : round.new.world.links.io ≡ round.left.world.links.io
+  pub ahead_is : round.new.ahead ≡ round.left.ahead
   pub code_is : round.new.code ≡ round.left.code
 
 -- ---- rounds, one after another
@@ -119,6 +121,23 @@ pub record HaveRounds (roots : Roots) (settings : Settings) (jobs : List Job) (o
   pub how_is : how ≡ end_after Done rounds
   pub status_is : status ≡ status_in rounds
   pub saves_are : saves ≡ saves_of rounds
+
+-- ---- all that a run does between loading and its end
+
+-- the jobs that were found had their rounds; or none were, and the run ends so
+abbrev pub DoesFound : Result (List Job) End → Roots → Settings → RunState → RunState → End → ℕ → List Save → Type 0
+DoesFound (Ok jobs) roots settings ready left how status saves = HaveRounds roots settings jobs ready left how status saves
+DoesFound (Err error) roots settings ready left how status saves = (left ≡ ready) × (how ≡ error) × (status ≡ 0) × (saves ≡ [])
+
+-- Its jobs were found, and had their rounds. Its status is the greatest of those of the finding and of the rounds.
+pub record HasDoneJobs (used : Tool) (roots : Roots) (settings : Settings) (old left : RunState) (how : End) (status : ℕ) (saves : List Save) : Type 0 where
+  pub found : Result (List Job) End
+  pub ready : RunState
+  pub first : ℕ
+  pub finds : FindsJobs used old ready found first
+  pub later : ℕ
+  pub does : DoesFound found roots settings ready left how later saves
+  pub status_is : status ≡ max first later
 
 -- A run of one job as its one round: what it left, how it ended and its saves are the run's.
 pub record IsOneRound (roots : Roots) (settings : Settings) (job : Job) (old new : RunState) (how : End) (status : ℕ) (saves : List Save) : Type 0 where

@@ -3,10 +3,9 @@ use Rattle.std.specs.Prelude.{◌≡◌, ◌⊎◌, ℕ, Bool, true, false, List
 use Rattle.dc_outside.specs.LinkCalls.{Starts, Waits}
 use Rattle.dc_outside.specs.declared.link.LinkError.{LinkError}
 use Rattle.dc_outside.specs.declared.link.LinkError.TheVariants.{Failed, OutOfMemory}
-use Rattle.dc_layer.specs.State.{LayerState}
 use Rattle.dc_serve.specs.declared.outcome.LinkEnd.{LinkEnd}
-use Rattle.dc_session.specs.Serving.{IsServed}
-use Rattle.dc_outside.specs.State.{FilesState, LinkState}
+use Rattle.dc_session.specs.Serving.{IsServed, Resources, resources_in}
+use Rattle.dc_outside.specs.State.{LinkState}
 use Rattle.dc_session.specs.SessionState.{SessionState}
 use Rattle.dc_session.specs.declared.stepped.StepError.{StepError}
 use Rattle.dc_run.specs.declared.outcome.End.{End}
@@ -24,28 +23,28 @@ end_unstarted Failed = tool.ChildFault
 end_unstarted OutOfMemory = tool.OutOfMemory
 
 -- the start failed, or found no memory, and nothing was done
-pub record IsNotStarted (command : List (List ℕ)) (start : SessionState) (old new : Links) (answer : ToolAnswer) (layers : List LayerState) (files : FilesState) : Type 0 where
+pub record IsNotStarted (command : List (List ℕ)) (start : SessionState) (old new : Links) (before : ℕ) (answer : ToolAnswer) (left : Resources) : Type 0 where
   pub error : LinkError
   pub ended_is : answer.ended ≡ end_unstarted error
   pub starts : Starts {T = Unit {0}} command old.child new.child (Err error)
   pub io : new.io ≡ old.io
-  pub layers_are : layers ≡ start.store.layers
-  pub files_are : files ≡ start.files
-  pub code_is : answer.last_code ≡ 0
+  pub left_is : left ≡ resources_in start
+  pub code_is : answer.last_code ≡ before
   pub waits : answer.is_started ≡ false
 
 -- the program was started with the command's words, its commands were served, with the user asked on the program's own link, and the session
 -- was finished
-pub record IsStarted (command : List (List ℕ)) (start : SessionState) (old new : Links) (answer : ToolAnswer) (layers : List LayerState) (files : FilesState) : Type 0 where
+pub record IsStarted (command : List (List ℕ)) (start : SessionState) (old new : Links) (before : ℕ) (answer : ToolAnswer) (left : Resources) : Type 0 where
   pub mid : LinkState
   pub starts : Starts {T = Unit {0}} command old.child mid (Ok tt)
   pub ended : LinkEnd StepError
   pub ended_is : answer.ended ≡ tool_end_of ended
-  pub served : IsServed start layers files new.io mid new.child ended answer.last_code
+  pub served : IsServed start left mid new.child ended before answer.last_code
+  pub io : new.io ≡ left.terminal.link
   pub waits : answer.is_started ≡ true
 
-abbrev pub HasRunProgram : List (List ℕ) → SessionState → Links → Links → ToolAnswer → List LayerState → FilesState → Type 0
-HasRunProgram command start old new answer layers files = IsNotStarted command start old new answer layers files ⊎ IsStarted command start old new answer layers files
+abbrev pub HasRunProgram : List (List ℕ) → SessionState → Links → Links → ℕ → ToolAnswer → Resources → Type 0
+HasRunProgram command start old new before answer left = IsNotStarted command start old new before answer left ⊎ IsStarted command start old new before answer left
 
 -- ---- it is waited for, when all else is done
 

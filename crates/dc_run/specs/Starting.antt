@@ -18,17 +18,16 @@ use Rattle.dc_proto.specs.declared.priority.Priority.{Priority}
 use Rattle.dc_question.specs.Questions.{QuestionContext}
 use Rattle.dc_save.specs.Loading.{IsTextAt}
 use Rattle.dc_save.specs.declared.loading.LoadError.{LoadError}
-use Rattle.dc_session.specs.Asking.{nothing_asked, policy_by}
-use Rattle.dc_session.specs.SessionState.{FilesState, TerminalState, SessionState, nothing_typed, no_terminal}
-use Rattle.dc_shelf.specs.Shelves.{all_set_up, IsRefusedAt, LoadsAll}
+use Rattle.dc_session.specs.Serving.{Resources, resources_of, session_over}
+use Rattle.dc_session.specs.SessionState.{FilesState, SessionState, nowhere, terminal_at}
+use Rattle.dc_shelf.specs.Shelves.{all_patterns, all_set_up, IsRefusedAt, LoadsAll}
 use Rattle.dc_shelf.specs.declared.shelf.NotSetUp.{NotSetUp}
-use Rattle.dc_store.specs.Plans.{stored}
 use Rattle.dc_run.specs.declared.outcome.End.{End}
 use Rattle.dc_run.specs.declared.outcome.End.TheVariants as end
 use Rattle.dc_run.specs.declared.settings.Settings.{Settings}
 use Rattle.dc_run.specs.declared.starting.Roots.{Roots}
 use Rattle.dc_run.specs.Ends.{end_of_conf, end_of_patterns, end_of_load}
-use Rattle.dc_run.specs.World.{Stock}
+use Rattle.dc_run.specs.World.{RunState, Stock}
 use Rattle.dc_cli.specs.Tools.{owner_of}
 use Rattle.dc_cli.specs.declared.tool.Tool.{Tool}
 use Rattle.dc_cli.specs.declared.tool.Tool.TheVariants.{Run}
@@ -75,31 +74,24 @@ chosen_frontend (Run owner frontend priority command) settings roots =
     option_or frontend (option_or (option_and_then frontend_of settings.frontend) (option_and_then frontend_of roots.frontend))
 chosen_frontend used settings roots = Some Noninteractive
 
--- a terminal on which nothing was typed ahead
-abbrev pub untyped : LinkState → TerminalState
-untyped link = record { link = link; ahead = nothing_typed }
+-- the link of a tool's terminal: `run` asks on the program's own link, and no other tool has one
+abbrev pub terminal_link : Tool → LinkState → LinkState
+terminal_link (Run owner frontend priority command) io = io
+terminal_link used io = nowhere
 
--- the terminal of a tool: `run` asks on the program's own link, and no other tool has one
-abbrev pub terminal_of : Tool → LinkState → TerminalState
-terminal_of (Run owner frontend priority command) io = untyped io
-terminal_of used io = no_terminal
+-- what a session of a tool works on, by what its round finds
+abbrev pub resources_for : Tool → RunState → Resources
+resources_for used state =
+    resources_of state.world.stock.used state.world.stock.files (terminal_at (terminal_link used state.world.links.io) state.ahead) state.world.err
 
--- A session over these layers and files for an owner, by the plans of questions and of templates, under these settings, by the frontend and the
--- least priority that were chosen, with the user at this terminal: nothing is asked for yet.
-abbrev pub session_at : Stock → TerminalState → Roots → Settings → List ℕ → Option Frontend → Option Priority → SessionState
-session_at stock terminal roots settings owner frontend threshold = record {
-  store = stored stock.used [];
-  files = stock.files;
-  terminal = terminal;
-  at = context_of roots settings;
-  owner = owner;
-  policy = policy_by frontend threshold settings.nonint_seen stock.used (context_of roots settings);
-  asking = nothing_asked;
-}
+-- a session over these for an owner, under these settings, by the frontend and the least priority that were chosen
+abbrev pub session_at : Resources → Roots → Settings → List ℕ → Option Frontend → Option Priority → SessionState
+session_at over roots settings owner frontend threshold = session_over over (context_of roots settings) owner frontend threshold settings.nonint_seen
 
 -- the session of a tool
-abbrev pub begun : Tool → Stock → Roots → Settings → LinkState → SessionState
-begun used stock roots settings io = session_at stock (terminal_of used io) roots settings (owner_of used) (chosen_frontend used settings roots) (chosen_priority used settings roots)
+abbrev pub begun : Tool → RunState → Roots → Settings → SessionState
+begun used state roots settings =
+    session_at (resources_for used state) roots settings (owner_of used) (chosen_frontend used settings roots) (chosen_priority used settings roots)
 
 -- ---- the ends of a run before its tool: nothing is written
 
@@ -142,10 +134,11 @@ pub record IsNotSetUp (path : List ℕ) (old new : FilesState) (how : End) : Typ
   pub refused_at : IsRefusedAt (databases_of conf) refused.place refused.error
   pub read : HasReadConf path old new
 
--- A layer of each database of the configuration was set up, and the loads of these, which had this answer, left the layers and the
--- files so.
+-- All patterns of the databases of the configuration are patterns, and a layer of each was set up. The loads of these, which had this answer,
+-- left the layers and the files so.
 pub record HasLoaded (path : List ℕ) (conf : Configuration) (old : FilesState) (new : Stock) (result : Result (Unit {0}) LoadError) : Type 0 where
   pub conf_is : IsConfiguration old.view.disk path conf
+  pub patterns : all_patterns (databases_of conf) ≡ true
   pub loads : LoadsAll (databases_of conf) (all_set_up (databases_of conf)) new.used (conf_read old.view path) new.files.view old.counts new.files.counts result
 
 -- a load was refused

@@ -1,8 +1,10 @@
 -- What a run finds and leaves.
-use Rattle.std.specs.Prelude.{List, map as each}
+use Rattle.std.specs.Prelude.{ℕ, List, map as each}
 use Rattle.dc_layer.specs.State.{LayerState}
 use Rattle.dc_outside.specs.State.{LinkState, FilesState}
+use Rattle.dc_session.specs.SessionState.{nothing_typed}
 use Rattle.dc_shelf.specs.declared.shelf.Shelf.{Shelf}
+use Rattle.dc_teletype.specs.TerminalLines.{TypeAhead}
 
 -- the files, and the layers that are used
 pub record Stock : Type 0 where
@@ -20,6 +22,16 @@ pub record World : Type 0 where
   pub links : Links
   pub err : LinkState
 
+-- what one round of a run hands to the next: the world, what was typed on the terminal and isn't used yet, and the code of the last reply
+pub record RunState : Type 0 where
+  pub world : World
+  pub ahead : TypeAhead
+  pub code : ℕ
+
+-- a run in this world, before its first round
+abbrev pub before_rounds : World → RunState
+before_rounds world = record { world = world; ahead = nothing_typed; code = 0 }
+
 -- these files and layers
 abbrev pub stock_of : FilesState → List LayerState → Stock
 stock_of files used = record { files = files; used = used }
@@ -27,6 +39,11 @@ stock_of files used = record { files = files; used = used }
 -- these links
 abbrev pub links_of : LinkState → LinkState → Links
 links_of io child = record { io = io; child = child }
+
+-- these links, standard error, files and layers, with what was typed ahead and the code of the last reply
+abbrev pub run_state : LinkState → LinkState → LinkState → FilesState → List LayerState → TypeAhead → ℕ → RunState
+run_state io child err files used ahead code =
+    record { world = record { stock = stock_of files used; links = links_of io child; err = err }; ahead = ahead; code = code }
 
 -- ---- over a shelf: the states of its boxes
 

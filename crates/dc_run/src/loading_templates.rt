@@ -1,11 +1,11 @@
 // Template files loaded one after another.
 ghost use Rattle.std.specs.Prelude.{◌≡◌, ◌||◌, [], is_some, length, map as each, true};
 ghost use Rattle.dc_conf.specs.Plans.{IsOver, are_disjoint};
-ghost use Rattle.dc_store.specs.Plans.{stored};
-ghost use Rattle.dc_session.specs.SessionState.{TerminalState};
+ghost use Rattle.dc_session.specs.Serving.{resources_of};
+ghost use Rattle.dc_session.specs.SessionState.{LinkState, TerminalState};
 ghost use Rattle.dc_session.specs.declared.asking.Asking.{Asking};
 ghost use Rattle.dc_session.specs.declared.policy.AskPolicy.{AskPolicy};
-ghost use Rattle.dc_run.specs.Inside.{end_text, is_unread, status_by, LoadsOne, LoadsFiles, HasLoadedOver};
+ghost use Rattle.dc_run.specs.Inside.{end_text, is_unread, status_by, loading_over, LoadsOne, LoadsFiles, HasLoadedOver};
 
 use crate::outcome::{ToolAnswer, ToolEnd};
 use crate::telling::tell_file;
@@ -22,13 +22,13 @@ use std::marker::PhantomData;
 /// What template files are loaded into.
 trait TakesTemplates {
     ghost use Rattle.std.specs.Prelude.{◌≡◌};
-    ghost use Rattle.dc_session.specs.SessionState.{SessionState, TerminalState};
+    ghost use Rattle.dc_session.specs.SessionState.{LinkState, SessionState, TerminalState};
     ghost use Rattle.dc_session.specs.FileLoading.{Loads};
     ghost use Rattle.dc_session.specs.declared.asking.Asking.{Asking};
     ghost use Rattle.dc_session.specs.declared.policy.AskPolicy.{AskPolicy};
 
     /// The state that it works on, of a session that asks so, which templates don't look at.
-    ghost state_at: { Self → TerminalState → AskPolicy → Asking → SessionState };
+    ghost state_at: { Self → TerminalState → LinkState → AskPolicy → Asking → SessionState };
 
     ghost Kept: { Type 0 };
 
@@ -37,8 +37,8 @@ trait TakesTemplates {
 
     /// Loads the templates of the file at the path for the owner of the state (debconf-loadtemplate(1)): all of them, or none.
     fn load_file(&mut self, path: &Text) -> Mem<FileEnd>
-        ensures loads { (terminal : TerminalState) (policy : AskPolicy) (asking : Asking)
-            → Loads path.now (state_at self.old terminal policy asking) (state_at self.new terminal policy asking) result }
+        ensures loads { (terminal : TerminalState) (err : LinkState) (policy : AskPolicy) (asking : Asking)
+            → Loads path.now (state_at self.old terminal err policy asking) (state_at self.new terminal err policy asking) result }
         ensures kept { kept self.new ≡ kept self.old };
 }
 
@@ -52,19 +52,10 @@ struct Loader<'s, 'f, F: Files> {
 }
 
 impl<'s, 'f, F: Files> TakesTemplates for Loader<'s, 'f, F> {
-    ghost use Rattle.std.specs.Prelude.{map as each};
     ghost use Rattle.std.specs.Borrow.{GName};
-    ghost use Rattle.dc_store.specs.Plans.{stored};
+    ghost use Rattle.dc_session.specs.SessionState.{session_at_desk};
 
-    ghost state_at = { λ s terminal policy asking. record {
-      store = stored (each (λ b. (Layer-box b).state b.value) s.desk.questions.store.now.layers.items) s.desk.questions.store.now.told;
-      files = F.files s.files.now;
-      terminal = terminal;
-      at = s.desk.questions.context;
-      owner = s.desk.owner.now;
-      policy = policy;
-      asking = asking;
-    } };
+    ghost state_at = { λ s terminal err policy asking. session_at_desk (λ b. (Layer-box b).state b.value) s.desk (F.files s.files.now) terminal err policy asking };
 
     ghost Kept = { GName × GName };
 
@@ -80,7 +71,7 @@ impl<'s, 'f, F: Files> TakesTemplates for Loader<'s, 'f, F> {
 
 /// Loads the template files at the paths, in order, into these layers, by the plans of questions and of templates, for a user of the
 /// language and for an owner, whatever a session asks (debconf-loadtemplate(1)). A file that is refused is told on `err`, and the status is 1 where there was
-/// one. The layers are given back as they are then, in their order.
+/// one. The layers are given back as they are then, in their order. The code of the last reply so far is handed in and back.
 pub fn load_template_files<E: Link, F: Files>(
     alloc: Global,
     err: &mut E,
@@ -91,21 +82,15 @@ pub fn load_template_files<E: Link, F: Files>(
     lang: &Text,
     owner: &Name,
     paths: &List<Text>,
+    last_code: u8,
 ) -> ToolAnswer
     requires config { IsOver config.now (length layers.old.items) }
     requires templates { IsOver templates.now (length layers.old.items) }
     requires disjoint { are_disjoint config.now templates.now ≡ true }
-    ensures { (terminal : TerminalState) (policy : AskPolicy) (asking : Asking) → HasLoadedOver
-        (record {
-          store = stored (each state layers.old.items) [];
-          files = F.files files.old;
-          terminal = terminal;
-          at = record { config = config.now; templates = templates.now; lang = lang.now };
-          owner = owner.now;
-          policy = policy;
-          asking = asking;
-        })
-        paths.now (E.link err.old) (E.link err.new) result (each state layers.new.items) (F.files files.new) }
+    ensures { (terminal : TerminalState) (untold : LinkState) (policy : AskPolicy) (asking : Asking) → HasLoadedOver
+        (loading_over (resources_of (each state layers.old.items) (F.files files.old) terminal untold)
+        (record { config = config.now; templates = templates.now; lang = lang.now }) owner.now policy asking)
+        paths.now (E.link err.old) (E.link err.new) last_code result (each state layers.new.items) (F.files files.new) }
 {
     let mut store = Store::new(alloc, std::mem::replace(layers, Vec::new(alloc)));
     let questions = Questions::new(alloc, &mut store, config, templates, lang);
@@ -126,7 +111,7 @@ pub fn load_template_files<E: Link, F: Files>(
     ToolAnswer {
         ended: loaded.ended,
         is_started: false,
-        last_code: 0,
+        last_code,
         status: status_of_files(loaded.refused),
     }
 }
@@ -143,9 +128,9 @@ fn load_files<S: TakesTemplates, E: Link>(
     err: &mut E,
     paths: &[Text],
 ) -> FilesLoaded
-    ensures loads { (terminal : TerminalState) (policy : AskPolicy) (asking : Asking) → LoadsFiles (S.state_at session.old terminal policy asking)
-        paths.now (E.link err.old) (E.link err.new)
-        result (S.state_at session.new terminal policy asking) }
+    ensures loads { (terminal : TerminalState) (untold : LinkState) (policy : AskPolicy) (asking : Asking) → LoadsFiles
+        (S.state_at session.old terminal untold policy asking)
+        paths.now (E.link err.old) (E.link err.new) result (S.state_at session.new terminal untold policy asking) }
     ensures kept { S.kept session.new ≡ S.kept session.old }
 {
     let mut refused = false;
@@ -175,9 +160,9 @@ fn load_one<S: TakesTemplates, E: Link>(
     err: &mut E,
     path: &Text,
 ) -> Result<bool, ToolEnd>
-    ensures loads { (terminal : TerminalState) (policy : AskPolicy) (asking : Asking) → LoadsOne (S.state_at session.old terminal policy asking)
-        path.now (E.link err.old) (E.link err.new)
-        result (S.state_at session.new terminal policy asking) }
+    ensures loads { (terminal : TerminalState) (untold : LinkState) (policy : AskPolicy) (asking : Asking) → LoadsOne
+        (S.state_at session.old terminal untold policy asking)
+        path.now (E.link err.old) (E.link err.new) result (S.state_at session.new terminal untold policy asking) }
     ensures kept { S.kept session.new ≡ S.kept session.old }
 {
     let kept = match path.copy() {

@@ -2,14 +2,15 @@
 ghost use Rattle.std.specs.Prelude.{◌≡◌, ◌≤◌, List, [], length, map as each, true};
 ghost use Rattle.dc_conf.specs.Plans.{IsOver, are_disjoint};
 ghost use Rattle.dc_conf.specs.declared.spec.LayerSort.TheVariants.{File, Tree, Pack};
-ghost use Rattle.dc_outside.specs.Programs.{Unstarted, IsRunning};
+ghost use Rattle.dc_outside.specs.Programs.{IsIdle, IsRunning};
 ghost use Rattle.dc_run.specs.EndLines.{end_line, HasSaid};
 ghost use Rattle.dc_run.specs.Ends.{status_of};
 ghost use Rattle.dc_run.specs.Headline.{HasRunTool, IsRun};
-ghost use Rattle.dc_run.specs.Inside.{HasCommand, HasUsedTool};
+ghost use Rattle.dc_run.specs.Inside.{HasCommand};
+ghost use Rattle.dc_run.specs.Rounds.{HasDone};
 ghost use Rattle.dc_run.specs.Running.{Awaits};
 ghost use Rattle.dc_run.specs.Saves.{Save};
-ghost use Rattle.dc_run.specs.World.{files_in, links_of, packs_in, stock_of, trees_in, world};
+ghost use Rattle.dc_run.specs.World.{files_in, packs_in, run_state, trees_in, world};
 ghost use Rattle.dc_shelf.specs.Shelves.{AreBlank};
 
 use crate::finishing::finish_used;
@@ -23,6 +24,7 @@ use dc_cli::{Tool, ToolError, read_tool};
 use dc_layer::Layer;
 use dc_outside::{Child, Files, Link};
 use dc_shelf::Shelf;
+use dc_teletype::Teletype;
 use dc_text::{List, Text};
 use std::alloc::Global;
 
@@ -50,7 +52,7 @@ pub fn run_words<L: Link, E: Link, C: Child, F: Files>(
     requires some_trees { 16 ≤ length shelf.old.trees.items }
     requires some_packs { 16 ≤ length shelf.old.packs.items }
     requires used { shelf.old.used.items ≡ [] }
-    requires unstarted { (C.link child.old).program.life ≡ Unstarted }
+    requires idle { IsIdle (C.link child.old).program.life }
     // What the tool does is what the plain machine does; what was saved and stands in `used` are its layers, by the end; the end is told on
     // `err`; and a kill at any moment leaves each database as its saves say.
     ensures ran { IsRun words.now settings.now
@@ -83,7 +85,7 @@ fn run_tool<L: Link, E: Link, C: Child, F: Files>(
     requires some_trees { 16 ≤ length shelf.old.trees.items }
     requires some_packs { 16 ≤ length shelf.old.packs.items }
     requires used { shelf.old.used.items ≡ [] }
-    requires unstarted { (C.link child.old).program.life ≡ Unstarted }
+    requires idle { IsIdle (C.link child.old).program.life }
     requires command { HasCommand tool.now }
     ensures ran { (saves : List Save) × HasRunTool tool.now settings.now
         (world (L.link io.old) (C.link child.old) (E.link err.old) (F.files files.old) state shelf.old)
@@ -93,6 +95,7 @@ fn run_tool<L: Link, E: Link, C: Child, F: Files>(
     match start(alloc, &settings.conf_path, files, shelf) {
         Err(end) => end_run(err, end, 0, 0),
         Ok(roots) => {
+            let mut teletype = Teletype::new(alloc);
             let answer = use_tool(
                 alloc,
                 tool,
@@ -103,6 +106,8 @@ fn run_tool<L: Link, E: Link, C: Child, F: Files>(
                 child,
                 files,
                 &mut shelf.used,
+                &mut teletype,
+                0,
             );
             let ToolAnswer {
                 ended,
@@ -117,7 +122,8 @@ fn run_tool<L: Link, E: Link, C: Child, F: Files>(
     }
 }
 
-// The tool works on the layers, by the plans of questions and of templates.
+// The tool works on the layers, by the plans of questions and of templates. What was typed ahead and the code of the last reply so far are handed
+// in and back.
 fn use_tool<L: Link, E: Link, C: Child, F: Files>(
     alloc: Global,
     tool: &Tool,
@@ -128,20 +134,25 @@ fn use_tool<L: Link, E: Link, C: Child, F: Files>(
     child: &mut C,
     files: &mut F,
     used: &mut Vec<Box<dyn Layer>>,
+    teletype: &mut Teletype,
+    last_code: u8,
 ) -> ToolAnswer
     requires config { IsOver roots.now.config (length used.old.items) }
     requires templates { IsOver roots.now.templates (length used.old.items) }
     requires disjoint { are_disjoint roots.now.config roots.now.templates ≡ true }
-    requires unstarted { (C.link child.old).program.life ≡ Unstarted }
+    requires idle { IsIdle (C.link child.old).program.life }
     requires command { HasCommand tool.now }
-    ensures uses { HasUsedTool tool.now
-        (stock_of (F.files files.old) (each state used.old.items)) roots.now settings.now
-        (links_of (L.link io.old) (C.link child.old)) (links_of (L.link io.new) (C.link child.new)) (E.link err.old) (E.link err.new)
-        result (each state used.new.items) (F.files files.new) }
+    ensures does { HasDone tool.now roots.now settings.now
+        (run_state (L.link io.old) (C.link child.old) (E.link err.old) (F.files files.old) (each state used.old.items) teletype.old.ahead last_code)
+        (run_state (L.link io.new) (C.link child.new) (E.link err.new) (F.files files.new) (each state used.new.items) teletype.new.ahead
+        result.last_code)
+        result [] }
     ensures running { result.is_started ≡ true → IsRunning (C.link child.new).program.life }
 {
     match tool {
-        Tool::Communicate { owner } => communicate(alloc, owner, roots, settings, io, files, used),
+        Tool::Communicate { owner } => communicate(
+            alloc, owner, roots, settings, io, err, files, used, teletype, last_code,
+        ),
         Tool::LoadTemplate { owner, paths } => load_template_files(
             alloc,
             err,
@@ -152,6 +163,7 @@ fn use_tool<L: Link, E: Link, C: Child, F: Files>(
             &settings.lang,
             owner,
             paths,
+            last_code,
         ),
         Tool::Run {
             owner,
@@ -165,7 +177,8 @@ fn use_tool<L: Link, E: Link, C: Child, F: Files>(
                 priority: *priority,
             };
             run_program(
-                alloc, command, &asking, roots, settings, io, child, files, used,
+                alloc, command, &asking, roots, settings, io, err, child, files, used, teletype,
+                last_code,
             )
         }
     }

@@ -1,14 +1,16 @@
 // The tools that serve commands.
 ghost use Rattle.std.specs.Prelude.{◌≡◌, ◌<◌, List, ℕ, length, map as each, true};
 ghost use Rattle.dc_conf.specs.Plans.{IsOver, are_disjoint};
-ghost use Rattle.dc_outside.specs.Programs.{Unstarted, IsRunning};
+ghost use Rattle.dc_outside.specs.Programs.{IsIdle, IsRunning};
+ghost use Rattle.dc_outside.specs.State.{LinkState};
 ghost use Rattle.dc_run.specs.Jobs.{HasCommunicated};
-ghost use Rattle.dc_run.specs.Inside.{HasServedProgram};
+ghost use Rattle.dc_run.specs.Inside.{HasServedProgram, asked_run};
 ghost use Rattle.dc_run.specs.Running.{HasRunProgram, end_unstarted as end_unstarted_of};
-ghost use Rattle.dc_run.specs.Starting.{begun, session_at, untyped};
-ghost use Rattle.dc_run.specs.World.{links_of, stock_of};
-ghost use Rattle.dc_session.specs.Serving.{IsServed};
-ghost use Rattle.dc_cli.specs.declared.tool.Tool.TheVariants.{Communicate, Run};
+ghost use Rattle.dc_run.specs.Starting.{begun, resources_for, session_at};
+ghost use Rattle.dc_run.specs.World.{links_of, run_state};
+ghost use Rattle.dc_session.specs.Serving.{IsServed, resources_of};
+ghost use Rattle.dc_session.specs.SessionState.{terminal_at};
+ghost use Rattle.dc_cli.specs.declared.tool.Tool.TheVariants.{Communicate};
 
 use crate::outcome::{ToolAnswer, ToolEnd, tool_end};
 use crate::settings::Settings;
@@ -19,6 +21,7 @@ use dc_outside::{Child, Files, Link, LinkError};
 use dc_proto::Priority;
 use dc_serve::Conversation;
 use dc_session::{NoTerminal, SessionSetup, StepError, serve_layers};
+use dc_teletype::Teletype;
 use dc_text::{List, Name, Text};
 use std::alloc::Global;
 
@@ -30,22 +33,30 @@ pub struct RunAsking<'r> {
     pub priority: Option<Priority>,
 }
 
-/// Serves the commands that come on the link over the layers, for the owner (debconf-communicate(1)). Nobody is asked.
-pub fn communicate<L: Link, F: Files>(
+/// Serves the commands that come on the link over the layers, for the owner (debconf-communicate(1)). Nobody is asked. The code of the last
+/// reply so far is handed in and back.
+pub fn communicate<L: Link, E: Link, F: Files>(
     alloc: Global,
     owner: &Name,
     roots: &Roots,
     settings: &Settings,
     io: &mut L,
+    err: &mut E,
     files: &mut F,
     used: &mut Vec<Box<dyn Layer>>,
+    teletype: &mut Teletype,
+    last_code: u8,
 ) -> ToolAnswer
     requires config { IsOver roots.now.config (length used.old.items) }
     requires templates { IsOver roots.now.templates (length used.old.items) }
     requires disjoint { are_disjoint roots.now.config roots.now.templates ≡ true }
-    ensures served { HasCommunicated
-        (begun (Communicate owner.now) (stock_of (F.files files.old) (each state used.old.items)) roots.now settings.now (L.link io.old))
-        (L.link io.old) (L.link io.new) result (each state used.new.items) (F.files files.new) }
+    ensures served { (child : LinkState) → HasCommunicated
+        (begun (Communicate owner.now)
+        (run_state (L.link io.old) child (E.link err.old) (F.files files.old) (each state used.old.items) teletype.old.ahead last_code)
+        roots.now settings.now)
+        (L.link io.old) (L.link io.new) last_code result
+        (resources_for (Communicate owner.now)
+        (run_state (L.link io.new) child (E.link err.new) (F.files files.new) (each state used.new.items) teletype.new.ahead result.last_code)) }
 {
     let served = serve_for(
         alloc,
@@ -56,8 +67,11 @@ pub fn communicate<L: Link, F: Files>(
         settings,
         io,
         &mut NoTerminal,
+        err,
         files,
         used,
+        teletype,
+        last_code,
     );
     ToolAnswer {
         ended: tool_end(served.end),
@@ -68,58 +82,74 @@ pub fn communicate<L: Link, F: Files>(
 }
 
 /// Starts the program that the command names, and serves its commands over the layers, with the user asked on the link `io` (debconf(1)). It
-/// isn't waited for here.
-pub fn run_program<L: Link, C: Child, F: Files>(
+/// isn't waited for here. The code of the last reply so far is handed in and back.
+pub fn run_program<L: Link, E: Link, C: Child, F: Files>(
     alloc: Global,
     command: &List<Text>,
     asking: &RunAsking<'_>,
     roots: &Roots,
     settings: &Settings,
     io: &mut L,
+    err: &mut E,
     child: &mut C,
     files: &mut F,
     used: &mut Vec<Box<dyn Layer>>,
+    teletype: &mut Teletype,
+    last_code: u8,
 ) -> ToolAnswer
     requires config { IsOver roots.now.config (length used.old.items) }
     requires templates { IsOver roots.now.templates (length used.old.items) }
     requires disjoint { are_disjoint roots.now.config roots.now.templates ≡ true }
-    requires unstarted { (C.link child.old).program.life ≡ Unstarted }
+    requires idle { IsIdle (C.link child.old).program.life }
     requires some { 0 < length command.now }
     ensures ran { HasRunProgram command.now
-        (begun (Run asking.now.owner.now asking.now.frontend asking.now.priority command.now) (stock_of (F.files files.old) (each state used.old.items))
-        roots.now settings.now (L.link io.old))
-        (links_of (L.link io.old) (C.link child.old)) (links_of (L.link io.new) (C.link child.new)) result (each state used.new.items) (F.files files.new) }
+        (begun (asked_run asking.now command.now)
+        (run_state (L.link io.old) (C.link child.old) (E.link err.old) (F.files files.old) (each state used.old.items) teletype.old.ahead last_code)
+        roots.now settings.now)
+        (links_of (L.link io.old) (C.link child.old)) (links_of (L.link io.new) (C.link child.new)) last_code result
+        (resources_for (asked_run asking.now command.now)
+        (run_state (L.link io.new) (C.link child.new) (E.link err.new) (F.files files.new) (each state used.new.items) teletype.new.ahead
+        result.last_code)) }
     ensures running { result.is_started ≡ true → IsRunning (C.link child.new).program.life }
 {
     match child.start(command) {
         Err(error) => ToolAnswer {
             ended: end_unstarted(error),
             is_started: false,
-            last_code: 0,
+            last_code,
             status: 0,
         },
-        Ok(()) => serve_program(alloc, asking, roots, settings, io, child, files, used),
+        Ok(()) => serve_program(
+            alloc, asking, roots, settings, io, err, child, files, used, teletype, last_code,
+        ),
     }
 }
 
 // Serves the commands of the program that was started.
-fn serve_program<L: Link, C: Child, F: Files>(
+fn serve_program<L: Link, E: Link, C: Child, F: Files>(
     alloc: Global,
     asking: &RunAsking<'_>,
     roots: &Roots,
     settings: &Settings,
     io: &mut L,
+    err: &mut E,
     child: &mut C,
     files: &mut F,
     used: &mut Vec<Box<dyn Layer>>,
+    teletype: &mut Teletype,
+    last_code: u8,
 ) -> ToolAnswer
     requires config { IsOver roots.now.config (length used.old.items) }
     requires templates { IsOver roots.now.templates (length used.old.items) }
     requires disjoint { are_disjoint roots.now.config roots.now.templates ≡ true }
     ensures served { (command : List (List ℕ)) → HasServedProgram
-        (begun (Run asking.now.owner.now asking.now.frontend asking.now.priority command) (stock_of (F.files files.old) (each state used.old.items))
-        roots.now settings.now (L.link io.old))
-        (L.link io.new) (C.link child.old) (C.link child.new) result (each state used.new.items) (F.files files.new) }
+        (begun (asked_run asking.now command)
+        (run_state (L.link io.old) (C.link child.old) (E.link err.old) (F.files files.old) (each state used.old.items) teletype.old.ahead last_code)
+        roots.now settings.now)
+        (C.link child.old) (C.link child.new) last_code result
+        (resources_for (asked_run asking.now command)
+        (run_state (L.link io.new) (C.link child.new) (E.link err.new) (F.files files.new) (each state used.new.items) teletype.new.ahead
+        result.last_code)) }
 {
     let served = serve_for(
         alloc,
@@ -130,8 +160,11 @@ fn serve_program<L: Link, C: Child, F: Files>(
         settings,
         child,
         io,
+        err,
         files,
         used,
+        teletype,
+        last_code,
     );
     ToolAnswer {
         ended: tool_end(served.end),
@@ -142,7 +175,7 @@ fn serve_program<L: Link, C: Child, F: Files>(
 }
 
 // Serves the link over the layers, for the owner, with the user asked on the terminal, by the frontend and the priority that were chosen.
-fn serve_for<L: Link, T: Link, F: Files>(
+fn serve_for<L: Link, T: Link, E: Link, F: Files>(
     alloc: Global,
     owner: &Name,
     frontend: Option<Frontend>,
@@ -151,16 +184,21 @@ fn serve_for<L: Link, T: Link, F: Files>(
     settings: &Settings,
     io: &mut L,
     terminal: &mut T,
+    err: &mut E,
     files: &mut F,
     used: &mut Vec<Box<dyn Layer>>,
+    teletype: &mut Teletype,
+    last_code: u8,
 ) -> Conversation<StepError>
     requires config { IsOver roots.now.config (length used.old.items) }
     requires templates { IsOver roots.now.templates (length used.old.items) }
     requires disjoint { are_disjoint roots.now.config roots.now.templates ≡ true }
     ensures { IsServed
-        (session_at (stock_of (F.files files.old) (each state used.old.items)) (untyped (T.link terminal.old)) roots.now settings.now owner.now frontend
-        threshold)
-        (each state used.new.items) (F.files files.new) (T.link terminal.new) (L.link io.old) (L.link io.new) result.end result.last_code }
+        (session_at
+        (resources_of (each state used.old.items) (F.files files.old) (terminal_at (T.link terminal.old) teletype.old.ahead) (E.link err.old))
+        roots.now settings.now owner.now frontend threshold)
+        (resources_of (each state used.new.items) (F.files files.new) (terminal_at (T.link terminal.new) teletype.new.ahead) (E.link err.new))
+        (L.link io.old) (L.link io.new) result.end last_code result.last_code }
 {
     let setup = SessionSetup {
         owner,
@@ -173,11 +211,14 @@ fn serve_for<L: Link, T: Link, F: Files>(
         alloc,
         io,
         terminal,
+        teletype,
+        err,
         files,
         used,
         &roots.config,
         &roots.templates,
         &setup,
+        last_code,
     )
 }
 

@@ -10,7 +10,7 @@ use Rattle.dc_session.specs.SessionState.{SessionState}
 use Rattle.dc_run.specs.Ends.{status_of}
 use Rattle.dc_run.specs.OneRound.{HasUsed}
 use Rattle.dc_run.specs.Starting.{begun}
-use Rattle.dc_run.specs.World.{World}
+use Rattle.dc_run.specs.World.{World, before_rounds}
 use Rattle.dc_run.specs.declared.outcome.Outcome.{Outcome}
 use Rattle.dc_run.specs.declared.settings.Settings.{Settings}
 use Rattle.dc_cli.specs.Tools.{Names}
@@ -19,7 +19,7 @@ use Rattle.dc_theorem.specs.Runs.{IsClean, CommunicateAlike}
 use Rattle.dc_theorem.proofs.EndLemmas.{was_used, unwaited, WasServed, was_served}
 use Rattle.dc_outside.specs.Disk.{Disk}
 use Rattle.dc_outside.specs.declared.files.FilesCall.{FilesCall}
-use Rattle.dc_theorem.proofs.Recount.{with_counts, run_with}
+use Rattle.dc_theorem.proofs.Recount.{with_outside, run_with}
 use Rattle.dc_theorem.proofs.StartLaws.{StartAlike}
 use Rattle.dc_theorem.proofs.SameRuns.{run_later, run_same}
 use Rattle.dc_theorem.proofs.UsedLemmas.{tool_done, left_sound, starts_low, starts_told, same_start, leave_alike}
@@ -29,13 +29,13 @@ use Rattle.dc_theorem.proofs.UsedLemmas.{tool_done, left_sound, starts_low, star
 module _ (words : List (List ℕ)) (owner : List ℕ) (settings : Settings) (disk : Disk) (calls : List FilesCall) (old new : World) (outcome : Outcome) (input : List ℕ) (clean : IsClean words settings disk calls old new outcome)
     (has : HasUsed (Communicate owner) settings old new outcome) (input_is : old.links.io.input ≡ Some input) where
   abbrev start : SessionState
-  start = begun (Communicate owner) has.mid has.roots settings old.links.io
+  start = begun (Communicate owner) (before_rounds (record old { stock = has.mid })) has.roots settings
 
-  served : WasServed start has.layers has.files has.uses.0.terminal old.links.io has.links.io has.answer.last_code
-  served = was_served start has.layers has.files has.uses.0.terminal old.links.io has.links.io has.uses.0.ended has.answer.last_code (sym has.uses.0.ended_is ∙ tool_done words (Communicate owner) settings disk calls old new outcome clean has) has.uses.0.served
+  served : WasServed start has.left old.links.io has.links.io 0 has.answer.last_code
+  served = was_served start has.left old.links.io has.links.io has.uses.0.ended 0 has.answer.last_code (sym has.uses.0.ended_is ∙ tool_done words (Communicate owner) settings disk calls old new outcome clean has) has.uses.0.served
 
-  ran : IsLinkRun Handles Aborts old.links.io.talk has.links.io.talk (Some input) has.links.io.input start link.Done served.state has.answer.last_code
-  ran = subst (λ (k : Option (List ℕ)). IsLinkRun Handles Aborts old.links.io.talk has.links.io.talk k has.links.io.input start link.Done served.state has.answer.last_code) input_is served.ran
+  ran : IsLinkRun Handles Aborts old.links.io.talk has.links.io.talk (Some input) has.links.io.input start link.Done served.state 0 has.answer.last_code
+  ran = subst (λ (k : Option (List ℕ)). IsLinkRun Handles Aborts old.links.io.talk has.links.io.talk k has.links.io.input start link.Done served.state 0 has.answer.last_code) input_is served.ran
 
   high : served.state.files.counts.faults ≤ old.stock.files.counts.faults
   high = subst (λ (f : FilesState). f.counts.faults ≤ old.stock.files.counts.faults) served.files_are (left_sound words (Communicate owner) settings disk calls old new outcome clean has)
@@ -43,7 +43,7 @@ module _ (words : List (List ℕ)) (owner : List ℕ) (settings : Settings) (dis
   mid_high : has.mid.files.counts.faults ≤ old.stock.files.counts.faults
   mid_high =
       let later : has.mid.files.counts.faults ≤ served.state.files.counts.faults
-      = run_later input old.links.io.talk has.links.io.talk has.links.io.input start served.state has.answer.last_code ran in
+      = run_later input old.links.io.talk has.links.io.talk has.links.io.input start served.state 0 has.answer.last_code ran in
       let low : served.state.files.counts.faults ≤ old.stock.files.counts.faults = high in
       omega arith
 
@@ -68,22 +68,23 @@ module _ (words : List (List ℕ)) (owner : List ℕ) (settings : Settings) (dis
       let first = served words owner settings disk calls one new outcome input clean has input_is in
       let second = served words owner settings disk calls other last again input other_clean other_has other_input_is in
       let one_ran = ran words owner settings disk calls one new outcome input clean has input_is in
-      let begins = begun (Communicate owner) has.mid has.roots settings one.links.io in
-      let other_begins = begun (Communicate owner) other_has.mid other_has.roots settings other.links.io in
+      let begins = begun (Communicate owner) (before_rounds (record one { stock = has.mid })) has.roots settings in
+      let other_begins = begun (Communicate owner) (before_rounds (record other { stock = other_has.mid })) other_has.roots settings in
       let counts = has.mid.files.counts in
-      let recounted = run_with counts other.stock.files.counts.faults other_clean.none_failed.room other.links.io.talk other_has.links.io.talk (Some input) other_has.links.io.input other_begins second.state other_has.answer.last_code
+      let err = one.err in
+      let recounted = run_with counts err other.stock.files.counts.faults other_clean.none_failed.room other.links.io.talk other_has.links.io.talk (Some input) other_has.links.io.input other_begins second.state 0 other_has.answer.last_code
       (starts_low words (Communicate owner) settings disk calls other last again other_clean other_has) (high words owner settings disk calls other last again input other_clean other_has other_input_is)
       (ran words owner settings disk calls other last again input other_clean other_has other_input_is) in
-      let begin : with_counts counts other_begins ≡ begins
-      = λ i. begun (Communicate owner) (record { files = record { view = sym starts.told i; counts = counts }; used = sym starts.used i }) (sym starts.roots_are i) settings one.links.io in
-      let other_ran : IsLinkRun Handles Aborts other.links.io.talk other_has.links.io.talk (Some input) other_has.links.io.input begins link.Done (with_counts counts second.state) other_has.answer.last_code
-      = subst (λ (s : SessionState). IsLinkRun Handles Aborts other.links.io.talk other_has.links.io.talk (Some input) other_has.links.io.input s link.Done (with_counts counts second.state) other_has.answer.last_code) begin recounted in
+      let begin : with_outside counts err other_begins ≡ begins
+      = λ i. begun (Communicate owner) (before_rounds (record one { stock = record { files = record { view = sym starts.told i; counts = counts }; used = sym starts.used i } })) (sym starts.roots_are i) settings in
+      let other_ran : IsLinkRun Handles Aborts other.links.io.talk other_has.links.io.talk (Some input) other_has.links.io.input begins link.Done (with_outside counts err second.state) 0 other_has.answer.last_code
+      = subst (λ (s : SessionState). IsLinkRun Handles Aborts other.links.io.talk other_has.links.io.talk (Some input) other_has.links.io.input s link.Done (with_outside counts err second.state) 0 other_has.answer.last_code) begin recounted in
       let disk_told = starts_told words (Communicate owner) settings disk calls one new outcome clean has in
       let same = run_same one.stock.files.counts.faults clean.none_failed.room disk disk_told.0 input one.links.io.talk has.links.io.talk other.links.io.talk other_has.links.io.talk has.links.io.input other_has.links.io.input
-      begins first.state (with_counts counts second.state) has.answer.last_code other_has.answer.last_code disk_told.1 refl (starts_low words (Communicate owner) settings disk calls one new outcome clean has)
+      begins first.state (with_outside counts err second.state) 0 has.answer.last_code other_has.answer.last_code disk_told.1 refl (starts_low words (Communicate owner) settings disk calls one new outcome clean has)
       (high words owner settings disk calls one new outcome input clean has input_is) (mid_high words owner settings disk calls one new outcome input clean has input_is) one_ran other_ran in
-      let layers : has.layers ≡ other_has.layers = first.layers_are ∙ ap (λ (s : SessionState). (finished s).layers) same.2 ∙ sym second.layers_are in
-      let left : has.files.view ≡ other_has.files.view
+      let layers : has.left.layers ≡ other_has.left.layers = first.layers_are ∙ ap (λ (s : SessionState). (finished s).layers) same.2 ∙ sym second.layers_are in
+      let left : has.left.files.view ≡ other_has.left.files.view
       = ap (λ (f : FilesState). f.view) first.files_are ∙ ap (λ (s : SessionState). s.files.view) same.2 ∙ sym (ap (λ (f : FilesState). f.view) second.files_are) in
       record {
         leave = leave_alike words (Communicate owner) settings disk calls one new other last outcome again clean other_clean has other_has layers left (has.uses.2 ∙ sym other_has.uses.2) same.1;

@@ -15,7 +15,7 @@ use Rattle.dc_serve.specs.declared.outcome.LinkEnd.{LinkEnd}
 use Rattle.dc_serve.specs.declared.outcome.LinkEnd.TheVariants as link
 use Rattle.dc_session.specs.Asking.{finished}
 use Rattle.dc_session.specs.Machine.{Handles, Aborts}
-use Rattle.dc_session.specs.Serving.{IsFinished, Finishes as FinishesSession, IsServed, end_broken}
+use Rattle.dc_session.specs.Serving.{IsFinished, Finishes as FinishesSession, IsServed, Resources, end_broken}
 use Rattle.dc_session.specs.SessionState.{SessionState}
 use Rattle.dc_session.specs.declared.stepped.StepError.{StepError}
 use Rattle.dc_session.specs.declared.stepped.StepError.TheVariants as step
@@ -24,7 +24,7 @@ use Rattle.dc_run.specs.Finishing.{images_of, IsSaved, Finishes}
 use Rattle.dc_run.specs.Headline.{HasRunTool, HasRunWords}
 use Rattle.dc_run.specs.OneRound.{HasUsed}
 use Rattle.dc_run.specs.Saves.{Save}
-use Rattle.dc_run.proofs.RoundLemmas.{as_used}
+use Rattle.dc_run.proofs.UsedLemmas.{as_used}
 use Rattle.dc_run.specs.Running.{Awaits, end_unstarted}
 use Rattle.dc_run.specs.Starting.{EndsBefore}
 use Rattle.dc_run.specs.World.{Stock, World}
@@ -173,19 +173,19 @@ finished_so state layers link.OutOfMemory ended done finishes = absurd (no_link_
 finished_so state layers (link.Broken error) ended done finishes = absurd (broken_other error (sym finishes.1 ∙ done))
 
 -- it was served to its end, and finished
-pub record WasServed (start : SessionState) (layers : List LayerState) (files : FilesState) (terminal old new : LinkState) (code : ℕ) : Type 0 where
+pub record WasServed (start : SessionState) (left : Resources) (old new : LinkState) (before code : ℕ) : Type 0 where
   pub state : SessionState
-  pub ran : IsLinkRun Handles Aborts old.talk new.talk old.input new.input start link.Done state code
-  pub files_are : files ≡ state.files
-  pub terminal_is : terminal ≡ state.terminal.link
-  pub layers_are : layers ≡ (finished state).layers
+  pub ran : IsLinkRun Handles Aborts old.talk new.talk old.input new.input start link.Done state before code
+  pub files_are : left.files ≡ state.files
+  pub terminal_is : left.terminal ≡ state.terminal
+  pub layers_are : left.layers ≡ (finished state).layers
 
-pub was_served : (start : SessionState) (layers : List LayerState) (files : FilesState) (terminal old new : LinkState) (ended : LinkEnd StepError) (code : ℕ) → tool_end_of ended ≡ tool.Done → IsServed start layers files terminal old new ended code → WasServed start layers files terminal old new code
-was_served start layers files terminal old new ended code done is =
-    let so = finished_so is.state layers is.served ended (link_done ended done) is.finishes in
+pub was_served : (start : SessionState) (left : Resources) (old new : LinkState) (ended : LinkEnd StepError) (before code : ℕ) → tool_end_of ended ≡ tool.Done → IsServed start left old new ended before code → WasServed start left old new before code
+was_served start left old new ended before code done is =
+    let so = finished_so is.state left.layers is.served ended (link_done ended done) is.finishes in
     record {
       state = is.state;
-      ran = subst (λ (e : LinkEnd StepError). IsLinkRun Handles Aborts old.talk new.talk old.input new.input start e is.state code) so.0 is.ran;
+      ran = subst (λ (e : LinkEnd StepError). IsLinkRun Handles Aborts old.talk new.talk old.input new.input start e is.state before code) so.0 is.ran;
       files_are = is.files_are;
       terminal_is = is.terminal_is;
       layers_are = so.1;

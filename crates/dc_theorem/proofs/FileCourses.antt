@@ -3,7 +3,7 @@ use Rattle.std.proofs.Common.{◌≡◌, ℕ, true, List, [], ◌∷◌, ◌++�
 use Rattle.std.specs.Prelude.{◌≤◌, ◌≢◌, ◌||◌, is_some, if◌then◌else◌, map as each}
 use Rattle.std.specs.Option.{option_map_or}
 use Rattle.dc_outside.specs.Counts.{Counts}
-use Rattle.dc_outside.specs.State.{FilesState, FilesView}
+use Rattle.dc_outside.specs.State.{FilesState, FilesView, LinkState}
 use Rattle.dc_text.specs.Ascii.{newline}
 use Rattle.dc_outside.specs.Disk.{Disk}
 use Rattle.dc_outside.specs.Steps.{after_look}
@@ -17,7 +17,7 @@ use Rattle.dc_session.proofs.Determined.{IsTold, one_looked}
 use Rattle.dc_run.specs.TemplateLoading.{FileTurn, IsFileTurn, IsFileCourse, paths_of, state_after, refusal_of, lines_of, refuses, load_status}
 use Rattle.dc_theorem.proofs.CountLemmas.{still}
 use Rattle.dc_theorem.proofs.LineFiles.{files_read, read_so}
-use Rattle.dc_theorem.proofs.Recount.{files_with, with_counts, read_with}
+use Rattle.dc_theorem.proofs.Recount.{files_with, with_outside, read_with}
 use Rattle.dc_theorem.proofs.SameAnswers.{loading_same}
 
 found_so : (path : List ℕ) (old new : FilesState) (found : Found) → found ≢ Unreadable → Finds path old found new → new ≡ files_read path old
@@ -65,9 +65,9 @@ module _ (disk : Disk) where
 
 -- ---- whatever the files had counted before
 
-module _ (counts : Counts) where
+module _ (counts : Counts) (err : LinkState) where
   abbrev file_with : FileTurn → FileTurn
-  file_with transition = record { path = transition.path; found = transition.found; new = with_counts counts transition.new }
+  file_with transition = record { path = transition.path; found = transition.found; new = with_outside counts err transition.new }
 
   abbrev pub files_with_counts : List FileTurn → List FileTurn
   files_with_counts transitions = each file_with transitions
@@ -78,14 +78,14 @@ module _ (counts : Counts) where
   found_with path old new (Faulty line) readable finds = (finds.0, finds.1, read_with counts path old new (Some finds.0) finds.2, finds.3)
   found_with path old new (Templates templates) readable finds = (finds.0, read_with counts path old new (Some finds.0) finds.1, finds.2)
 
-  turn_with : (start : SessionState) (transition : FileTurn) → IsFileTurn start transition → IsFileTurn (with_counts counts start) (file_with transition)
+  turn_with : (start : SessionState) (transition : FileTurn) → IsFileTurn start transition → IsFileTurn (with_outside counts err start) (file_with transition)
   turn_with start transition is = record {
     finds = found_with transition.path start.files transition.new.files transition.found is.readable is.finds;
     readable = is.readable;
-    new_is = ap (with_counts counts) is.new_is ∙ (λ i. record start { store = (sym (loading_same start (files_with counts start.files) start.owner transition.found) i).store; files = files_with counts transition.new.files });
+    new_is = ap (with_outside counts err) is.new_is ∙ (λ i. record start { store = (sym (loading_same start (files_with counts start.files) err start.owner transition.found) i).store; files = files_with counts transition.new.files; err = err });
   }
 
-  pub course_with : (start : SessionState) (transitions : List FileTurn) → IsFileCourse start transitions → IsFileCourse (with_counts counts start) (files_with_counts transitions)
+  pub course_with : (start : SessionState) (transitions : List FileTurn) → IsFileCourse start transitions → IsFileCourse (with_outside counts err start) (files_with_counts transitions)
   course_with start [] course = tt
   course_with start (transition ∷ transitions) course = (turn_with start transition course.0, course_with transition.new transitions course.1)
 
@@ -93,24 +93,24 @@ module _ (counts : Counts) where
   paths_with [] = refl
   paths_with (transition ∷ transitions) = ap (λ (ps : List (List ℕ)). transition.path ∷ ps) (paths_with transitions)
 
-  pub state_with : (start : SessionState) (transitions : List FileTurn) → state_after (with_counts counts start) (files_with_counts transitions) ≡ with_counts counts (state_after start transitions)
+  pub state_with : (start : SessionState) (transitions : List FileTurn) → state_after (with_outside counts err start) (files_with_counts transitions) ≡ with_outside counts err (state_after start transitions)
   state_with start [] = refl
   state_with start (transition ∷ transitions) = state_with transition.new transitions
 
-  refusal_with : (state : SessionState) (path : List ℕ) (found : Found) → refusal_of (with_counts counts state) path found ≡ refusal_of state path found
+  refusal_with : (state : SessionState) (path : List ℕ) (found : Found) → refusal_of (with_outside counts err state) path found ≡ refusal_of state path found
   refusal_with state path Unreadable = refl
   refusal_with state path Missing = refl
   refusal_with state path (Faulty line) = refl
   refusal_with state path (Templates templates) = refl
 
-  pub told_with : (start : SessionState) (transitions : List FileTurn) → lines_of (with_counts counts start) (files_with_counts transitions) ≡ lines_of start transitions
+  pub told_with : (start : SessionState) (transitions : List FileTurn) → lines_of (with_outside counts err start) (files_with_counts transitions) ≡ lines_of start transitions
   told_with start [] = refl
   told_with start (transition ∷ transitions) =
       λ i. option_map_or (λ text. text ++ newline ∷ []) (refusal_with start transition.path transition.found i) [] ++ told_with transition.new transitions i
 
-  refuses_with : (start : SessionState) (transitions : List FileTurn) → refuses (with_counts counts start) (files_with_counts transitions) ≡ refuses start transitions
+  refuses_with : (start : SessionState) (transitions : List FileTurn) → refuses (with_outside counts err start) (files_with_counts transitions) ≡ refuses start transitions
   refuses_with start [] = refl
   refuses_with start (transition ∷ transitions) = λ i. is_some (refusal_with start transition.path transition.found i) || refuses_with transition.new transitions i
 
-  pub status_with : (start : SessionState) (transitions : List FileTurn) → load_status (with_counts counts start) (files_with_counts transitions) ≡ load_status start transitions
+  pub status_with : (start : SessionState) (transitions : List FileTurn) → load_status (with_outside counts err start) (files_with_counts transitions) ≡ load_status start transitions
   status_with start transitions = λ i. if refuses_with start transitions i then 1 else 0

@@ -2,13 +2,14 @@
 use Rattle.std.proofs.Common.{◌≡◌, ℕ, List, ◌++◌, ap, sym, subst, ◌∙◌, append-nil, arith}
 use Rattle.std.specs.Prelude.{◌≤◌}
 use Rattle.dc_outside.specs.Counts.{Counts}
-use Rattle.dc_outside.specs.State.{FilesState}
+use Rattle.dc_outside.specs.State.{FilesState, LinkState}
+use Rattle.dc_session.specs.Serving.{Resources}
 use Rattle.dc_session.specs.SessionState.{SessionState}
 use Rattle.dc_run.specs.Ends.{status_of}
 use Rattle.dc_run.specs.OneRound.{HasUsed}
 use Rattle.dc_run.specs.Starting.{begun}
 use Rattle.dc_run.specs.TemplateLoading.{FileTurn, IsFileCourse, paths_of, state_after, lines_of, load_status, HasLoadedFiles}
-use Rattle.dc_run.specs.World.{World}
+use Rattle.dc_run.specs.World.{World, before_rounds}
 use Rattle.dc_run.specs.declared.outcome.Outcome.{Outcome}
 use Rattle.dc_run.specs.declared.outcome.ToolEnd.{ToolEnd}
 use Rattle.dc_run.specs.declared.outcome.ToolEnd.TheVariants as tool
@@ -20,7 +21,7 @@ use Rattle.dc_theorem.proofs.EndLemmas.{was_used, unwaited}
 use Rattle.dc_outside.specs.Disk.{Disk}
 use Rattle.dc_outside.specs.declared.files.FilesCall.{FilesCall}
 use Rattle.dc_theorem.proofs.FileCourses.{loads_later, one_course, files_with_counts, course_with, paths_with, state_with, told_with, status_with}
-use Rattle.dc_theorem.proofs.Recount.{with_counts}
+use Rattle.dc_theorem.proofs.Recount.{with_outside}
 use Rattle.dc_theorem.proofs.UsedLemmas.{tool_done, left_sound, starts_told, same_start, leave_alike}
 
 -- all files were loaded
@@ -42,14 +43,14 @@ loads_each start paths said status new loaded = record {
   status_is = loaded.status_is;
 }
 
-loads_with : (counts : Counts) (start : SessionState) (paths : List (List ℕ)) (said : List ℕ) (status : ℕ) (new : SessionState) → LoadsEach start paths said status new → LoadsEach (with_counts counts start) paths said status (with_counts counts new)
-loads_with counts start paths said status new loads = record {
-  transitions = files_with_counts counts loads.transitions;
-  paths_are = loads.paths_are ∙ sym (paths_with counts loads.transitions);
-  course = course_with counts start loads.transitions loads.course;
-  new_is = ap (with_counts counts) loads.new_is ∙ sym (state_with counts start loads.transitions);
-  said_is = loads.said_is ∙ sym (told_with counts start loads.transitions);
-  status_is = loads.status_is ∙ sym (status_with counts start loads.transitions);
+loads_with : (counts : Counts) (err : LinkState) (start : SessionState) (paths : List (List ℕ)) (said : List ℕ) (status : ℕ) (new : SessionState) → LoadsEach start paths said status new → LoadsEach (with_outside counts err start) paths said status (with_outside counts err new)
+loads_with counts err start paths said status new loads = record {
+  transitions = files_with_counts counts err loads.transitions;
+  paths_are = loads.paths_are ∙ sym (paths_with counts err loads.transitions);
+  course = course_with counts err start loads.transitions loads.course;
+  new_is = ap (with_outside counts err) loads.new_is ∙ sym (state_with counts err start loads.transitions);
+  said_is = loads.said_is ∙ sym (told_with counts err start loads.transitions);
+  status_is = loads.status_is ∙ sym (status_with counts err start loads.transitions);
 }
 
 module _ (words : List (List ℕ)) (owner : List ℕ) (paths : List (List ℕ)) (settings : Settings) (disk : Disk) (calls : List FilesCall) where
@@ -57,7 +58,7 @@ module _ (words : List (List ℕ)) (owner : List ℕ) (paths : List (List ℕ)) 
 
   module _ (old new : World) (outcome : Outcome) (clean : IsClean words settings disk calls old new outcome) (has : HasUsed (LoadTemplate owner paths) settings old new outcome) where
     abbrev start : SessionState
-    start = begun (LoadTemplate owner paths) has.mid has.roots settings old.links.io
+    start = begun (LoadTemplate owner paths) (before_rounds (record old { stock = has.mid })) has.roots settings
 
     loads : LoadsEach start paths has.told has.answer.status has.uses.state
     loads =
@@ -68,7 +69,7 @@ module _ (words : List (List ℕ)) (owner : List ℕ) (paths : List (List ℕ)) 
     mid_high =
         let later : has.mid.files.counts.faults ≤ (state_after start loads.transitions).files.counts.faults = loads_later start loads.transitions loads.course in
         let high : (state_after start loads.transitions).files.counts.faults ≤ old.stock.files.counts.faults
-        = subst (λ (f : FilesState). f.counts.faults ≤ old.stock.files.counts.faults) (has.uses.files_are ∙ ap (λ (s : SessionState). s.files) loads.new_is) (left_sound words (LoadTemplate owner paths) settings disk calls old new outcome clean has) in
+        = subst (λ (f : FilesState). f.counts.faults ≤ old.stock.files.counts.faults) (ap (λ (l : Resources). l.files) has.uses.left_is ∙ ap (λ (s : SessionState). s.files) loads.new_is) (left_sound words (LoadTemplate owner paths) settings disk calls old new outcome clean has) in
         omega arith
 
     status_is : outcome.status ≡ has.answer.status
@@ -83,19 +84,20 @@ module _ (words : List (List ℕ)) (owner : List ℕ) (paths : List (List ℕ)) 
     both_alike : LoadAlike one new outcome other last again
     both_alike =
         let starts = same_start words (LoadTemplate owner paths) settings disk calls one new other last outcome again clean other_clean has other_has (mid_high one new outcome clean has) (mid_high other last again other_clean other_has) in
-        let begins = begun (LoadTemplate owner paths) has.mid has.roots settings one.links.io in
-        let other_begins = begun (LoadTemplate owner paths) other_has.mid other_has.roots settings other.links.io in
+        let begins = begun (LoadTemplate owner paths) (before_rounds (record one { stock = has.mid })) has.roots settings in
+        let other_begins = begun (LoadTemplate owner paths) (before_rounds (record other { stock = other_has.mid })) other_has.roots settings in
         let counts = has.mid.files.counts in
-        let begin : with_counts counts other_begins ≡ begins
-        = λ i. begun (LoadTemplate owner paths) (record { files = record { view = sym starts.told i; counts = counts }; used = sym starts.used i }) (sym starts.roots_are i) settings one.links.io in
+        let err = one.err in
+        let begin : with_outside counts err other_begins ≡ begins
+        = λ i. begun (LoadTemplate owner paths) (before_rounds (record one { stock = record { files = record { view = sym starts.told i; counts = counts }; used = sym starts.used i } })) (sym starts.roots_are i) settings in
         let first = loads one new outcome clean has in
-        let second : LoadsEach begins paths other_has.told other_has.answer.status (with_counts counts other_has.uses.state)
-        = subst (λ (s : SessionState). LoadsEach s paths other_has.told other_has.answer.status (with_counts counts other_has.uses.state)) begin
-        (loads_with counts other_begins paths other_has.told other_has.answer.status other_has.uses.state (loads other last again other_clean other_has)) in
+        let second : LoadsEach begins paths other_has.told other_has.answer.status (with_outside counts err other_has.uses.state)
+        = subst (λ (s : SessionState). LoadsEach s paths other_has.told other_has.answer.status (with_outside counts err other_has.uses.state)) begin
+        (loads_with counts err other_begins paths other_has.told other_has.answer.status other_has.uses.state (loads other last again other_clean other_has)) in
         let disk_told = starts_told words (LoadTemplate owner paths) settings disk calls one new outcome clean has in
         let transitions : first.transitions ≡ second.transitions
         = one_course disk begins first.transitions second.transitions disk_told first.course second.course (sym first.paths_are ∙ second.paths_are) in
-        let state : has.uses.state ≡ with_counts counts other_has.uses.state
+        let state : has.uses.state ≡ with_outside counts err other_has.uses.state
         = first.new_is ∙ ap (λ (ts : List FileTurn). state_after begins ts) transitions ∙ sym second.new_is in
         let said : has.told ≡ other_has.told
         = first.said_is ∙ ap (λ (ts : List FileTurn). lines_of begins ts) transitions ∙ sym second.said_is in
@@ -103,7 +105,7 @@ module _ (words : List (List ℕ)) (owner : List ℕ) (paths : List (List ℕ)) 
         = first.status_is ∙ ap (λ (ts : List FileTurn). load_status begins ts) transitions ∙ sym second.status_is in
         record {
           leave = leave_alike words (LoadTemplate owner paths) settings disk calls one new other last outcome again clean other_clean has other_has
-              (has.uses.layers_are ∙ ap (λ (s : SessionState). s.store.layers) state ∙ sym other_has.uses.layers_are) (ap (λ (f : FilesState). f.view) has.uses.files_are ∙ ap (λ (s : SessionState). s.files.view) state ∙ sym (ap (λ (f : FilesState). f.view) other_has.uses.files_are)) said
+              (ap (λ (l : Resources). l.layers) has.uses.left_is ∙ ap (λ (s : SessionState). s.store.layers) state ∙ sym (ap (λ (l : Resources). l.layers) other_has.uses.left_is)) (ap (λ (l : Resources). l.files.view) has.uses.left_is ∙ ap (λ (s : SessionState). s.files.view) state ∙ sym (ap (λ (l : Resources). l.files.view) other_has.uses.left_is)) said
               (has.uses.last_code_is ∙ sym other_has.uses.last_code_is);
           status = status_is other last again other_clean other_has ∙ sym status ∙ sym (status_is one new outcome clean has);
         }

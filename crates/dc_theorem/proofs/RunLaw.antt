@@ -9,11 +9,11 @@ use Rattle.dc_serve.specs.declared.outcome.LinkEnd.TheVariants as link
 use Rattle.dc_session.specs.Alike.{AreAlike}
 use Rattle.dc_session.specs.Asking.{finished}
 use Rattle.dc_session.specs.Machine.{Handles, Aborts}
-use Rattle.dc_session.specs.SessionState.{SessionState, nothing_typed}
+use Rattle.dc_session.specs.SessionState.{SessionState, TerminalState, nothing_typed}
 use Rattle.dc_run.specs.OneRound.{HasUsed}
 use Rattle.dc_run.specs.Running.{IsStarted}
 use Rattle.dc_run.specs.Starting.{begun}
-use Rattle.dc_run.specs.World.{World}
+use Rattle.dc_run.specs.World.{World, before_rounds}
 use Rattle.dc_run.specs.declared.outcome.Outcome.{Outcome}
 use Rattle.dc_run.specs.declared.settings.Settings.{Settings}
 use Rattle.dc_cli.specs.Tools.{Names}
@@ -22,7 +22,7 @@ use Rattle.dc_theorem.specs.Runs.{IsClean, AreTypedAlike, RunAlike}
 use Rattle.dc_theorem.proofs.EndLemmas.{was_used, unstarted_other, WasServed, was_served}
 use Rattle.dc_outside.specs.Disk.{Disk}
 use Rattle.dc_outside.specs.declared.files.FilesCall.{FilesCall}
-use Rattle.dc_theorem.proofs.Recount.{with_counts, run_with}
+use Rattle.dc_theorem.proofs.Recount.{with_outside, run_with}
 use Rattle.dc_theorem.proofs.StartLaws.{StartAlike}
 use Rattle.dc_theorem.proofs.SameRuns.{run_later, run_alike}
 use Rattle.dc_theorem.proofs.UsedLemmas.{wait_is, tool_done, left_sound, starts_low, starts_told, same_start, leave_alike}
@@ -32,22 +32,22 @@ module _ (words : List (List ℕ)) (owner : List ℕ) (frontend : Option Fronten
 
   module _ (old new : World) (outcome : Outcome) (input : List ℕ) (clean : IsClean words settings disk calls old new outcome) (has : HasUsed (Run owner frontend priority command) settings old new outcome) (input_is : old.links.child.input ≡ Some input) where
     abbrev start : SessionState
-    start = begun (Run owner frontend priority command) has.mid has.roots settings old.links.io
+    start = begun (Run owner frontend priority command) (before_rounds (record old { stock = has.mid })) has.roots settings
 
     -- its program was started
-    started : IsStarted command start old.links has.links has.answer has.layers has.files
+    started : IsStarted command start old.links has.links 0 has.answer has.left
     started = elim has.uses.0 [
       | inl none ↦ absurd (unstarted_other none.error (sym none.ended_is ∙ tool_done words (Run owner frontend priority command) settings disk calls old new outcome clean has))
       | inr is ↦ is
     ]
 
-    served : WasServed start has.layers has.files has.links.io (record old.links.child { program = started.mid.program }) has.links.child has.answer.last_code
-    served = subst (λ (l : LinkState). WasServed start has.layers has.files has.links.io l has.links.child has.answer.last_code) started.starts.state
-        (was_served start has.layers has.files has.links.io started.mid has.links.child started.ended has.answer.last_code
+    served : WasServed start has.left (record old.links.child { program = started.mid.program }) has.links.child 0 has.answer.last_code
+    served = subst (λ (l : LinkState). WasServed start has.left l has.links.child 0 has.answer.last_code) started.starts.state
+        (was_served start has.left started.mid has.links.child started.ended 0 has.answer.last_code
         (sym started.ended_is ∙ tool_done words (Run owner frontend priority command) settings disk calls old new outcome clean has) started.served)
 
-    ran : IsLinkRun Handles Aborts old.links.child.talk has.links.child.talk (Some input) has.links.child.input start link.Done served.state has.answer.last_code
-    ran = subst (λ (k : Option (List ℕ)). IsLinkRun Handles Aborts old.links.child.talk has.links.child.talk k has.links.child.input start link.Done served.state has.answer.last_code) input_is served.ran
+    ran : IsLinkRun Handles Aborts old.links.child.talk has.links.child.talk (Some input) has.links.child.input start link.Done served.state 0 has.answer.last_code
+    ran = subst (λ (k : Option (List ℕ)). IsLinkRun Handles Aborts old.links.child.talk has.links.child.talk k has.links.child.input start link.Done served.state 0 has.answer.last_code) input_is served.ran
 
     high : served.state.files.counts.faults ≤ old.stock.files.counts.faults
     high = subst (λ (f : FilesState). f.counts.faults ≤ old.stock.files.counts.faults) served.files_are (left_sound words (Run owner frontend priority command) settings disk calls old new outcome clean has)
@@ -55,7 +55,7 @@ module _ (words : List (List ℕ)) (owner : List ℕ) (frontend : Option Fronten
     mid_high : has.mid.files.counts.faults ≤ old.stock.files.counts.faults
     mid_high =
         let later : has.mid.files.counts.faults ≤ served.state.files.counts.faults
-        = run_later input old.links.child.talk has.links.child.talk has.links.child.input start served.state has.answer.last_code ran in
+        = run_later input old.links.child.talk has.links.child.talk has.links.child.input start served.state 0 has.answer.last_code ran in
         let low : served.state.files.counts.faults ≤ old.stock.files.counts.faults = high in
         omega arith
 
@@ -77,7 +77,7 @@ module _ (words : List (List ℕ)) (owner : List ℕ) (frontend : Option Fronten
     never bytes is = absurd (cc)
 
     -- the sessions began alike
-    starts_alike : AreAlike (begun (Run owner frontend priority command) has.mid has.roots settings one.links.io) (begun (Run owner frontend priority command) has.mid has.roots settings other.links.io)
+    starts_alike : AreAlike (begun (Run owner frontend priority command) (before_rounds (record one { stock = has.mid })) has.roots settings) (begun (Run owner frontend priority command) (before_rounds (record other { stock = has.mid })) has.roots settings)
     starts_alike = record {
       rest = refl;
       terminals = record {
@@ -95,22 +95,23 @@ module _ (words : List (List ℕ)) (owner : List ℕ) (frontend : Option Fronten
         let first = served one new outcome input clean has input_is in
         let second = served other last again input other_clean other_has other_input_is in
         let one_ran = ran one new outcome input clean has input_is in
-        let begins = begun (Run owner frontend priority command) has.mid has.roots settings other.links.io in
-        let other_begins = begun (Run owner frontend priority command) other_has.mid other_has.roots settings other.links.io in
+        let begins = begun (Run owner frontend priority command) (before_rounds (record other { stock = has.mid })) has.roots settings in
+        let other_begins = begun (Run owner frontend priority command) (before_rounds (record other { stock = other_has.mid })) other_has.roots settings in
         let counts = has.mid.files.counts in
-        let recounted = run_with counts other.stock.files.counts.faults other_clean.none_failed.room other.links.child.talk other_has.links.child.talk (Some input) other_has.links.child.input other_begins second.state other_has.answer.last_code
+        let err = other.err in
+        let recounted = run_with counts err other.stock.files.counts.faults other_clean.none_failed.room other.links.child.talk other_has.links.child.talk (Some input) other_has.links.child.input other_begins second.state 0 other_has.answer.last_code
         (starts_low words (Run owner frontend priority command) settings disk calls other last again other_clean other_has) (high other last again input other_clean other_has other_input_is) (ran other last again input other_clean other_has other_input_is) in
-        let begin : with_counts counts other_begins ≡ begins
-        = λ i. begun (Run owner frontend priority command) (record { files = record { view = sym starts.told i; counts = counts }; used = sym starts.used i }) (sym starts.roots_are i) settings other.links.io in
-        let other_ran : IsLinkRun Handles Aborts other.links.child.talk other_has.links.child.talk (Some input) other_has.links.child.input begins link.Done (with_counts counts second.state) other_has.answer.last_code
-        = subst (λ (s : SessionState). IsLinkRun Handles Aborts other.links.child.talk other_has.links.child.talk (Some input) other_has.links.child.input s link.Done (with_counts counts second.state) other_has.answer.last_code) begin recounted in
+        let begin : with_outside counts err other_begins ≡ begins
+        = λ i. begun (Run owner frontend priority command) (before_rounds (record other { stock = record { files = record { view = sym starts.told i; counts = counts }; used = sym starts.used i } })) (sym starts.roots_are i) settings in
+        let other_ran : IsLinkRun Handles Aborts other.links.child.talk other_has.links.child.talk (Some input) other_has.links.child.input begins link.Done (with_outside counts err second.state) 0 other_has.answer.last_code
+        = subst (λ (s : SessionState). IsLinkRun Handles Aborts other.links.child.talk other_has.links.child.talk (Some input) other_has.links.child.input s link.Done (with_outside counts err second.state) 0 other_has.answer.last_code) begin recounted in
         let disk_told = starts_told words (Run owner frontend priority command) settings disk calls one new outcome clean has in
         let same = run_alike one.stock.files.counts.faults clean.none_failed.room disk disk_told.0 input one.links.child.talk has.links.child.talk other.links.child.talk other_has.links.child.talk has.links.child.input other_has.links.child.input
-        (begun (Run owner frontend priority command) has.mid has.roots settings one.links.io) begins first.state (with_counts counts second.state) has.answer.last_code other_has.answer.last_code
+        (begun (Run owner frontend priority command) (before_rounds (record one { stock = has.mid })) has.roots settings) begins first.state (with_outside counts err second.state) 0 has.answer.last_code other_has.answer.last_code
         disk_told.1 starts_alike (starts_low words (Run owner frontend priority command) settings disk calls one new outcome clean has)
         (high one new outcome input clean has input_is) (mid_high one new outcome input clean has input_is) one_ran other_ran in
-        let layers : has.layers ≡ other_has.layers = first.layers_are ∙ ap (λ (s : SessionState). (finished s).layers) (sym same.states.rest) ∙ sym second.layers_are in
-        let left : has.files.view ≡ other_has.files.view
+        let layers : has.left.layers ≡ other_has.left.layers = first.layers_are ∙ ap (λ (s : SessionState). (finished s).layers) (sym same.states.rest) ∙ sym second.layers_are in
+        let left : has.left.files.view ≡ other_has.left.files.view
         = ap (λ (f : FilesState). f.view) first.files_are ∙ ap (λ (s : SessionState). s.files.view) (sym same.states.rest) ∙ sym (ap (λ (f : FilesState). f.view) second.files_are) in
         record {
           leave = leave_alike words (Run owner frontend priority command) settings disk calls one new other last outcome again clean other_clean has other_has layers left (has.uses.1 ∙ sym other_has.uses.1) same.code_is;
@@ -124,8 +125,8 @@ module _ (words : List (List ℕ)) (owner : List ℕ) (frontend : Option Fronten
           shown = record {
             talk = same.states.terminals.first.talk;
             other_talk = same.states.terminals.second.talk;
-            one_is = ap (λ (l : LinkState). l.talk) (has.io_is ∙ first.terminal_is) ∙ same.states.terminals.one_is.talk;
-            other_is = ap (λ (l : LinkState). l.talk) (other_has.io_is ∙ second.terminal_is) ∙ same.states.terminals.other_is.talk;
+            one_is = ap (λ (l : LinkState). l.talk) (has.io_is ∙ (started one new outcome input clean has input_is).io ∙ ap (λ (t : TerminalState). t.link) first.terminal_is) ∙ same.states.terminals.one_is.talk;
+            other_is = ap (λ (l : LinkState). l.talk) (other_has.io_is ∙ (started other last again input other_clean other_has other_input_is).io ∙ ap (λ (t : TerminalState). t.link) second.terminal_is) ∙ same.states.terminals.other_is.talk;
             said = same.states.terminals.said;
           };
         }

@@ -1,9 +1,9 @@
--- What a command comes to, and what it shows, doesn't depend on the files but for what was found there.
+-- What a command comes to, and what it shows, doesn't depend on the files but for what was found there, nor on standard error.
 use Rattle.std.proofs.Common.{◌≡◌, ℕ, List, [], ◌∷◌, refl, ap, ◌∙◌}
 use Rattle.std.specs.Prelude.{Bool, Option, None, Some, Result, Ok, Err, unwrap_or, if◌then◌else◌, codes}
 use Rattle.std.specs.Option.{option_map_or}
 use Rattle.std.specs.Str.{bytes_eq}
-use Rattle.dc_outside.specs.State.{FilesState}
+use Rattle.dc_outside.specs.State.{FilesState, LinkState}
 use Rattle.dc_text.specs.Names.{is_name}
 use Rattle.dc_frontend.specs.declared.frontend.Frontend.{Frontend}
 use Rattle.dc_frontend.specs.declared.frontend.Frontend.TheVariants.{Noninteractive, Teletype}
@@ -30,9 +30,9 @@ use Rattle.dc_session.specs.declared.asking.Bar.{Bar}
 use Rattle.dc_session.specs.declared.template_files.Found.{Found}
 use Rattle.dc_session.specs.declared.template_files.Found.TheVariants.{Unreadable, Missing, Faulty, Templates}
 
-module _ (state : SessionState) (files : FilesState) where
+module _ (state : SessionState) (files : FilesState) (err : LinkState) where
   abbrev moved : SessionState
-  moved = record state { files = files }
+  moved = record state { files = files; err = err }
 
   -- ---- calls
 

@@ -47,7 +47,7 @@ front_taken : (front : List ℕ) (left : Option (List ℕ)) (input : List ℕ) �
 front_taken front None input took = absurd (cc)
 front_taken front (Some back) input took = (back, cc)
 
-module _ (input : List ℕ) (talk new_talk : Option (List Piece)) (left : Option (List ℕ)) (start new : SessionState) (code : ℕ) (run : IsLinkRun Handles Aborts talk new_talk (Some input) left start Done new code) where
+module _ (input : List ℕ) (talk new_talk : Option (List Piece)) (left : Option (List ℕ)) (start new : SessionState) (before code : ℕ) (run : IsLinkRun Handles Aborts talk new_talk (Some input) left start Done new before code) where
   -- its lines are the first ones of all, and it was through with them
   abbrev IsThrough : Type 0
   IsThrough = (rest : List Line) × (lines_of run.transitions ++ rest ≡ all_lines input) × AreThrough run.transitions rest
@@ -89,7 +89,7 @@ module _ (n : ℕ) (room : n < 2 ^ 64 - 1) (disk : Disk) where
       let expected : line_files one.line start.asking.escape start.files ≡ line_files two.line other.asking.escape other.files
       = ap (λ (l : Line). line_files l start.asking.escape start.files) line ∙ sym (ap (λ (s : SessionState). line_files two.line s.asking.escape s.files) alike.rest) in
       let files = one_files ∙ expected ∙ sym two_files in
-      let here = heeds_alike disk start other.terminal alike.terminals told one.did two.did one.new two.new files two.line (subst (λ (l : Line). Handles start l one.did one.new) line first.0)
+      let here = heeds_alike disk start other.terminal other.err alike.terminals told one.did two.did one.new two.new files two.line (subst (λ (l : Line). Handles start l one.did one.new) line first.0)
       (subst (λ (s : SessionState). Handles s two.line two.did two.new) alike.rest second.0) in
       (files, files_alike one.new two.new a b later rest here.1 (heeds_told disk start told one.did one.new one.line first.0) (omega arith) high other_high first.2 second.2 more)
 
@@ -127,12 +127,12 @@ module _ (n : ℕ) (room : n < 2 ^ 64 - 1) (disk : Disk) where
 
 module _ (n : ℕ) (room : n < 2 ^ 64 - 1) (disk : Disk) (calls : List FilesCall) (input : List ℕ) (talk new_talk other_talk last_talk : Option (List Piece)) (left other_left : Option (List ℕ)) where
   -- what ran is the same in both, where nobody is asked
-  pub run_same : (start new last : SessionState) (code number : ℕ) → start.files.view ≡ record { disk = Some disk; calls = Some calls } → AsksNobody start → n ≤ start.files.counts.faults → new.files.counts.faults ≤ n → last.files.counts.faults ≤ n
-      → (one : IsLinkRun Handles Aborts talk new_talk (Some input) left start Done new code) → (two : IsLinkRun Handles Aborts other_talk last_talk (Some input) other_left start Done last number)
+  pub run_same : (start new last : SessionState) (before code number : ℕ) → start.files.view ≡ record { disk = Some disk; calls = Some calls } → AsksNobody start → n ≤ start.files.counts.faults → new.files.counts.faults ≤ n → last.files.counts.faults ≤ n
+      → (one : IsLinkRun Handles Aborts talk new_talk (Some input) left start Done new before code) → (two : IsLinkRun Handles Aborts other_talk last_talk (Some input) other_left start Done last before number)
       → (said one.pieces ≡ said two.pieces) × (code ≡ number) × (new ≡ last)
-  run_same start new last code number told nobody low high other_high one two =
-      let first = is_through input talk new_talk left start new code one in
-      let second = is_through input other_talk last_talk other_left start last number two in
+  run_same start new last before code number told nobody low high other_high one two =
+      let first = is_through input talk new_talk left start new before code one in
+      let second = is_through input other_talk last_talk other_left start last before number two in
       let one_said = one.answered.are_said in
       let two_said = two.answered.are_said in
       let transitions : one.transitions ≡ two.transitions
@@ -140,28 +140,28 @@ module _ (n : ℕ) (room : n < 2 ^ 64 - 1) (disk : Disk) (calls : List FilesCall
       (subst (λ (s : SessionState). s.files.counts.faults ≤ n) one_said.state_is high) (subst (λ (s : SessionState). s.files.counts.faults ≤ n) two_said.state_is other_high)
       one.course two.course (first.1 ∙ sym second.1) first.2 second.2 in (
         one_said.pieces_are ∙ ap (λ (ts : List (Transition SessionState)). replies ts) transitions ∙ sym two_said.pieces_are,
-        one_said.code_is ∙ ap (λ (ts : List (Transition SessionState)). last_code_from 0 ts) transitions ∙ sym two_said.code_is,
+        one_said.code_is ∙ ap (λ (ts : List (Transition SessionState)). last_code_from before ts) transitions ∙ sym two_said.code_is,
         one_said.state_is ∙ ap (λ (ts : List (Transition SessionState)). state_after start ts) transitions ∙ sym two_said.state_is,
       )
 
   -- what ran is alike in both
-  pub run_alike : (start other new last : SessionState) (code number : ℕ) → start.files.view ≡ record { disk = Some disk; calls = Some calls } → AreAlike start other → n ≤ start.files.counts.faults → new.files.counts.faults ≤ n → last.files.counts.faults ≤ n
-      → (one : IsLinkRun Handles Aborts talk new_talk (Some input) left start Done new code) → (two : IsLinkRun Handles Aborts other_talk last_talk (Some input) other_left other Done last number)
+  pub run_alike : (start other new last : SessionState) (before code number : ℕ) → start.files.view ≡ record { disk = Some disk; calls = Some calls } → AreAlike start other → n ≤ start.files.counts.faults → new.files.counts.faults ≤ n → last.files.counts.faults ≤ n
+      → (one : IsLinkRun Handles Aborts talk new_talk (Some input) left start Done new before code) → (two : IsLinkRun Handles Aborts other_talk last_talk (Some input) other_left other Done last before number)
       → EndAlike one.pieces two.pieces code number new last
-  run_alike start other new last code number told alike low high other_high one two =
-      let first = is_through input talk new_talk left start new code one in
-      let second = is_through input other_talk last_talk other_left other last number two in
-      runs_alike disk calls start other new last input talk new_talk other_talk last_talk left other_left code number told alike one two
+  run_alike start other new last before code number told alike low high other_high one two =
+      let first = is_through input talk new_talk left start new before code one in
+      let second = is_through input other_talk last_talk other_left other last before number two in
+      runs_alike disk calls start other new last input talk new_talk other_talk last_talk left other_left before code number told alike one two
       (files_alike n room disk start other one.transitions two.transitions first.0 second.0 alike (calls, told) low
       (subst (λ (s : SessionState). s.files.counts.faults ≤ n) one.answered.are_said.state_is high) (subst (λ (s : SessionState). s.files.counts.faults ≤ n) two.answered.are_said.state_is other_high)
       one.course two.course (first.1 ∙ sym second.1))
 
-pub sessions_alike : (start other new last : SessionState) (disk : Disk) (calls : List FilesCall) (input : List ℕ) (talk new_talk other_talk last_talk : Option (List Piece)) (left other_left : Option (List ℕ)) (code number : ℕ)
+pub sessions_alike : (start other new last : SessionState) (disk : Disk) (calls : List FilesCall) (input : List ℕ) (talk new_talk other_talk last_talk : Option (List Piece)) (left other_left : Option (List ℕ)) (before code number : ℕ)
     → start.files.view ≡ record { disk = Some disk; calls = Some calls } → AreAlike start other → NoneFailed start.files.counts new.files.counts → NoneFailed other.files.counts last.files.counts
-    → (one : IsLinkRun Handles Aborts talk new_talk (Some input) left start Done new code) → (two : IsLinkRun Handles Aborts other_talk last_talk (Some input) other_left other Done last number)
+    → (one : IsLinkRun Handles Aborts talk new_talk (Some input) left start Done new before code) → (two : IsLinkRun Handles Aborts other_talk last_talk (Some input) other_left other Done last before number)
     → EndAlike one.pieces two.pieces code number new last
-sessions_alike start other new last disk calls input talk new_talk other_talk last_talk left other_left code number told alike sound other_sound one two =
+sessions_alike start other new last disk calls input talk new_talk other_talk last_talk left other_left before code number told alike sound other_sound one two =
     let begun : other.files.counts.faults ≡ start.files.counts.faults = ap (λ (s : SessionState). s.files.counts.faults) alike.rest in
     let same : new.files.counts.faults ≡ start.files.counts.faults = sound.same in
     let other_same : last.files.counts.faults ≡ other.files.counts.faults = other_sound.same in
-    run_alike start.files.counts.faults sound.room disk calls input talk new_talk other_talk last_talk left other_left start other new last code number told alike (omega arith) (omega arith) (omega arith) one two
+    run_alike start.files.counts.faults sound.room disk calls input talk new_talk other_talk last_talk left other_left start other new last before code number told alike (omega arith) (omega arith) (omega arith) one two

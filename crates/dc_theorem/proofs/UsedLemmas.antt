@@ -27,19 +27,19 @@ module _ (words : List (List ℕ)) (used : Tool) (settings : Settings) (disk : D
     pub wait_is : (has.how ≡ end.Done) × (new.links.child.talk ≡ has.links.child.talk)
     wait_is = waited has.answer.is_started has.links.child new.links.child has.how outcome.end has.answer.status has.status clean.done has.awaits
 
-    save_is : (has.answer.ended ≡ tool.Done) × HasSaved has.layers new.stock.used has.files new.stock.files
-    save_is = saved_so has.layers new.stock.used has.files new.stock.files has.how wait_is.0 has.answer.ended has.finishes
+    save_is : (has.answer.ended ≡ tool.Done) × HasSaved has.left.layers new.stock.used has.left.files new.stock.files
+    save_is = saved_so has.left.layers new.stock.used has.left.files new.stock.files has.how wait_is.0 has.answer.ended has.finishes
 
     pub tool_done : has.answer.ended ≡ tool.Done
     tool_done = save_is.0
 
-    saves : HasSaved has.layers new.stock.used has.files new.stock.files
+    saves : HasSaved has.left.layers new.stock.used has.left.files new.stock.files
     saves = save_is.1
 
     -- the tool counted no failure of the files
-    pub left_sound : has.files.counts.faults ≤ old.stock.files.counts.faults
+    pub left_sound : has.left.files.counts.faults ≤ old.stock.files.counts.faults
     left_sound =
-        let at_save : new.stock.files.counts.faults ≡ has.files.counts.faults = ap (λ (c : Counts). c.faults) saves.counts in
+        let at_save : new.stock.files.counts.faults ≡ has.left.files.counts.faults = ap (λ (c : Counts). c.faults) saves.counts in
         let at_end : new.stock.files.counts.faults ≡ old.stock.files.counts.faults = clean.none_failed.same in
         omega arith
 
@@ -60,7 +60,7 @@ module _ (words : List (List ℕ)) (used : Tool) (settings : Settings) (disk : D
         clean.none_failed.room other_clean.none_failed.room high other_high has.started other_has.started
 
     -- where the tools left the same, the runs do
-    pub leave_alike : has.layers ≡ other_has.layers → has.files.view ≡ other_has.files.view → has.told ≡ other_has.told → has.answer.last_code ≡ other_has.answer.last_code → LeaveAlike one new outcome other last again
+    pub leave_alike : has.left.layers ≡ other_has.left.layers → has.left.files.view ≡ other_has.left.files.view → has.told ≡ other_has.told → has.answer.last_code ≡ other_has.answer.last_code → LeaveAlike one new outcome other last again
     leave_alike layers left told code =
         let first = saves one new outcome clean has in
         let second = saves other last again other_clean other_has in

@@ -18,14 +18,14 @@ ghost use Rattle.dc_cli.specs.declared.tool.Tool.TheVariants.{Communicate, LoadT
 ghost use Rattle.dc_theorem.specs.Runs.{NoneFailed, IsClean, AreTypedAlike, CommunicateAlike, RunAlike, LoadAlike};
 
 /// The bytes of the link, the disk and what is typed determine a session in which no read of files failed: two from states that are alike
-/// that both come to the end send the same replies and leave what is alike, however the links cut their bytes and the terminals what is typed.
+/// and follow the same code, and both come to the end, send the same replies and leave what is alike, however the links cut their bytes and the terminals what is typed.
 pub fn what_comes_in_determines_the_session()
     ensures { (start other new last : SessionState) (disk : Disk) (calls : List FilesCall) (input : List ℕ)
-        (talk new_talk other_talk last_talk : Option (List Piece)) (left other_left : Option (List ℕ)) (code number : ℕ)
+        (talk new_talk other_talk last_talk : Option (List Piece)) (left other_left : Option (List ℕ)) (before code number : ℕ)
         → start.files.view ≡ record { disk = Some disk; calls = Some calls } → AreAlike start other → NoneFailed start.files.counts new.files.counts
         → NoneFailed other.files.counts last.files.counts
-        → (one : IsLinkRun Handles Aborts talk new_talk (Some input) left start Done new code)
-        → (two : IsLinkRun Handles Aborts other_talk last_talk (Some input) other_left other Done last number)
+        → (one : IsLinkRun Handles Aborts talk new_talk (Some input) left start Done new before code)
+        → (two : IsLinkRun Handles Aborts other_talk last_talk (Some input) other_left other Done last before number)
         → EndAlike one.pieces two.pieces code number new last }
 {}
 

@@ -1,4 +1,4 @@
-use Rattle.std.proofs.Common.{sym, subst}
+use Rattle.std.proofs.Common.{refl, sym, subst}
 use Rattle.dc_outside.specs.Programs.{Program, IsRunning}
 use Rattle.dc_run.specs.World.{links_of}
 use Rattle.dc_run.proofs.RunLemmas.{started_so}
@@ -7,7 +7,7 @@ use Rattle.dc_run.proofs.serving.run_program.Goals as goal
 pub returns-in-Ok-clause-ran : goal.returns-in-Ok-clause-ran
 returns-in-Ok-clause-ran g c =
     started_so c.args.command.now _ (links_of (g.L.Link.link c.args.io.now) (g.C.Link.link c.args.child.now)) (links_of (g.L.Link.link c.serve_program.new.io) (g.C.Link.link c.serve_program.new.child))
-    _ _ _ (g.C.Link.link c.start.new.self) c.in-Ok.ensures (c.serve_program.ensures.served c.args.command.now)
+    c.args.last_code _ _ (g.C.Link.link c.start.new.self) c.in-Ok.ensures (c.serve_program.ensures.served c.args.command.now) refl
 
 pub returns-in-Ok-clause-running : goal.returns-in-Ok-clause-running
 returns-in-Ok-clause-running g c started =

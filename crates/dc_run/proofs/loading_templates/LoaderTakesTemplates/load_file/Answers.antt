@@ -4,7 +4,7 @@ use Rattle.dc_session.proofs.LoadLemmas.{taken_loads}
 use Rattle.dc_run.proofs.loading_templates.LoaderTakesTemplates.load_file.Goals as goal
 
 pub returns-in-Ok-clause-loads : goal.returns-in-Ok-clause-loads
-returns-in-Ok-clause-loads g c terminal policy asking = taken_loads _ _ _ _ _ _ c.in-Ok.ensures.ok (c.take_templates.ensures.takes _ terminal policy asking)
+returns-in-Ok-clause-loads g c terminal untold policy asking = taken_loads _ _ _ _ _ _ c.in-Ok.ensures.ok (c.take_templates.ensures.takes _ terminal untold policy asking)
 
 pub returns-in-Err-clause-loads : goal.returns-in-Err-clause-loads
-returns-in-Err-clause-loads g c terminal policy asking = none_loads _ _ _ None c.in-Err.field-0 c.in-Err.ensures.err
+returns-in-Err-clause-loads g c terminal untold policy asking = none_loads _ _ _ None c.in-Err.field-0 c.in-Err.ensures.err

@@ -1,0 +1,88 @@
+-- What is said at once of a run of a tool, which is one round.
+use Rattle.std.proofs.Common.{◌≡◌, ◌≢◌, ℕ, Bool, true, false, List, [], ◌∷◌, ◌++◌, refl, sym, ap, subst, ◌∙◌, max, arith, map as each}
+use Rattle.std.specs.Prelude.{Result, Ok, Err, MatchResult}
+use Rattle.std.proofs.lemmas.List.{append-nil}
+use Rattle.dc_layer.specs.State.{LayerState, saved}
+use Rattle.dc_save.specs.Saving.{Saves, SaveCounts}
+use Rattle.dc_save.specs.declared.saving.SaveError.{SaveError}
+use Rattle.dc_outside.specs.State.{FilesState, LinkState}
+use Rattle.dc_run.specs.declared.outcome.End.{End}
+use Rattle.dc_run.specs.declared.outcome.End.TheVariants.{Done}
+use Rattle.dc_run.specs.declared.outcome.Outcome.{Outcome}
+use Rattle.dc_run.specs.declared.outcome.ToolAnswer.{ToolAnswer}
+use Rattle.dc_run.specs.declared.outcome.ToolEnd.{ToolEnd}
+use Rattle.dc_run.specs.declared.outcome.ToolEnd.TheVariants as tool
+use Rattle.dc_run.specs.declared.settings.Settings.{Settings}
+use Rattle.dc_run.specs.declared.starting.Roots.{Roots}
+use Rattle.dc_cli.specs.declared.tool.Tool.{Tool}
+use Rattle.dc_run.specs.EndLines.{end_line, HasSaid}
+use Rattle.dc_run.specs.Ends.{status_of, end_by, comes_to_save}
+use Rattle.dc_run.specs.Finishing.{Finishes}
+use Rattle.dc_run.specs.Headline.{HasWorked}
+use Rattle.dc_run.specs.OneRound.{HasUsed}
+use Rattle.dc_run.specs.Rounds.{Job, Whole, Round, HasDone, Works, IsRound, AreRounds, HaveRounds, HasDoneJobs, FindsJobs, DoesFound, IsOneRound, is_saved_at, report, status_by, jobs_done, state_after, end_after, status_in, saves_of}
+use Rattle.dc_run.specs.Running.{Awaits}
+use Rattle.dc_run.specs.Saves.{Save, HasSaved, HasNotSaved, Commits, kept_by}
+use Rattle.dc_run.specs.Starting.{HasStarted, begun}
+use Rattle.dc_run.specs.World.{Stock, World, RunState, before_rounds}
+use Rattle.dc_run.proofs.FinishLemmas.{finished}
+use Rattle.dc_run.proofs.Saying.{said_then}
+use Rattle.dc_run.proofs.RoundLemmas.{finishes, one_round, jobs_had}
+use Rattle.dc_run.proofs.SilentLemmas.{tool_silent}
+
+module _ (used : Tool) (settings : Settings) (roots : Roots) (old : World) (mid : Stock) (job : Job) (given : ToolAnswer) (left : RunState) (inner last : List Save) (finish : End) (status : ℕ) (how : End) (after : RunState) (job_is : job ≡ Whole used) where
+  abbrev start : RunState
+  start = before_rounds (record old { stock = mid })
+
+  abbrev this : Round
+  this = record { job = job; answer = given; left = left; inner = inner; last = last; finish = finish; status = status; how = how; new = after }
+
+  module _ (is : IsRound roots settings start this) where
+    works : HasDone used roots settings start left given inner
+    works = subst (λ (j : Job). Works j roots settings start left given inner) job_is is.works
+
+    commits : Commits (comes_to_save given.ended) given.ended left.world.stock after.world.stock last finish
+    commits = subst (λ (j : Job). Commits (is_saved_at j given.ended) given.ended left.world.stock after.world.stock last finish) job_is is.commits
+
+    told : HasSaid [] left.world.err after.world.err
+    told = subst (λ (j : Job). HasSaid (report j how status) left.world.err after.world.err) job_is is.told
+
+    pub used_once : (outcome : Outcome) (new : World) → HasStarted settings.conf_path old.stock.files mid roots → outcome.end ≡ how → HasSaid (end_line outcome.end) after.world.err new.err → new ≡ record after.world { err = new.err }
+        → outcome.last_code ≡ after.code → outcome.status ≡ status_of outcome.end status → HasUsed used settings old new outcome
+    used_once outcome new started end_is said rest code_is status_is =
+        let behind = said_then [] (end_line outcome.end) left.world.err after.world.err new.err told said in
+        record {
+          mid = mid;
+          roots = roots;
+          started = started;
+          answer = given;
+          told = works.told;
+          left = works.left;
+          links = left.world.links;
+          uses = works.uses;
+          how = finish;
+          finishes = subst (λ (s : Stock). Finishes s.used new.stock.used given.ended s.files new.stock.files finish) works.stock_is
+              (subst (λ (s : Stock). Finishes left.world.stock.used s.used given.ended left.world.stock.files s.files finish) (sym (ap (λ (w : World). w.stock) rest)) (finishes left.world.stock after.world.stock last finish given.ended commits));
+          io_is = ap (λ (w : World). w.links.io) rest ∙ is.io_is;
+          status = status;
+          awaits = subst (λ (h : End). Awaits given.is_started left.world.links.child new.links.child finish h given.status status) (sym end_is)
+              (subst (λ (l : LinkState). Awaits given.is_started left.world.links.child l finish how given.status status) (sym (ap (λ (w : World). w.links.child) rest)) is.awaits);
+          said = subst (λ (l : LinkState). HasSaid (works.told ++ end_line outcome.end) l new.err)
+              (tool_silent used (begun used start roots settings) start.world.links left.world.links 0 given works.told works.left works.uses)
+              (said_then works.told (end_line outcome.end) works.left.err left.world.err new.err works.said behind);
+          code_is = code_is ∙ is.code_is ∙ works.code_is;
+          status_is = status_is;
+        }
+
+-- a run of a tool is one round
+pub as_used : (used : Tool) (settings : Settings) (old new : World) (outcome : Outcome) (saves : List Save) → HasWorked used settings old new outcome saves → HasUsed used settings old new outcome
+as_used used settings old new outcome saves worked =
+    let start : RunState = before_rounds worked.mid in
+    let one = one_round worked.roots settings (Whole used) start worked.left outcome.end worked.status saves (jobs_had used worked.roots settings start worked.left outcome.end worked.status saves worked.does) in
+    let r = one.round in
+    used_once used settings worked.roots old worked.mid.stock r.job r.answer r.left r.inner r.last r.finish r.status r.how r.new one.job_is
+    (subst (λ (w : World). IsRound worked.roots settings (before_rounds w) r) worked.mid_is one.is) outcome new worked.started one.how_is
+    (subst (λ (s : RunState). HasSaid (end_line outcome.end) s.world.err new.err) one.new_is worked.said)
+    (worked.rest_is ∙ ap (λ (s : RunState). record s.world { err = new.err }) one.new_is)
+    (worked.code_is ∙ ap (λ (s : RunState). s.code) one.new_is)
+    (worked.status_is ∙ ap (status_of outcome.end) one.status_is)
