@@ -3,3 +3,4 @@ mod PartLemmas
 pub mod PatternLemmas
 pub mod PrefixLemmas
 pub mod RuleLemmas
+pub mod TouchedLemmas

@@ -1,7 +1,9 @@
 // A layer, however it is kept.
 ghost use Rattle.std.specs.Prelude.{◌≡◌, ◌≢◌, [], None, Some, Err, IfOk, IfErr, OnOk, OnErr, true, false};
 ghost use Rattle.std.specs.FinMap as map;
+ghost use Rattle.std.specs.List.{IsDistinct};
 ghost use Rattle.std.specs.Option.{option_copied};
+ghost use Rattle.std.specs.Str.{bytes_eq};
 ghost use Rattle.dc_item.specs.Table.{table_of};
 ghost use Rattle.dc_item.specs.declared.op.Op.TheVariants.{Put};
 ghost use Rattle.dc_layer.specs.State.{LayerState, blank, set_up as set_up_with, taken_in, without_items, is_writable, admits, made_at, after_change, taken_of, refusal, owned, images as images_of, saved as saved_state};
@@ -126,9 +128,10 @@ pub trait Layer: Drop {
     fn owned(&self, owner: &Name) -> Mem<List<Name>>
         ensures { IfOk result (λ names. names ≡ owned (state self.now).table owner.now) };
 
-    /// The files that what was touched asks for.
+    /// The files that what was touched asks for. No name is touched twice.
     fn images(&self) -> Mem<List<Image>>
-        ensures { IfOk result (λ images. images ≡ images_of (state self.now)) };
+        ensures images { IfOk result (λ images. images ≡ images_of (state self.now)) }
+        ensures distinct { IsDistinct bytes_eq (state self.now).touched };
 
     /// Takes note that the layer's images were saved.
     fn mark_saved(&mut self, saved: List<Image>)

@@ -204,7 +204,11 @@ impl Layer for LayerCore {
         self.table.owned(owner)
     }
 
+    #[tactic(auto, using(crate::proofs::TouchedLemmas::none_asked))]
     fn images(&self) -> Mem<List<Image>> {
+        if !self.table.is_touched() {
+            return Ok(List::new(self.alloc));
+        }
         match &self.set_up {
             Some(set_up) => self.images_by(set_up.spec()),
             None => Ok(List::new(self.alloc)),
