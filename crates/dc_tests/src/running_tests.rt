@@ -2,6 +2,7 @@
 ghost use Rattle.std.specs.Prelude.{◌≡◌, ◌≤◌, [], length, map as each};
 ghost use Rattle.dc_conf.specs.declared.spec.LayerSort.TheVariants.{File as OneFile, Tree, Pack};
 ghost use Rattle.dc_layer.specs.State.{blank};
+ghost use Rattle.dc_run.specs.World.{files_in, packs_in, trees_in};
 ghost use Rattle.dc_shelf.specs.Shelves.{AreBlank};
 
 use dc_dirs::{DirTreeLayer, PackageDirLayer};
@@ -61,9 +62,9 @@ fn blank_boxes(
 
 // A shelf of blank layers.
 fn blank_shelf(rt: &impl Abort, alloc: Global) -> Shelf
-    ensures files { AreBlank OneFile (each (λ b. state (b.vtable, b.value)) result.files.items) }
-    ensures trees { AreBlank Tree (each (λ b. state (b.vtable, b.value)) result.trees.items) }
-    ensures packs { AreBlank Pack (each (λ b. state (b.vtable, b.value)) result.packs.items) }
+    ensures files { AreBlank OneFile (files_in state result) }
+    ensures trees { AreBlank Tree (trees_in state result) }
+    ensures packs { AreBlank Pack (packs_in state result) }
     ensures some_files { 16 ≤ length result.files.items }
     ensures some_trees { 16 ≤ length result.trees.items }
     ensures some_packs { 16 ≤ length result.packs.items }

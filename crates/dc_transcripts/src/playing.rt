@@ -2,7 +2,8 @@
 ghost use Rattle.std.specs.Prelude.{◌≡◌, ◌≤◌, [], length, IfOk, map as each};
 ghost use Rattle.dc_conf.specs.declared.spec.LayerSort.TheVariants.{File as OneFile, Tree, Pack};
 ghost use Rattle.dc_layer.specs.State.{blank};
-ghost use Rattle.dc_outside.specs.Programs.{Unstarted};
+ghost use Rattle.dc_outside.specs.Programs.{IsIdle};
+ghost use Rattle.dc_run.specs.World.{files_in, packs_in, trees_in};
 ghost use Rattle.dc_shelf.specs.Shelves.{AreBlank};
 
 use dc_dirs::{DirTreeLayer, PackageDirLayer};
@@ -62,7 +63,7 @@ pub fn play(
     child: &mut MemChild,
     files: &mut MemFiles,
 ) -> Mem<Played>
-    requires { child.old.program.life ≡ Unstarted }
+    requires { IsIdle child.old.program.life }
 {
     let mut shelf = Shelf::empty(alloc);
     fill!(shelf, alloc, task.changes);
@@ -94,14 +95,14 @@ fn play_over(
     files: &mut MemFiles,
     shelf: &mut Shelf,
 ) -> Mem<Played>
-    requires files { AreBlank OneFile (each (λ b. state (b.vtable, b.value)) shelf.old.files.items) }
-    requires trees { AreBlank Tree (each (λ b. state (b.vtable, b.value)) shelf.old.trees.items) }
-    requires packs { AreBlank Pack (each (λ b. state (b.vtable, b.value)) shelf.old.packs.items) }
+    requires files { AreBlank OneFile (files_in state shelf.old) }
+    requires trees { AreBlank Tree (trees_in state shelf.old) }
+    requires packs { AreBlank Pack (packs_in state shelf.old) }
     requires some_files { 16 ≤ length shelf.old.files.items }
     requires some_trees { 16 ≤ length shelf.old.trees.items }
     requires some_packs { 16 ≤ length shelf.old.packs.items }
     requires used { shelf.old.used.items ≡ [] }
-    requires unstarted { child.old.program.life ≡ Unstarted }
+    requires idle { IsIdle child.old.program.life }
 {
     let outcome = run_words(
         alloc,

@@ -1,7 +1,7 @@
 // The shelf of a run, filled with blank layers.
 ghost use Rattle.std.specs.Prelude.{◌≡◌, IfOk};
 ghost use Rattle.dc_conf.specs.declared.spec.LayerSort.TheVariants.{File as OneFile, Tree, Pack};
-ghost use Rattle.dc_outside.specs.Programs.{Unstarted};
+ghost use Rattle.dc_outside.specs.Programs.{IsIdle};
 ghost use Rattle.dc_layer.specs.State.{blank};
 
 use dc_dirs::{DirTreeLayer, PackageDirLayer};
@@ -42,7 +42,7 @@ pub fn run_over<L: Link, E: Link, C: Child, F: Files>(
     child: &mut C,
     files: &mut F,
 ) -> Mem<u8>
-    requires { (C.link child.old).program.life ≡ Unstarted }
+    requires { IsIdle (C.link child.old).program.life }
 {
     let mut shelf = Shelf::empty(alloc);
     fill!(shelf, alloc);
