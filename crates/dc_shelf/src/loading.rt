@@ -1,7 +1,6 @@
 // The layers of a run loaded, one after another.
 ghost use Rattle.std.specs.Prelude.{◌≡◌, ◌<◌, map as each, length, take, drop, slice_get, Some};
 ghost use Rattle.dc_layer.specs.State.{LayerState, blank, set_up};
-ghost use Rattle.dc_save.specs.Loading.{LoadsLayer, LoadsFiles, LoadCounts};
 ghost use Rattle.dc_shelf.specs.Shelves.{all_set_up, LoadsAll, IsLoadedAt};
 
 use dc_conf::spec::LayerSpec;
@@ -10,7 +9,7 @@ use dc_outside::Files;
 use dc_save::{LoadError, Loaded, load};
 use std::alloc::Global;
 
-/// Loads each layer, which was set up for its database and is empty, in order.
+/// Loads each layer, which was set up for its database, in order.
 pub fn load_all<F: Files>(
     alloc: Global,
     files: &mut F,
@@ -62,19 +61,5 @@ fn load_at<F: Files>(
         (F.files files.old).view (F.files files.new).view (F.files files.old).counts (F.files files.new).counts result }
 {
     let layer = &mut layers[place];
-    load_one(alloc, files, spec, layer)
-}
-
-fn load_one<F: Files>(
-    alloc: Global,
-    files: &mut F,
-    spec: &LayerSpec,
-    layer: &mut Box<dyn Layer>,
-) -> Result<Loaded, LoadError>
-    requires { state layer.old ≡ set_up (blank spec.now.sort) spec.now }
-    ensures loads { LoadsLayer (F.files files.old).view.disk spec.now (state layer.old) (state layer.new) result }
-    ensures files { LoadsFiles (F.files files.old).view (F.files files.new).view spec.now result }
-    ensures counts { LoadCounts spec.now (F.files files.old).view (F.files files.new).view result (F.files files.old).counts (F.files files.new).counts }
-{
     load(alloc, files, spec, layer)
 }
