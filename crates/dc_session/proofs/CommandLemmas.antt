@@ -150,6 +150,14 @@ module _ (old : SessionState) (store : StoreState) (at : QuestionContext) (at_is
       → Does (command.Register template name) old (record old { store = store; at = at }) result
   register_does template name = write_does (command.Register template name) (quiet (command.Register template name) old refl refl) (reply 0 []) (registered old.store old.at template name old.owner) refl
 
+  -- the same, where the name of the template is given as bytes
+  pub register_does_by : (template bytes name : List ℕ) → bytes ≡ template → AreSameButAll (bytes ∷ name ∷ []) old.store.layers store.layers → (call : Result (Unit {0}) QuestionError)
+      → DoesChange call (registered old.store old.at bytes name old.owner) old.store store → (result : Result Stepped OutOfMemory) → Tells [] (λ _. reply 0 []) call result
+      → Does (command.Register template name) old (record old { store = store; at = at }) result
+  register_does_by template bytes name same others call left result told =
+      register_does template name (subst (λ (b : List ℕ). AreSameButAll (b ∷ name ∷ []) old.store.layers store.layers) same others) call
+      (subst (λ (b : List ℕ). DoesChange call (registered old.store old.at b name old.owner) old.store store) same left) result told
+
   pub purge_comes : AreSameButAll (names_of (leave_batch old.store.layers old.at old.owner (owned old.store.layers old.at.config old.owner))) old.store.layers store.layers → (call : Result (Unit {0}) QuestionError)
       → DoesChange call (purged old.store old.at old.owner) old.store store → (result : Result Stepped OutOfMemory) → Tells [] (λ _. reply 0 []) call result
       → Comes (reply_write old (reply 0 []) (purged old.store old.at old.owner)) (names_on old command.Purge nothing) old (record old { store = store; at = at }) result
