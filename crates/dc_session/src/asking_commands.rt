@@ -12,6 +12,7 @@ ghost use Rattle.dc_session.specs.Asking.{description as description_of, is_to_b
 ghost use Rattle.dc_session.specs.Inside.{Comes, ComesAsking};
 ghost use Rattle.dc_session.specs.Machine.{Does, DoesShowing};
 ghost use Rattle.dc_session.specs.declared.stepped.Stepped.TheVariants.{Replied};
+ghost use Rattle.dc_session.specs.SessionState.{borrows_of};
 
 use crate::name_set::add_all;
 use crate::replies::{missing, named, refused, says};
@@ -39,7 +40,7 @@ impl<'s, 'f, 't, 'h, 'e, F: Files, T: Link, E: Link> Session<'s, 'f, 't, 'h, 'e,
 
     pub(crate) fn capb(&mut self, words: &List<Text>) -> Mem<Stepped>
         ensures does { Does (command.Capb words.now) (⟦<Self as LineMachine>⟧.state self.old) (⟦<Self as LineMachine>⟧.state self.new) result }
-        ensures borrows { ⟦<Self as LineMachine>⟧.borrows self.new ≡ ⟦<Self as LineMachine>⟧.borrows self.old }
+        ensures borrows { borrows_of self.new ≡ borrows_of self.old }
     {
         let told = says(self.alloc, 0, capabilities(self.policy.frontend))?;
         self.asking.escape = has_word(words.as_slice(), b"escape");
@@ -49,7 +50,7 @@ impl<'s, 'f, 't, 'h, 'e, F: Files, T: Link, E: Link> Session<'s, 'f, 't, 'h, 'e,
 
     pub(crate) fn set_title(&mut self, word: &Text) -> Mem<Stepped>
         ensures does { Does (command.SetTitle word.now) (⟦<Self as LineMachine>⟧.state self.old) (⟦<Self as LineMachine>⟧.state self.new) result }
-        ensures borrows { ⟦<Self as LineMachine>⟧.borrows self.new ≡ ⟦<Self as LineMachine>⟧.borrows self.old }
+        ensures borrows { borrows_of self.new ≡ borrows_of self.old }
     {
         let Some(name) = named(self.alloc, word)? else {
             return missing(self.alloc, word.bytes());
@@ -62,7 +63,7 @@ impl<'s, 'f, 't, 'h, 'e, F: Files, T: Link, E: Link> Session<'s, 'f, 't, 'h, 'e,
 
     pub(crate) fn title(&mut self, text: &Text) -> Mem<Stepped>
         ensures does { Does (command.Title text.now) (⟦<Self as LineMachine>⟧.state self.old) (⟦<Self as LineMachine>⟧.state self.new) result }
-        ensures borrows { ⟦<Self as LineMachine>⟧.borrows self.new ≡ ⟦<Self as LineMachine>⟧.borrows self.old }
+        ensures borrows { borrows_of self.new ≡ borrows_of self.old }
     {
         let text = text.copy()?;
         self.retitle(text)
@@ -74,7 +75,7 @@ impl<'s, 'f, 't, 'h, 'e, F: Files, T: Link, E: Link> Session<'s, 'f, 't, 'h, 'e,
         ensures comes { Comes (reply_asking (⟦<Self as LineMachine>⟧.state self.old) (reply 0 [])
             (titled (⟦<Self as LineMachine>⟧.state self.old).asking text)) [] (⟦<Self as LineMachine>⟧.state self.old)
             (⟦<Self as LineMachine>⟧.state self.new) result }
-        ensures borrows { ⟦<Self as LineMachine>⟧.borrows self.new ≡ ⟦<Self as LineMachine>⟧.borrows self.old }
+        ensures borrows { borrows_of self.new ≡ borrows_of self.old }
     {
         let told = says(self.alloc, 0, b"")?;
         self.asking.title = text;
@@ -91,7 +92,7 @@ impl<'s, 'f, 't, 'h, 'e, F: Files, T: Link, E: Link> Session<'s, 'f, 't, 'h, 'e,
 
     pub(crate) fn input(&mut self, priority: Priority, word: &Text) -> Mem<Stepped>
         ensures does { Does (command.Input priority word.now) (⟦<Self as LineMachine>⟧.state self.old) (⟦<Self as LineMachine>⟧.state self.new) result }
-        ensures borrows { ⟦<Self as LineMachine>⟧.borrows self.new ≡ ⟦<Self as LineMachine>⟧.borrows self.old }
+        ensures borrows { borrows_of self.new ≡ borrows_of self.old }
     {
         let Some(name) = named(self.alloc, word)? else {
             return missing(self.alloc, word.bytes());
@@ -121,7 +122,7 @@ impl<'s, 'f, 't, 'h, 'e, F: Files, T: Link, E: Link> Session<'s, 'f, 't, 'h, 'e,
             (input_reply (⟦<Self as LineMachine>⟧.state self.old).policy.frontend shown)
             (prepared_if shown (⟦<Self as LineMachine>⟧.state self.old).asking name.now)) [] (⟦<Self as LineMachine>⟧.state self.old)
             (⟦<Self as LineMachine>⟧.state self.new) result }
-        ensures borrows { ⟦<Self as LineMachine>⟧.borrows self.new ≡ ⟦<Self as LineMachine>⟧.borrows self.old }
+        ensures borrows { borrows_of self.new ≡ borrows_of self.old }
     {
         let told = prepared_told(self.alloc, self.policy.frontend, shown)?;
         if shown {
@@ -132,7 +133,7 @@ impl<'s, 'f, 't, 'h, 'e, F: Files, T: Link, E: Link> Session<'s, 'f, 't, 'h, 'e,
 
     pub(crate) fn go(&mut self) -> Result<Stepped, StepError>
         ensures does { DoesShowing command.Go (⟦<Self as LineMachine>⟧.state self.old) (⟦<Self as LineMachine>⟧.state self.new) result }
-        ensures borrows { ⟦<Self as LineMachine>⟧.borrows self.new ≡ ⟦<Self as LineMachine>⟧.borrows self.old }
+        ensures borrows { borrows_of self.new ≡ borrows_of self.old }
     {
         match self.policy.frontend {
             Frontend::Noninteractive => lifted(self.skip_prepared()),
@@ -148,7 +149,7 @@ impl<'s, 'f, 't, 'h, 'e, F: Files, T: Link, E: Link> Session<'s, 'f, 't, 'h, 'e,
             (values_set (⟦<Self as LineMachine>⟧.state self.old).store (⟦<Self as LineMachine>⟧.state self.old).at
             (choices_for_of (⟦<Self as LineMachine>⟧.state self.old)))) (each (λ a. a.0) (choices_for_of (⟦<Self as LineMachine>⟧.state self.old)))
             (⟦<Self as LineMachine>⟧.state self.old) (⟦<Self as LineMachine>⟧.state self.new) result }
-        ensures borrows { ⟦<Self as LineMachine>⟧.borrows self.new ≡ ⟦<Self as LineMachine>⟧.borrows self.old }
+        ensures borrows { borrows_of self.new ≡ borrows_of self.old }
     {
         let prepared = self.asking.prepared.names()?;
         let askable = self.askable(prepared.as_slice())?;
@@ -291,7 +292,7 @@ impl<'s, 'f, 't, 'h, 'e, F: Files, T: Link, E: Link> Session<'s, 'f, 't, 'h, 'e,
         ensures err { OnErr result
             ((⟦<Self as LineMachine>⟧.state self.new) ≡ record
             (⟦<Self as LineMachine>⟧.state self.old) { asking = (⟦<Self as LineMachine>⟧.state self.new).asking }) }
-        ensures borrows { ⟦<Self as LineMachine>⟧.borrows self.new ≡ ⟦<Self as LineMachine>⟧.borrows self.old }
+        ensures borrows { borrows_of self.new ≡ borrows_of self.old }
     {
         if self.policy.nonint_seen {
             add_all(&mut self.asking.asked, names)?;
@@ -302,7 +303,7 @@ impl<'s, 'f, 't, 'h, 'e, F: Files, T: Link, E: Link> Session<'s, 'f, 't, 'h, 'e,
 
     pub(crate) fn clear(&mut self) -> Mem<Stepped>
         ensures does { Does command.Clear (⟦<Self as LineMachine>⟧.state self.old) (⟦<Self as LineMachine>⟧.state self.new) result }
-        ensures borrows { ⟦<Self as LineMachine>⟧.borrows self.new ≡ ⟦<Self as LineMachine>⟧.borrows self.old }
+        ensures borrows { borrows_of self.new ≡ borrows_of self.old }
     {
         let told = says(self.alloc, 0, b"")?;
         let prepared = &mut self.asking.prepared;

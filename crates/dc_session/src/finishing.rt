@@ -2,6 +2,7 @@
 ghost use Rattle.std.specs.Prelude.{◌≡◌, OnOk};
 ghost use Rattle.dc_store.specs.StoreLaws.{AreSameBut, AreSameButAll};
 ghost use Rattle.dc_session.specs.Asking.{finished, with_seen};
+ghost use Rattle.dc_session.specs.SessionState.{borrows_of};
 
 use crate::asking_commands::seen_flag;
 use crate::session::Session;
@@ -20,7 +21,7 @@ impl<'s, 'f, 't, 'h, 'e, F: Files, T: Link, E: Link> Session<'s, 'f, 't, 'h, 'e,
             (⟦<Self as LineMachine>⟧.state self.new).store.layers }
         ensures kept { (⟦<Self as LineMachine>⟧.state self.new) ≡ record
             (⟦<Self as LineMachine>⟧.state self.old) { store = (⟦<Self as LineMachine>⟧.state self.new).store } }
-        ensures borrows { ⟦<Self as LineMachine>⟧.borrows self.new ≡ ⟦<Self as LineMachine>⟧.borrows self.old }
+        ensures borrows { borrows_of self.new ≡ borrows_of self.old }
     {
         let asked = self.asking.asked.names()?;
         for name in asked.as_slice() {
@@ -37,7 +38,7 @@ impl<'s, 'f, 't, 'h, 'e, F: Files, T: Link, E: Link> Session<'s, 'f, 't, 'h, 'e,
         ensures others { AreSameBut name.now (⟦<Self as LineMachine>⟧.state self.old).store.layers (⟦<Self as LineMachine>⟧.state self.new).store.layers }
         ensures kept { (⟦<Self as LineMachine>⟧.state self.new) ≡ record
             (⟦<Self as LineMachine>⟧.state self.old) { store = (⟦<Self as LineMachine>⟧.state self.new).store } }
-        ensures borrows { ⟦<Self as LineMachine>⟧.borrows self.new ≡ ⟦<Self as LineMachine>⟧.borrows self.old }
+        ensures borrows { borrows_of self.new ≡ borrows_of self.old }
     {
         let flag = seen_flag(self.alloc)?;
         let desk = &mut self.desk;

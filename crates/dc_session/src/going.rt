@@ -11,6 +11,7 @@ ghost use Rattle.dc_session.specs.Displays.{dialogue};
 ghost use Rattle.dc_session.specs.Inside.{Asks, Comes, ComesAsking};
 ghost use Rattle.dc_session.specs.Machine.{DoesShowing};
 ghost use Rattle.dc_teletype.specs.declared.teletype.Asked.TheVariants.{Answers, Back};
+ghost use Rattle.dc_session.specs.SessionState.{borrows_of};
 
 use crate::name_set::NameSet;
 use crate::replies::{refused, says, unchangeable};
@@ -30,7 +31,7 @@ impl<'s, 'f, 't, 'h, 'e, F: Files, T: Link, E: Link> Session<'s, 'f, 't, 'h, 'e,
     pub(crate) fn ask_prepared(&mut self) -> Result<Stepped, StepError>
         requires asks { (⟦<Self as LineMachine>⟧.state self.old).policy.frontend ≡ OfTeletype }
         ensures does { DoesShowing command.Go (⟦<Self as LineMachine>⟧.state self.old) (⟦<Self as LineMachine>⟧.state self.new) result }
-        ensures borrows { ⟦<Self as LineMachine>⟧.borrows self.new ≡ ⟦<Self as LineMachine>⟧.borrows self.old }
+        ensures borrows { borrows_of self.new ≡ borrows_of self.old }
     {
         let prepared = self.asking.prepared.names()?;
         if let Some(name) = self.first_fixed(prepared.as_slice())? {
@@ -96,7 +97,7 @@ impl<'s, 'f, 't, 'h, 'e, F: Files, T: Link, E: Link> Session<'s, 'f, 't, 'h, 'e,
     // Holds the dialogue, where there is a question.
     fn hold(&mut self, questions: &List<Shown>) -> Result<Asked, StepError>
         ensures asks { Asks (dialogue questions.now) (⟦<Self as LineMachine>⟧.state self.old) (⟦<Self as LineMachine>⟧.state self.new) result }
-        ensures borrows { ⟦<Self as LineMachine>⟧.borrows self.new ≡ ⟦<Self as LineMachine>⟧.borrows self.old }
+        ensures borrows { borrows_of self.new ≡ borrows_of self.old }
     {
         if questions.as_slice().is_empty() {
             return Ok(Asked::Answers(List::new(self.alloc)));
@@ -112,7 +113,7 @@ impl<'s, 'f, 't, 'h, 'e, F: Files, T: Link, E: Link> Session<'s, 'f, 't, 'h, 'e,
     fn back_up(&mut self) -> Mem<Stepped>
         ensures comes { Comes (heard_out (⟦<Self as LineMachine>⟧.state self.old) Back) [] (⟦<Self as LineMachine>⟧.state self.old)
             (⟦<Self as LineMachine>⟧.state self.new) result }
-        ensures borrows { ⟦<Self as LineMachine>⟧.borrows self.new ≡ ⟦<Self as LineMachine>⟧.borrows self.old }
+        ensures borrows { borrows_of self.new ≡ borrows_of self.old }
     {
         let told = says(self.alloc, 30, b"backup")?;
         let prepared = &mut self.asking.prepared;
@@ -128,7 +129,7 @@ impl<'s, 'f, 't, 'h, 'e, F: Files, T: Link, E: Link> Session<'s, 'f, 't, 'h, 'e,
         ensures comes { ComesAsking (heard_out (⟦<Self as LineMachine>⟧.state self.old) (Answers answers.now))
             (each (λ a. a.0) (values_given_of questions.now answers.now)) (⟦<Self as LineMachine>⟧.state self.old)
             (⟦<Self as LineMachine>⟧.state self.new) result }
-        ensures borrows { ⟦<Self as LineMachine>⟧.borrows self.new ≡ ⟦<Self as LineMachine>⟧.borrows self.old }
+        ensures borrows { borrows_of self.new ≡ borrows_of self.old }
     {
         let values = values_given(self.alloc, questions.as_slice(), answers.as_slice())?;
         let told = says(self.alloc, 0, b"ok")?;
@@ -156,7 +157,7 @@ impl<'s, 'f, 't, 'h, 'e, F: Files, T: Link, E: Link> Session<'s, 'f, 't, 'h, 'e,
         ensures err { OnErr result
             ((⟦<Self as LineMachine>⟧.state self.new) ≡ record
             (⟦<Self as LineMachine>⟧.state self.old) { asking = (⟦<Self as LineMachine>⟧.state self.new).asking }) }
-        ensures borrows { ⟦<Self as LineMachine>⟧.borrows self.new ≡ ⟦<Self as LineMachine>⟧.borrows self.old }
+        ensures borrows { borrows_of self.new ≡ borrows_of self.old }
     {
         add_shown(&mut self.asking.asked, questions)?;
         self.asking.prepared.clear();

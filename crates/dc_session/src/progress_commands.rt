@@ -7,6 +7,7 @@ ghost use Rattle.dc_session.specs.Asking.{description as description_of};
 ghost use Rattle.dc_session.specs.Displays.{OneLine, where_asked, line_read, percent as percent_of, percent_line};
 ghost use Rattle.dc_session.specs.Inside.{Comes, TellsUser};
 ghost use Rattle.dc_session.specs.Machine.{Does, DoesShowing};
+ghost use Rattle.dc_session.specs.SessionState.{borrows_of};
 
 use crate::asking::Bar;
 use crate::replies::{missing, named, says};
@@ -31,7 +32,7 @@ impl<'s, 'f, 't, 'h, 'e, F: Files, T: Link, E: Link> Session<'s, 'f, 't, 'h, 'e,
     ) -> Result<Stepped, StepError>
         ensures does { DoesShowing (command.ProgressStart min max word.now) (⟦<Self as LineMachine>⟧.state self.old)
             (⟦<Self as LineMachine>⟧.state self.new) result }
-        ensures borrows { ⟦<Self as LineMachine>⟧.borrows self.new ≡ ⟦<Self as LineMachine>⟧.borrows self.old }
+        ensures borrows { borrows_of self.new ≡ borrows_of self.old }
     {
         let Some(name) = named(self.alloc, word)? else {
             return lifted(missing(self.alloc, word.bytes()));
@@ -49,7 +50,7 @@ impl<'s, 'f, 't, 'h, 'e, F: Files, T: Link, E: Link> Session<'s, 'f, 't, 'h, 'e,
 
     pub(crate) fn progress_set(&mut self, number: u32) -> Result<Stepped, StepError>
         ensures does { DoesShowing (command.ProgressSet number) (⟦<Self as LineMachine>⟧.state self.old) (⟦<Self as LineMachine>⟧.state self.new) result }
-        ensures borrows { ⟦<Self as LineMachine>⟧.borrows self.new ≡ ⟦<Self as LineMachine>⟧.borrows self.old }
+        ensures borrows { borrows_of self.new ≡ borrows_of self.old }
     {
         match self.asking.bar {
             None => lifted(says(self.alloc, 10, NO_BAR)),
@@ -63,7 +64,7 @@ impl<'s, 'f, 't, 'h, 'e, F: Files, T: Link, E: Link> Session<'s, 'f, 't, 'h, 'e,
 
     pub(crate) fn progress_step(&mut self, number: u32) -> Result<Stepped, StepError>
         ensures does { DoesShowing (command.ProgressStep number) (⟦<Self as LineMachine>⟧.state self.old) (⟦<Self as LineMachine>⟧.state self.new) result }
-        ensures borrows { ⟦<Self as LineMachine>⟧.borrows self.new ≡ ⟦<Self as LineMachine>⟧.borrows self.old }
+        ensures borrows { borrows_of self.new ≡ borrows_of self.old }
     {
         match self.asking.bar {
             None => lifted(says(self.alloc, 10, NO_BAR)),
@@ -77,7 +78,7 @@ impl<'s, 'f, 't, 'h, 'e, F: Files, T: Link, E: Link> Session<'s, 'f, 't, 'h, 'e,
 
     pub(crate) fn progress_info(&mut self, word: &Text) -> Result<Stepped, StepError>
         ensures does { DoesShowing (command.ProgressInfo word.now) (⟦<Self as LineMachine>⟧.state self.old) (⟦<Self as LineMachine>⟧.state self.new) result }
-        ensures borrows { ⟦<Self as LineMachine>⟧.borrows self.new ≡ ⟦<Self as LineMachine>⟧.borrows self.old }
+        ensures borrows { borrows_of self.new ≡ borrows_of self.old }
     {
         if self.asking.bar.is_none() {
             return lifted(says(self.alloc, 10, NO_BAR));
@@ -94,7 +95,7 @@ impl<'s, 'f, 't, 'h, 'e, F: Files, T: Link, E: Link> Session<'s, 'f, 't, 'h, 'e,
 
     pub(crate) fn progress_stop(&mut self) -> Mem<Stepped>
         ensures does { Does command.ProgressStop (⟦<Self as LineMachine>⟧.state self.old) (⟦<Self as LineMachine>⟧.state self.new) result }
-        ensures borrows { ⟦<Self as LineMachine>⟧.borrows self.new ≡ ⟦<Self as LineMachine>⟧.borrows self.old }
+        ensures borrows { borrows_of self.new ≡ borrows_of self.old }
     {
         match self.asking.bar {
             None => says(self.alloc, 10, NO_BAR),
@@ -108,7 +109,7 @@ impl<'s, 'f, 't, 'h, 'e, F: Files, T: Link, E: Link> Session<'s, 'f, 't, 'h, 'e,
             (where_asked (⟦<Self as LineMachine>⟧.state self.old).policy.frontend
             (line_read (description_of (⟦<Self as LineMachine>⟧.state self.old).store.layers (⟦<Self as LineMachine>⟧.state self.old).at name.now)))
             (⟦<Self as LineMachine>⟧.state self.old) (⟦<Self as LineMachine>⟧.state self.new) result }
-        ensures borrows { ⟦<Self as LineMachine>⟧.borrows self.new ≡ ⟦<Self as LineMachine>⟧.borrows self.old }
+        ensures borrows { borrows_of self.new ≡ borrows_of self.old }
     {
         match self.policy.frontend {
             Frontend::Noninteractive => Ok(()),
@@ -124,7 +125,7 @@ impl<'s, 'f, 't, 'h, 'e, F: Files, T: Link, E: Link> Session<'s, 'f, 't, 'h, 'e,
     fn tell_percent(&mut self, bar: Bar) -> Result<(), StepError>
         ensures tells { TellsUser (where_asked (⟦<Self as LineMachine>⟧.state self.old).policy.frontend (percent_line bar))
             (⟦<Self as LineMachine>⟧.state self.old) (⟦<Self as LineMachine>⟧.state self.new) result }
-        ensures borrows { ⟦<Self as LineMachine>⟧.borrows self.new ≡ ⟦<Self as LineMachine>⟧.borrows self.old }
+        ensures borrows { borrows_of self.new ≡ borrows_of self.old }
     {
         match self.policy.frontend {
             Frontend::Noninteractive => Ok(()),
@@ -138,7 +139,7 @@ impl<'s, 'f, 't, 'h, 'e, F: Files, T: Link, E: Link> Session<'s, 'f, 't, 'h, 'e,
     // Writes a line on the terminal.
     fn tell_line(&mut self, line: &Text) -> Result<(), StepError>
         ensures tells { TellsUser (OneLine line.now) (⟦<Self as LineMachine>⟧.state self.old) (⟦<Self as LineMachine>⟧.state self.new) result }
-        ensures borrows { ⟦<Self as LineMachine>⟧.borrows self.new ≡ ⟦<Self as LineMachine>⟧.borrows self.old }
+        ensures borrows { borrows_of self.new ≡ borrows_of self.old }
     {
         match tell_on(self.terminal, self.teletype, line) {
             Ok(()) => Ok(()),
@@ -152,7 +153,7 @@ impl<'s, 'f, 't, 'h, 'e, F: Files, T: Link, E: Link> Session<'s, 'f, 't, 'h, 'e,
         ensures comes { Comes (reply_asking (⟦<Self as LineMachine>⟧.state self.old) (reply 0 (codes "OK"))
             (with_bar (⟦<Self as LineMachine>⟧.state self.old).asking bar)) [] (⟦<Self as LineMachine>⟧.state self.old)
             (⟦<Self as LineMachine>⟧.state self.new) result }
-        ensures borrows { ⟦<Self as LineMachine>⟧.borrows self.new ≡ ⟦<Self as LineMachine>⟧.borrows self.old }
+        ensures borrows { borrows_of self.new ≡ borrows_of self.old }
     {
         let told = says(self.alloc, 0, b"OK")?;
         self.asking.bar = bar;

@@ -7,6 +7,7 @@ ghost use Rattle.dc_store.specs.Plans.{owned as owned_of};
 ghost use Rattle.dc_session.specs.Answers.{reply_write, loading, nothing, load_names, names_on, told_code as told_code_in};
 ghost use Rattle.dc_session.specs.Inside.{Comes, HasDistinctNames, ReadsField};
 ghost use Rattle.dc_session.specs.Machine.{Does};
+ghost use Rattle.dc_session.specs.SessionState.{borrows_of};
 
 use crate::name_set::first_among;
 use crate::replies::{
@@ -78,7 +79,7 @@ impl<'s, 'f, 't, 'h, 'e, F: Files, T: Link, E: Link> Session<'s, 'f, 't, 'h, 'e,
 
     pub(crate) fn set(&mut self, word: &Text, value: &Text) -> Mem<Stepped>
         ensures does { Does (command.Set word.now value.now) (⟦<Self as LineMachine>⟧.state self.old) (⟦<Self as LineMachine>⟧.state self.new) result }
-        ensures borrows { ⟦<Self as LineMachine>⟧.borrows self.new ≡ ⟦<Self as LineMachine>⟧.borrows self.old }
+        ensures borrows { borrows_of self.new ≡ borrows_of self.old }
     {
         let Some(name) = named(self.alloc, word)? else {
             return missing(self.alloc, word.bytes());
@@ -90,7 +91,7 @@ impl<'s, 'f, 't, 'h, 'e, F: Files, T: Link, E: Link> Session<'s, 'f, 't, 'h, 'e,
 
     pub(crate) fn reset(&mut self, word: &Text) -> Mem<Stepped>
         ensures does { Does (command.Reset word.now) (⟦<Self as LineMachine>⟧.state self.old) (⟦<Self as LineMachine>⟧.state self.new) result }
-        ensures borrows { ⟦<Self as LineMachine>⟧.borrows self.new ≡ ⟦<Self as LineMachine>⟧.borrows self.old }
+        ensures borrows { borrows_of self.new ≡ borrows_of self.old }
     {
         let Some(name) = named(self.alloc, word)? else {
             return missing(self.alloc, word.bytes());
@@ -103,7 +104,7 @@ impl<'s, 'f, 't, 'h, 'e, F: Files, T: Link, E: Link> Session<'s, 'f, 't, 'h, 'e,
     pub(crate) fn subst(&mut self, word: &Text, key: &VarKey, value: &Text) -> Mem<Stepped>
         ensures does { Does (command.Subst word.now key.now value.now) (⟦<Self as LineMachine>⟧.state self.old)
             (⟦<Self as LineMachine>⟧.state self.new) result }
-        ensures borrows { ⟦<Self as LineMachine>⟧.borrows self.new ≡ ⟦<Self as LineMachine>⟧.borrows self.old }
+        ensures borrows { borrows_of self.new ≡ borrows_of self.old }
     {
         let Some(name) = named(self.alloc, word)? else {
             return missing(self.alloc, word.bytes());
@@ -116,7 +117,7 @@ impl<'s, 'f, 't, 'h, 'e, F: Files, T: Link, E: Link> Session<'s, 'f, 't, 'h, 'e,
     pub(crate) fn fset(&mut self, word: &Text, flag: &FlagName, value: &Text) -> Mem<Stepped>
         ensures does { Does (command.Fset word.now flag.now value.now) (⟦<Self as LineMachine>⟧.state self.old)
             (⟦<Self as LineMachine>⟧.state self.new) result }
-        ensures borrows { ⟦<Self as LineMachine>⟧.borrows self.new ≡ ⟦<Self as LineMachine>⟧.borrows self.old }
+        ensures borrows { borrows_of self.new ≡ borrows_of self.old }
     {
         let Some(name) = named(self.alloc, word)? else {
             return missing(self.alloc, word.bytes());
@@ -132,7 +133,7 @@ impl<'s, 'f, 't, 'h, 'e, F: Files, T: Link, E: Link> Session<'s, 'f, 't, 'h, 'e,
 
     pub(crate) fn register(&mut self, template: &Text, name: &Name) -> Mem<Stepped>
         ensures does { Does (command.Register template.now name.now) (⟦<Self as LineMachine>⟧.state self.old) (⟦<Self as LineMachine>⟧.state self.new) result }
-        ensures borrows { ⟦<Self as LineMachine>⟧.borrows self.new ≡ ⟦<Self as LineMachine>⟧.borrows self.old }
+        ensures borrows { borrows_of self.new ≡ borrows_of self.old }
     {
         let desk = &mut self.desk;
         let done = desk.questions.register(template.bytes(), name, desk.owner);
@@ -141,7 +142,7 @@ impl<'s, 'f, 't, 'h, 'e, F: Files, T: Link, E: Link> Session<'s, 'f, 't, 'h, 'e,
 
     pub(crate) fn unregister(&mut self, word: &Text) -> Mem<Stepped>
         ensures does { Does (command.Unregister word.now) (⟦<Self as LineMachine>⟧.state self.old) (⟦<Self as LineMachine>⟧.state self.new) result }
-        ensures borrows { ⟦<Self as LineMachine>⟧.borrows self.new ≡ ⟦<Self as LineMachine>⟧.borrows self.old }
+        ensures borrows { borrows_of self.new ≡ borrows_of self.old }
     {
         let Some(name) = named(self.alloc, word)? else {
             return missing(self.alloc, word.bytes());
@@ -159,7 +160,7 @@ impl<'s, 'f, 't, 'h, 'e, F: Files, T: Link, E: Link> Session<'s, 'f, 't, 'h, 'e,
 
     pub(crate) fn purge(&mut self) -> Mem<Stepped>
         ensures does { Does command.Purge (⟦<Self as LineMachine>⟧.state self.old) (⟦<Self as LineMachine>⟧.state self.new) result }
-        ensures borrows { ⟦<Self as LineMachine>⟧.borrows self.new ≡ ⟦<Self as LineMachine>⟧.borrows self.old }
+        ensures borrows { borrows_of self.new ≡ borrows_of self.old }
     {
         let owned = self.owned()?;
         match first_among(&self.asking.prepared, owned.as_slice()) {
@@ -182,7 +183,7 @@ impl<'s, 'f, 't, 'h, 'e, F: Files, T: Link, E: Link> Session<'s, 'f, 't, 'h, 'e,
             (purged (⟦<Self as LineMachine>⟧.state self.old).store (⟦<Self as LineMachine>⟧.state self.old).at
             (⟦<Self as LineMachine>⟧.state self.old).owner)) (names_on (⟦<Self as LineMachine>⟧.state self.old) command.Purge nothing)
             (⟦<Self as LineMachine>⟧.state self.old) (⟦<Self as LineMachine>⟧.state self.new) result }
-        ensures borrows { ⟦<Self as LineMachine>⟧.borrows self.new ≡ ⟦<Self as LineMachine>⟧.borrows self.old }
+        ensures borrows { borrows_of self.new ≡ borrows_of self.old }
     {
         let desk = &mut self.desk;
         let done = desk.questions.purge(desk.owner);
@@ -200,7 +201,7 @@ impl<'s, 'f, 't, 'h, 'e, F: Files, T: Link, E: Link> Session<'s, 'f, 't, 'h, 'e,
     pub(crate) fn load(&mut self, path: &Text, owner: &Option<Name>) -> Mem<Stepped>
         ensures does { Does (command.LoadTemplateFile path.now owner.now) (⟦<Self as LineMachine>⟧.state self.old)
             (⟦<Self as LineMachine>⟧.state self.new) result }
-        ensures borrows { ⟦<Self as LineMachine>⟧.borrows self.new ≡ ⟦<Self as LineMachine>⟧.borrows self.old }
+        ensures borrows { borrows_of self.new ≡ borrows_of self.old }
     {
         let owner = owner_or(owner, self.desk.owner);
         match find_templates(self.alloc, self.files, path) {
@@ -215,7 +216,7 @@ impl<'s, 'f, 't, 'h, 'e, F: Files, T: Link, E: Link> Session<'s, 'f, 't, 'h, 'e,
         ensures comes { Comes (loading (⟦<Self as LineMachine>⟧.state self.old) owner.now found.now)
             (load_names (⟦<Self as LineMachine>⟧.state self.old) owner.now found.now) (⟦<Self as LineMachine>⟧.state self.old)
             (⟦<Self as LineMachine>⟧.state self.new) result }
-        ensures borrows { ⟦<Self as LineMachine>⟧.borrows self.new ≡ ⟦<Self as LineMachine>⟧.borrows self.old }
+        ensures borrows { borrows_of self.new ≡ borrows_of self.old }
     {
         match found {
             Found::Unreadable => says(self.alloc, 100, b"read fault"),

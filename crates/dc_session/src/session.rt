@@ -107,7 +107,7 @@ impl<'s, 'f, 't, 'h, 'e, F: Files, T: Link, E: Link> Session<'s, 'f, 't, 'h, 'e,
     pub fn step(&mut self, line: &Line) -> Result<Stepped, StepError>
         ensures ok { IfOk result (λ stepped. Steps (⟦<Self as LineMachine>⟧.state self.old) line.now stepped (⟦<Self as LineMachine>⟧.state self.new)) }
         ensures err { IfErr result (λ error. AbortsAt (⟦<Self as LineMachine>⟧.state self.old) line.now error (⟦<Self as LineMachine>⟧.state self.new)) }
-        ensures borrows { ⟦<Self as LineMachine>⟧.borrows self.new ≡ ⟦<Self as LineMachine>⟧.borrows self.old }
+        ensures borrows { borrows_of self.new ≡ borrows_of self.old }
     {
         match line {
             Line::TooLong => lifted(says(self.alloc, 20, b"line too long")),
@@ -121,7 +121,7 @@ impl<'s, 'f, 't, 'h, 'e, F: Files, T: Link, E: Link> Session<'s, 'f, 't, 'h, 'e,
     // What a line that was read does.
     fn serve(&mut self, heard: Heard) -> Result<Stepped, StepError>
         ensures does { DoesHeard heard (⟦<Self as LineMachine>⟧.state self.old) (⟦<Self as LineMachine>⟧.state self.new) result }
-        ensures borrows { ⟦<Self as LineMachine>⟧.borrows self.new ≡ ⟦<Self as LineMachine>⟧.borrows self.old }
+        ensures borrows { borrows_of self.new ≡ borrows_of self.old }
     {
         match heard {
             Heard::Nothing => Ok(Stepped::Silent),
@@ -133,7 +133,7 @@ impl<'s, 'f, 't, 'h, 'e, F: Files, T: Link, E: Link> Session<'s, 'f, 't, 'h, 'e,
     // What a command is answered, what it shows, and what it does.
     fn run(&mut self, command: &Command) -> Result<Stepped, StepError>
         ensures does { DoesShowing command.now (⟦<Self as LineMachine>⟧.state self.old) (⟦<Self as LineMachine>⟧.state self.new) result }
-        ensures borrows { ⟦<Self as LineMachine>⟧.borrows self.new ≡ ⟦<Self as LineMachine>⟧.borrows self.old }
+        ensures borrows { borrows_of self.new ≡ borrows_of self.old }
     {
         match command {
             Command::Version(version) => lifted(self.version(version)),
