@@ -5,5 +5,5 @@ use Rattle.dc_question.proofs.loading.keep_owners.Goals as goal
 
 pub returns-in-Some : goal.returns-in-Some
 returns-in-Some c =
-    subst (λ s. OnOk c.put_owners_of-in-Some.result (c.put_owners_of-in-Some.new.self ≡ record c.args.builder.now { owners = s }))
-    (kept_owners (option_copied c.args.old) c.in-Some.old.now (ap option_copied c.in-Some.is)) c.put_owners_of-in-Some.ensures
+    subst (λ s. OnOk c.put_owners_of.result (c.put_owners_of.new.self ≡ record c.args.builder.now { owners = s }))
+    (kept_owners (option_copied c.args.old) c.in-Some.old.now (ap option_copied c.in-Some.is)) c.put_owners_of.ensures

@@ -1,4 +1,4 @@
-use Rattle.std.proofs.Common.{length, map as each, sym, subst, ◌∙◌}
+use Rattle.std.proofs.Common.{length, map as each, sym, subst}
 use Rattle.dc_store.specs.Batches.{AreOver, AllDistinct}
 use Rattle.dc_question.proofs.LeaveLemmas.{row_over, row_distinct}
 use Rattle.dc_question.proofs.FrameLemmas.{all_same_asked}

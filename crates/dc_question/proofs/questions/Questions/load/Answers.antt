@@ -1,4 +1,4 @@
-use Rattle.std.proofs.Common.{length, map as each, sym, subst, refl, ◌∙◌}
+use Rattle.std.proofs.Common.{length, map as each, sym, subst, refl}
 use Rattle.dc_store.specs.Batches.{AreOver, AllDistinct}
 use Rattle.dc_question.proofs.BindLemmas.{does_row}
 use Rattle.dc_question.proofs.LoadLemmas.{load_over, load_distinct}
