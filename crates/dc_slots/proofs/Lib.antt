@@ -1,0 +1,4 @@
+pub mod ChainLemmas
+pub mod KeyLemmas
+pub mod ThreadLemmas
+pub mod LinkLemmas

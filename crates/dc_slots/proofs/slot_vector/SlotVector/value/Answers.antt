@@ -1,0 +1,14 @@
+use Rattle.std.proofs.Common.{◌≡◌, ◌+◌, ◌-◌, ◌++◌, ◌∷◌, ℕ, [], true, false, Some, None, Option, nat_eq, refl, sym, ap, ◌∙◌, subst}
+use Rattle.std.specs.Prelude.{is_some, ◌||◌, not, option_copied, option_map}
+use Rattle.std.specs.FinMap as map
+use Rattle.dc_slots.specs.Chains.{has}
+use Rattle.dc_slots.specs.Numbered.{Kept, name_in, value_in, owners_in, name_at, value_at, owners_at}
+use Rattle.dc_slots.specs.Threads.{slot_at, kept_of, next_of, next_in, IsThreaded, IsChangedAt}
+use Rattle.dc_slots.proofs.ThreadLemmas.{opened, read, seen}
+use Rattle.dc_slots.proofs.slot_vector.SlotVector.value.Goals as goal
+
+pub returns-in-Some : goal.returns-in-Some
+returns-in-Some g c = c.as_ref.ensures.value ∙ sym (ap value_in (read c.args.self.now c.self.inside.slots.slots c.self.inside.first_touched c.number.inside.number c.args.number c.in-Some.slot.now c.self.view_is c.number.view_is (sym c.in-Some.ensures)))
+
+pub returns-in-None : goal.returns-in-None
+returns-in-None g c = sym (ap value_in (opened c.args.self.now c.self.inside.slots.slots c.self.inside.first_touched c.number.inside.number c.args.number c.self.view_is c.number.view_is ∙ ap seen (sym c.in-None.ensures)))
