@@ -349,3 +349,10 @@ module _ {T : Type 0} where
 
   pub some_is_seen : (s : Numbered T) (slots : List (Option (Slot T))) (first : Option ℕ) (n : ℕ) → view_of slots first ≡ s → is_some (slot_at slots n) ≡ true → is_some (get s.kept n) ≡ true
   some_is_seen s slots first n is there = ap is_some (opened s slots first n n is refl) ∙ some_seen (slot_at slots n) ∙ there
+
+  -- where there is no slot, none is touched
+  pub vacant_untouched : (slots : List (Option (Slot T))) (first last : Option ℕ) (n : ℕ) (h : IsThreaded slots first last) → slot_at slots n ≡ None → has n h.touched ≡ false
+  vacant_untouched slots first last n h vacant = elim (has n h.touched) as (λ b. has n h.touched ≡ b → b ≡ false) [
+    | true ↦ λ e. absurd (not_both (is_some (slot_at slots n)) (h.kept n e) (ap is_some vacant))
+    | false ↦ λ e. refl
+  ] refl

@@ -3,7 +3,7 @@ use Rattle.std.specs.Prelude.{◌≡◌, ◌≢◌, ◌⊎◌, ℕ, ◌+◌, Boo
 use Rattle.std.specs.FinMap as map
 use Rattle.dc_text.specs.Maps.{Texts}
 use Rattle.dc_slots.specs.Chains.{has}
-use Rattle.dc_slots.specs.Slots.{Slots, with_at, list_of}
+use Rattle.dc_slots.specs.Slots.{Slots, with_at, list_of, if_any}
 use Rattle.dc_slots.specs.Numbered.{Numbered, Kept, IsKept, name_at, value_at, owners_at, with_kept, is_used}
 
 abbrev pub values_of : {T : Type 0} → (ℕ → Option T) → List (List ℕ × ℕ) → Texts T
@@ -39,6 +39,7 @@ module _ {T : Type 0} where
     pub placed : (n : ℕ) → IsKept slots n → map.get places (name_at slots n) ≡ Some n
     pub touched : (n : ℕ) → has n slots.touched ≡ true → IsKept slots n
     pub listed : (owner : List ℕ) (n : ℕ) → has n (list_of lists owner) ≡ true → IsKept slots n
+    pub full : (owner : List ℕ) → map.get lists owner ≡ if_any (list_of lists owner)
     pub counted : (n : ℕ) → IsKept slots n → owners_at slots n ≡ count_in n (map.entries lists)
 
   -- so they are tied, and each slot is used
@@ -48,12 +49,12 @@ module _ {T : Type 0} where
 
   -- the slot with the number is the name's, and it is new where the name had none
   abbrev pub IsPlaced : Texts ℕ → Texts ℕ → Numbered T → Numbered T → List ℕ → ℕ → Type 0
-  IsPlaced places later slots then name n =
-      ((map.get places name ≡ Some n) × (later ≡ places) × (then ≡ slots))
-      ⊎ ((map.get places name ≡ None) × (map.get slots.kept n ≡ None) × (later ≡ map.insert places name n) × (then ≡ with_kept slots n (record { name = name; value = None; owners = 0 })))
+  IsPlaced places later slots after name n =
+      ((map.get places name ≡ Some n) × (later ≡ places) × (after ≡ slots))
+      ⊎ ((map.get places name ≡ None) × (map.get slots.kept n ≡ None) × (later ≡ map.insert places name n) × (after ≡ with_kept slots n (record { name = name; value = None; owners = 0 })))
 
   -- the slot is gone where it isn't used
   abbrev pub IsReleased : Texts ℕ → Texts ℕ → Numbered T → Numbered T → ℕ → Type 0
-  IsReleased places later slots then n =
-      ((is_used slots n ≡ true) × (later ≡ places) × (then ≡ slots))
-      ⊎ ((is_used slots n ≡ false) × (later ≡ map.remove places (name_at slots n)) × (then ≡ record slots { kept = map.remove slots.kept n }))
+  IsReleased places later slots after n =
+      ((is_used slots n ≡ true) × (later ≡ places) × (after ≡ slots))
+      ⊎ ((is_used slots n ≡ false) × (later ≡ map.remove places (name_at slots n)) × (after ≡ record slots { kept = map.remove slots.kept n }))

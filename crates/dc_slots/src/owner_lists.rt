@@ -107,6 +107,7 @@ impl OwnerLists {
     /// Takes the slot out of the owner's list. It answers whether it was there.
     pub(crate) fn leave(&mut self, owner: &Name, slot: SlotNumber) -> bool
         ensures found { result ≡ has slot (list_of self.old owner.now) }
+        ensures same { result ≡ false → self.new ≡ self.old }
         ensures new { self.new ≡ with_at self.old owner.now (if_any (without nat_eq (list_of self.old owner.now) slot)) }
     {
         let Some(list) = self.lists.get(owner.bytes()) else {

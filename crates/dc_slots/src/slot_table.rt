@@ -55,10 +55,7 @@ impl<T: Drop> SlotTable<T> {
     pub fn get(&self, name: &Name) -> Option<&T>
         ensures { option_copied result ≡ map.get self.now.values name.now }
     {
-        match self.places.get(name.bytes()) {
-            Some(number) => self.slots.value(*number),
-            None => None,
-        }
+        self.slots.value(number_of(&self.places, name)?)
     }
 
     /// Puts the value at the name, and hands out the one that stood there. Memory can fail only for a name that wasn't used.
@@ -77,10 +74,7 @@ impl<T: Drop> SlotTable<T> {
         ensures value { result ≡ map.get self.old.values name.now }
         ensures new { self.new ≡ record self.old { values = map.remove self.old.values name.now } }
     {
-        let Some(number) = self.places.get(name.bytes()) else {
-            return None;
-        };
-        let number = *number;
+        let number = number_of(&self.places, name)?;
         let value = self.slots.set_value(number, None);
         release(&mut self.places, &mut self.slots, number);
         value
@@ -152,14 +146,23 @@ impl<T: Drop> SlotTable<T> {
     pub fn leave_owner(&mut self, name: &Name, owner: &Name)
         ensures { self.new ≡ without_owner self.old name.now owner.now }
     {
-        let Some(number) = self.places.get(name.bytes()) else {
+        let Some(number) = number_of(&self.places, name) else {
             return;
         };
-        let number = *number;
         if self.owners.leave(owner, number) {
             self.slots.drop_owner(number);
             release(&mut self.places, &mut self.slots, number);
         }
+    }
+}
+
+// The number of the name's slot, if it has one.
+fn number_of(places: &TextMap<SlotNumber>, name: &Name) -> Option<SlotNumber>
+    ensures { result ≡ map.get places.now name.now }
+{
+    match places.get(name.bytes()) {
+        Some(number) => Some(*number),
+        None => None,
     }
 }
 
@@ -169,8 +172,8 @@ fn place_for<T: Drop>(places: &mut TextMap<SlotNumber>, slots: &mut SlotVector<T
     ensures none { OnErr result (map.get places.old name.now ≡ None) }
     ensures err { OnErr result ((places.new ≡ places.old) × (slots.new ≡ slots.old)) }
 {
-    if let Some(number) = places.get(name.bytes()) {
-        return Ok(*number);
+    if let Some(number) = number_of(places, name) {
+        return Ok(number);
     }
     let key = name.copy()?.into_text();
     let number = slots.insert(name.copy()?)?;

@@ -131,6 +131,7 @@ impl<T: Drop> SlotVector<T> {
     /// Puts a slot that has the name alone, and answers its number.
     pub(crate) fn insert(&mut self, name: Name) -> Mem<SlotNumber>
         ensures new { IfOk result (λ n. map.get self.old.kept n ≡ None) }
+        ensures untouched { IfOk result (λ n. has n self.old.touched ≡ false) }
         ensures ok { IfOk result (λ n. self.new ≡ with_kept self.old n (record { name = name; value = None; owners = 0 })) }
         ensures err { OnErr result (self.new ≡ self.old) }
     {

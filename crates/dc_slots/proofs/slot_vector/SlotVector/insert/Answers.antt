@@ -4,7 +4,7 @@ use Rattle.std.specs.FinMap as map
 use Rattle.dc_slots.specs.Chains.{has}
 use Rattle.dc_slots.specs.Numbered.{Kept, name_in, value_in, owners_in, name_at, value_at, owners_at}
 use Rattle.dc_slots.specs.Threads.{slot_at, kept_of, next_of, next_in, IsThreaded, IsChangedAt}
-use Rattle.dc_slots.proofs.ThreadLemmas.{threads_put, put_view, opened, seen}
+use Rattle.dc_slots.proofs.ThreadLemmas.{vacant_untouched, touched_seen, threads_put, put_view, opened, seen}
 use Rattle.dc_slots.proofs.slot_vector.SlotVector.insert.Goals as goal
 
 pub invariant_of-self-2 : goal.invariant_of-self-2
@@ -19,3 +19,8 @@ pub returns-clause-ok : goal.returns-clause-ok
 returns-clause-ok g c =
     put_view c.args.self.now c.self.inside.slots.slots c.insert.new.self.slots c.self.inside.first_touched c.self.inside.last_touched c.in_ok-number.number _ c.self.view_is c.self.invariant
     (record { here = c.in_ok-number.ensures.updates.changed; others = c.in_ok-number.ensures.updates.others }) c.in_ok-number.ensures.was_vacant refl
+
+pub returns-clause-untouched : goal.returns-clause-untouched
+returns-clause-untouched g c =
+    sym (touched_seen c.args.self.now c.self.inside.slots.slots c.self.inside.first_touched c.self.inside.last_touched c.in_ok-number.number c.in_ok-number.number c.self.invariant c.self.view_is refl)
+    ∙ vacant_untouched c.self.inside.slots.slots c.self.inside.first_touched c.self.inside.last_touched c.in_ok-number.number c.self.invariant c.in_ok-number.ensures.was_vacant
