@@ -1,5 +1,5 @@
 -- Numbers of which each names the next: how they are walked, and what becomes of them where one is put or taken away.
-use Rattle.std.proofs.Common.{◌≡◌, ◌≢◌, ◌⊎◌, ℕ, zero, suc, ◌+◌, ◌<◌, ◌≤◌, Bool, true, false, cond, List, [], ◌∷◌, ◌++◌, length, nat_eq, Option, Some, None, refl, sym, ap, ◌∙◌, subst, inl, inr, arith}
+use Rattle.std.proofs.Common.{◌≡◌, ◌≢◌, ◌⊎◌, ℕ, zero, suc, ◌+◌, ◌<◌, ◌≤◌, Bool, true, false, cond, List, [], ◌∷◌, ◌++◌, length, nat_eq, map as each, Option, Some, None, refl, sym, ap, ◌∙◌, subst, inl, inr, arith}
 use Rattle.std.specs.Prelude.{◌||◌, ◌&&◌}
 use Rattle.std.specs.List.{list_any, IsDistinct, AllByRecursion}
 use Rattle.std.specs.Cmp.{IsEquivalence}
@@ -149,9 +149,11 @@ module _ (next later : ℕ → Option ℕ) where
   walk_pushed from (k ∷ m ∷ ns) last n walks ends distinct new named none same =
       let not_last : k ≢ last = λ e. not_both (has k (m ∷ ns)) (ap (λ j. has j (m ∷ ns)) e ∙ has_end (m ∷ ns) last ends) (first_apart nat_eq k (m ∷ ns) distinct) in
       let off : (nat_eq n k ≡ false) × (has n (m ∷ ns) ≡ false) = neither (nat_eq n k) (has n (m ∷ ns)) new in
-      let not_new : k ≢ n = λ e. not_both (nat_eq n k) (eq-eqb n k (sym e)) off.0 in
-      (walks.0, subst (λ f. IsWalk later f (m ∷ ns ++ n ∷ [])) (sym (same k not_last not_new))
-      (walk_pushed (next k) (m ∷ ns) last n walks.1 ends (IsDistinct-tail nat_eq k (m ∷ ns) distinct) off.1 named none same))
+      let not_new : k ≢ n = λ e. not_both (nat_eq n k) (eq-eqb n k (sym e)) off.0 in (
+        walks.0,
+        subst (λ f. IsWalk later f (m ∷ ns ++ n ∷ [])) (sym (same k not_last not_new))
+            (walk_pushed (next k) (m ∷ ns) last n walks.1 ends (IsDistinct-tail nat_eq k (m ∷ ns) distinct) off.1 named none same),
+      )
 
 -- ---- a number is taken away
 
@@ -210,16 +212,20 @@ module _ (next later : ℕ → Option ℕ) where
   walk_cut from (k ∷ []) before n back walks ends distinct named same =
       let e : before ≡ k = (let f : Some before ≡ Some k = ends in cc) in
       let off : (nat_eq k n ≡ false) × (has k back ≡ false) = neither _ _ (first_apart nat_eq k (n ∷ back) distinct) in
-      let out : has n back ≡ false = first_apart nat_eq n back (IsDistinct-tail nat_eq k (n ∷ back) distinct) in
-      (walks.0, subst (λ f. IsWalk later f back) (sym (ap later (sym e) ∙ named))
-      (walk_same next later (next n) back (λ m there. same m (λ is. not_both (has k back) (ap (λ j. has j back) (sym (is ∙ e)) ∙ there) off.1) (apart m n back there out)) walks.1.1))
+      let out : has n back ≡ false = first_apart nat_eq n back (IsDistinct-tail nat_eq k (n ∷ back) distinct) in (
+        walks.0,
+        subst (λ f. IsWalk later f back) (sym (ap later (sym e) ∙ named))
+            (walk_same next later (next n) back (λ m there. same m (λ is. not_both (has k back) (ap (λ j. has j back) (sym (is ∙ e)) ∙ there) off.1) (apart m n back there out)) walks.1.1),
+      )
   walk_cut from (k ∷ j ∷ front) before n back walks ends distinct named same =
       let off : has k (j ∷ front ++ n ∷ back) ≡ false = first_apart nat_eq k (j ∷ front ++ n ∷ back) distinct in
       let parts : (has k (j ∷ front) ≡ false) × (has k (n ∷ back) ≡ false) = neither _ _ (sym (has_append k (j ∷ front) (n ∷ back)) ∙ off) in
       let not_before : k ≢ before = (λ e. not_both (has k (j ∷ front)) (ap (λ i. has i (j ∷ front)) e ∙ has_end (j ∷ front) before ends) parts.0) in
-      let not_n : k ≢ n = (λ e. not_both (nat_eq k n) (eq-eqb k n e) (neither _ _ parts.1).0) in
-      (walks.0, subst (λ f. IsWalk later f (j ∷ front ++ back)) (sym (same k not_before not_n))
-      (walk_cut (next k) (j ∷ front) before n back walks.1 ends (IsDistinct-tail nat_eq k _ distinct) named same))
+      let not_n : k ≢ n = (λ e. not_both (nat_eq k n) (eq-eqb k n e) (neither _ _ parts.1).0) in (
+        walks.0,
+        subst (λ f. IsWalk later f (j ∷ front ++ back)) (sym (same k not_before not_n))
+            (walk_cut (next k) (j ∷ front) before n back walks.1 ends (IsDistinct-tail nat_eq k _ distinct) named same),
+      )
 
 -- the walk behind a front
 pub walk_behind : (next : ℕ → Option ℕ) (from : Option ℕ) (front : List ℕ) (n : ℕ) (back : List ℕ) → IsWalk next from (front ++ n ∷ back) → IsWalk next (next n) back
@@ -241,3 +247,13 @@ pub length_walk : (next : ℕ → Option ℕ) (most : ℕ) (from : Option ℕ) �
 length_walk next zero from = omega arith
 length_walk next (suc most) None = omega arith
 length_walk next (suc most) (Some n) = omega (arith, length_walk next most (next n))
+
+-- ---- lists of numbers
+
+pub walk_none : (next : ℕ → Option ℕ) (most : ℕ) → walk next most None ≡ []
+walk_none next zero = refl
+walk_none next (suc most) = refl
+
+pub each_same : {X : Type 0} (f g : ℕ → X) (ns : List ℕ) → ((n : ℕ) → has n ns ≡ true → f n ≡ g n) → each f ns ≡ each g ns
+each_same f g [] same = refl
+each_same f g (n ∷ ns) same = λ i. same n (has_head n ns) i ∷ each_same f g ns (λ m there. same m (has_tail m n ns there)) i

@@ -16,8 +16,8 @@ use Rattle.dc_slots.specs.Slots.{Slots, list_of, with_at, without, put_last, if_
 use Rattle.dc_slots.specs.Numbered.{Kept, Numbered, IsKept, name_in, value_in, owners_in, name_at, value_at, owners_at, with_kept, with_value, with_owners, is_used}
 use Rattle.dc_slots.specs.Parts.{values_of, lists_of, table_of, one_if, count_in, AreTied, AreSound, IsPlaced, IsReleased}
 use Rattle.dc_slots.proofs.KeyLemmas.{cases_key, insert-here, insert-other, remove-here, remove-other, is_insert, is_remove}
-use Rattle.dc_slots.proofs.ChainLemmas.{has_head, has_tail, has_last, has_pushed, has_push, lacks_push, not_both, neither, either, tied, untied, or_first, or_second}
-use Rattle.dc_slots.proofs.LinkLemmas.{each_same, with-here, with-other, is_with, with_same}
+use Rattle.dc_slots.proofs.ChainLemmas.{each_same, has_head, has_tail, has_last, has_pushed, has_push, lacks_push, not_both, neither, either, tied, untied, or_first, or_second}
+use Rattle.dc_slots.proofs.LinkLemmas.{with-here, with-other, is_with, with_same}
 use Rattle.dc_slots.proofs.TableLemmas.{at_number, get-values, get-lists, list_of-lists, count_with, count_insert, listed_is_counted, unlisted_is_uncounted}
 use Rattle.dc_slots.proofs.TiedLemmas.{put-here, put-other, stays_put, kept_put, was_kept, own_number, same_has, same_without, names_stay, lists_stay, values_stay, AreUsedBut, IsNearly, yes_or_no}
 

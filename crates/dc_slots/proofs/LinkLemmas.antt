@@ -13,12 +13,12 @@ use Rattle.dc_text.specs.Maps.{Texts, text_cmp}
 use Rattle.dc_text.proofs.MapLemmas.{exact_texts}
 use Rattle.dc_slots.specs.Chains.{has, walk, IsWalk, EndsAt}
 use Rattle.dc_slots.specs.Slots.{list_of, with_at, without, if_any}
-use Rattle.dc_slots.specs.Links.{link_at, next_of, next_in, slot_of, slot_in, links_from, slots_from, slots_by_owner, IsLinkedAs, list_with, list_between, with_next, linked, IsJoined, IsPlace, IsUnlinked, first_after, last_after, AreLinked}
+use Rattle.dc_slots.specs.Links.{link_at, next_of, next_in, slot_of, slot_in, links_from, slots_from, slots_by_owner, IsLinkedAs, list_with, list_between, with_next, linked, IsJoined, IsPlace, IsUnlinked, first_after, last_after, AreLinked, AreWalked}
 use Rattle.dc_slots.specs.declared.owner_lists.Link.{Link}
 use Rattle.dc_slots.specs.declared.owner_lists.OwnerList.{OwnerList}
 use Rattle.dc_slots.specs.declared.owner_lists.Place.{Place}
 use Rattle.dc_slots.proofs.KeyLemmas.{cases_key, insert-here, insert-other, remove-here, remove-other, is_insert, is_remove}
-use Rattle.dc_slots.proofs.ChainLemmas.{walk_within, walk_is, walk_same, walk_pushed, walk_cut, walk_behind, length_walk, ends_pushed, ends_before, ends_behind_front, numbers_equiv, has_head, has_tail, has_last, or_first, or_second, has_pushed, has_push, has_end, has_append, has_cut, has_uncut, has_middle, not_in_front, not_in_back, not_in_cut, distinct_cut, distinct_back, first_apart, apart, no_end, not_both, neither, either, tied, untied}
+use Rattle.dc_slots.proofs.ChainLemmas.{each_same, walk_none, walk_within, walk_is, walk_same, walk_pushed, walk_cut, walk_behind, length_walk, ends_pushed, ends_before, ends_behind_front, numbers_equiv, has_head, has_tail, has_last, or_first, or_second, has_pushed, has_push, has_end, has_append, has_cut, has_uncut, has_middle, not_in_front, not_in_back, not_in_cut, distinct_cut, distinct_back, first_apart, apart, no_end, not_both, neither, either, tied, untied}
 
 -- ---- what is seen of the links
 
@@ -47,12 +47,6 @@ shown links lists = slots_by_owner links (entries lists)
 
 found : (links : List (Option Link)) (lists : Texts OwnerList) (q : List ℕ) → get (shown links lists) q ≡ seen links (get lists q)
 found links lists q = slots_found links (entries lists) q ∙ ap (seen links) (sym (get-entries lists q))
-
--- ---- lists of numbers
-
-pub each_same : {X : Type 0} (f g : ℕ → X) (ns : List ℕ) → ((n : ℕ) → has n ns ≡ true → f n ≡ g n) → each f ns ≡ each g ns
-each_same f g [] same = refl
-each_same f g (n ∷ ns) same = λ i. same n (has_head n ns) i ∷ each_same f g ns (λ m there. same m (has_tail m n ns there)) i
 
 -- ---- lists of owners
 
@@ -152,13 +146,14 @@ module _ (links later : List (Option Link)) (lists after : Texts OwnerList) (own
     by : (o : Option OwnerList) → get lists owner ≡ o → IsLinkedAs links o (h.chain owner) → IsLinkedAs later (Some (list_with o j.number)) (h.chain owner ++ j.number ∷ [])
     by None is none = subst (λ ns. IsLinkedAs later (Some (list_with None j.number)) (ns ++ j.number ∷ [])) (sym none) ((refl, ap next_of j.here), refl)
     by (Some l) is walked =
-        let named : next_in later l.last ≡ Some j.number = ap next_of (j.named l is) ∙ named_next (link_at links l.last) (h.kept owner l.last (has_end (h.chain owner) l.last walked.1)) in
-        (walk_pushed (next_in links) (next_in later) (Some l.first) (h.chain owner) l.last j.number walked.0 walked.1 (h.distinct owner) (new_out owner) named (ap next_of j.here)
-        (λ m not_last new. ap next_of (j.others m new (λ k found same. not_last (same ∙ ap (λ (o : OwnerList). o.last) (let e : k ≡ l = cc in e))))),
-        ends_pushed (h.chain owner) j.number) where
-      named_next : (o : Option Link) → is_some o ≡ true → next_of (with_next o (Some j.number)) ≡ Some j.number
-      named_next None e = absurd (cc)
-      named_next (Some link) e = refl
+        let named : next_in later l.last ≡ Some j.number = ap next_of (j.named l is) ∙ named_next (link_at links l.last) (h.kept owner l.last (has_end (h.chain owner) l.last walked.1)) in (
+          walk_pushed (next_in links) (next_in later) (Some l.first) (h.chain owner) l.last j.number walked.0 walked.1 (h.distinct owner) (new_out owner) named (ap next_of j.here)
+              (λ m not_last new. ap next_of (j.others m new (λ k found same. not_last (same ∙ ap (λ (o : OwnerList). o.last) (let e : k ≡ l = cc in e))))),
+          ends_pushed (h.chain owner) j.number,
+        ) where
+          named_next : (o : Option Link) → is_some o ≡ true → next_of (with_next o (Some j.number)) ≡ Some j.number
+          named_next None e = absurd (cc)
+          named_next (Some link) e = refl
 
   linked_other : (q : List ℕ) → q ≢ owner → IsLinkedAs later (get lists q) (h.chain q)
   linked_other q differ = linked_same links later (get lists q) (h.chain q) (λ n there. j.others n (not_new q n there) (λ l is same. differ (h.apart q owner n there (ap (λ m. has m (h.chain owner)) same ∙ last_there l is)))) (h.linked q)
@@ -181,14 +176,20 @@ module _ (links later : List (Option Link)) (lists after : Texts OwnerList) (own
       | inr old ↦ kept_old n (not_new q n old) ∙ h.kept q n old
     ];
     whole = λ n there. elim (cases_eq n j.number) [
-      | inl new ↦ (owner, elim (same_text owner owner) as (λ s. has n (pick s (h.chain owner ++ j.number ∷ []) (h.chain owner)) ≡ true) [
-        | inl same ↦ ap (λ m. has m (h.chain owner ++ j.number ∷ [])) new ∙ has_last (h.chain owner) j.number
-        | inr differ ↦ absurd (differ refl)
-      ])
-      | inr old ↦ let place = h.whole n (sym (kept_old n old) ∙ there) in (place.0, elim (same_text place.0 owner) as (λ s. has n (pick s (h.chain owner ++ j.number ∷ []) (h.chain place.0)) ≡ true) [
-        | inl same ↦ has_push n (h.chain owner) j.number (ap (λ o. has n (h.chain o)) (sym same) ∙ place.1)
-        | inr differ ↦ place.1
-      ])
+      | inl new ↦ (
+        owner,
+        elim (same_text owner owner) as (λ s. has n (pick s (h.chain owner ++ j.number ∷ []) (h.chain owner)) ≡ true) [
+          | inl same ↦ ap (λ m. has m (h.chain owner ++ j.number ∷ [])) new ∙ has_last (h.chain owner) j.number
+          | inr differ ↦ absurd (differ refl)
+        ],
+      )
+      | inr old ↦ let place = h.whole n (sym (kept_old n old) ∙ there) in (
+        place.0,
+        elim (same_text place.0 owner) as (λ s. has n (pick s (h.chain owner ++ j.number ∷ []) (h.chain place.0)) ≡ true) [
+          | inl same ↦ has_push n (h.chain owner) j.number (ap (λ o. has n (h.chain o)) (sym same) ∙ place.1)
+          | inr differ ↦ place.1
+        ],
+      )
     ];
     apart = λ q r n in_q in_r. elim (member q n in_q) [
       | inl new ↦ elim (member r n in_r) [
@@ -336,14 +337,16 @@ module _ (links later : List (Option Link)) (lists after : Texts OwnerList) (own
       → ((n : ℕ) → n ≢ number → link_at later n ≡ link_at links n) → IsLinkedAs later (list_between (first_after None next l.first) (last_after None next l.last)) (front ++ back)
   cut_first front back next none next_is distinct walks ends same =
       subst (λ f. IsLinkedAs later (list_between (first_after None next l.first) (last_after None next l.last)) (f ++ back)) (sym none) (by next back next_is distinct walks ends) where
-    by : (next : Option ℕ) (back : List ℕ) → next ≡ next_in links number → IsDistinct nat_eq (number ∷ back) → IsWalk (next_in links) (next_in links number) back → EndsAt (number ∷ back) (Some l.last)
-        → IsLinkedAs later (list_between (first_after None next l.first) (last_after None next l.last)) back
-    by None [] next_is distinct walks ends = refl
-    by None (k ∷ back) next_is distinct walks ends = let e : None ≡ Some k = next_is ∙ walks.0 in absurd (cc)
-    by (Some n) [] next_is distinct walks ends = let e : Some n ≡ None = next_is ∙ walks in absurd (cc)
-    by (Some n) (k ∷ back) next_is distinct walks ends =
-        (walk_same (next_in links) (next_in later) (Some n) (k ∷ back) (λ m there. ap next_of (same m (apart m number (k ∷ back) there (first_apart nat_eq number (k ∷ back) distinct))))
-        (subst (λ o. IsWalk (next_in links) o (k ∷ back)) (sym next_is) walks), ends)
+        by : (next : Option ℕ) (back : List ℕ) → next ≡ next_in links number → IsDistinct nat_eq (number ∷ back) → IsWalk (next_in links) (next_in links number) back → EndsAt (number ∷ back) (Some l.last)
+            → IsLinkedAs later (list_between (first_after None next l.first) (last_after None next l.last)) back
+        by None [] next_is distinct walks ends = refl
+        by None (k ∷ back) next_is distinct walks ends = let e : None ≡ Some k = next_is ∙ walks.0 in absurd (cc)
+        by (Some n) [] next_is distinct walks ends = let e : Some n ≡ None = next_is ∙ walks in absurd (cc)
+        by (Some n) (k ∷ back) next_is distinct walks ends = (
+          walk_same (next_in links) (next_in later) (Some n) (k ∷ back) (λ m there. ap next_of (same m (apart m number (k ∷ back) there (first_apart nat_eq number (k ∷ back) distinct))))
+              (subst (λ o. IsWalk (next_in links) o (k ∷ back)) (sym next_is) walks),
+          ends,
+        )
 
   cut_behind : (front back : List ℕ) (b : ℕ) (next : Option ℕ) → next ≡ next_in links number → EndsAt front (Some b) → IsWalk (next_in links) (next_in links number) back → EndsAt (number ∷ back) (Some l.last)
       → IsWalk (next_in later) (Some l.first) (front ++ back) → IsLinkedAs later (list_between (first_after (Some b) next l.first) (last_after (Some b) next l.last)) (front ++ back)
@@ -370,9 +373,9 @@ module _ (links later : List (Option Link)) (lists after : Texts OwnerList) (own
         (walk_cut (next_in links) (next_in later) (Some l.first) p.front b number p.back walks_whole.0 front_ends whole_distinct
         (ap next_of named ∙ next_named (link_at links b) (next_in links number) (h.kept owner b (before_there b front_ends)))
         (λ m not_before not_number. ap next_of (others m not_number not_before))) where
-      next_named : (o : Option Link) (next : Option ℕ) → is_some o ≡ true → next_of (with_next o next) ≡ next
-      next_named None next e = absurd (cc)
-      next_named (Some link) next e = refl
+          next_named : (o : Option Link) (next : Option ℕ) → is_some o ≡ true → next_of (with_next o next) ≡ next
+          next_named None next e = absurd (cc)
+          next_named (Some link) next e = refl
 
   was_there : (q : List ℕ) (n : ℕ) → has n (parted q) ≡ true → (has n (h.chain q) ≡ true) × (n ≢ number)
   was_there q n = elim (same_text q owner) as (λ s. has n (pick s left (h.chain q)) ≡ true → (has n (h.chain q) ≡ true) × (n ≢ number)) [
@@ -396,11 +399,13 @@ module _ (links later : List (Option Link)) (lists after : Texts OwnerList) (own
     kept = λ q n there. let was = was_there q n there in kept_left n was.1 ∙ h.kept q n was.0;
     whole = λ n there.
         let differ : n ≢ number = (λ same. not_both (is_some (link_at later n)) there (ap (λ m. is_some (link_at later m)) same ∙ ap is_some u.gone)) in
-        let place : (q : List ℕ) × (has n (h.chain q) ≡ true) = h.whole n (sym (kept_left n differ) ∙ there) in
-        (place.0, elim (same_text place.0 owner) as (λ s. has n (pick s left (h.chain place.0)) ≡ true) [
-          | inl same ↦ has_uncut n p.front p.back number differ (ap (has n) (sym p.split) ∙ ap (λ o. has n (h.chain o)) (sym same) ∙ place.1)
-          | inr apart ↦ place.1
-        ]);
+        let place : (q : List ℕ) × (has n (h.chain q) ≡ true) = h.whole n (sym (kept_left n differ) ∙ there) in (
+          place.0,
+          elim (same_text place.0 owner) as (λ s. has n (pick s left (h.chain place.0)) ≡ true) [
+            | inl same ↦ has_uncut n p.front p.back number differ (ap (has n) (sym p.split) ∙ ap (λ o. has n (h.chain o)) (sym same) ∙ place.1)
+            | inr apart ↦ place.1
+          ],
+        );
     apart = λ q r n in_q in_r. h.apart q r n (was_there q n in_q).0 (was_there r n in_r).0;
     distinct = λ q. elim (same_text q owner) as (λ s. IsDistinct nat_eq (pick s left (h.chain q))) [
       | inl same ↦ distinct_cut nat_eq p.front p.back number whole_distinct
@@ -603,3 +608,51 @@ pub told : (links : List (Option Link)) (ns : List ℕ) (slot : ℕ) (there : Bo
     → ((before : Option ℕ) (number : ℕ) → IsPlace links ns slot before number → there ≡ true) → is_some o ≡ there
 told links ns slot there None none is = sym none
 told links ns slot there (Some p) place is = sym (is p.before p.number place)
+
+-- ---- a walk over a list
+
+pub walked_whole : (links : List (Option Link)) (lists : Texts OwnerList) (h : AreLinked links lists) (owner : List ℕ) → AreWalked links (option_map (λ l. l.first) (get lists owner))
+walked_whole links lists h owner = by (get lists owner) (h.linked owner) where
+  by : (o : Option OwnerList) → IsLinkedAs links o (h.chain owner) → AreWalked links (option_map (λ l. l.first) o)
+  by None is = record { numbers = h.chain owner; walks = subst (λ ns. IsWalk (next_in links) None ns) (sym is) refl; kept = h.kept owner; distinct = h.distinct owner }
+  by (Some l) is = record { numbers = h.chain owner; walks = is.0; kept = h.kept owner; distinct = h.distinct owner }
+
+walked_are : (links : List (Option Link)) (from : Option ℕ) (w : AreWalked links from) → links_from links from ≡ w.numbers
+walked_are links from w = links_are links from w.numbers w.walks w.distinct w.kept
+
+pub slots_whole : (links : List (Option Link)) (lists : Texts OwnerList) (h : AreLinked links lists) (owner : List ℕ) → slots_from links (option_map (λ l. l.first) (get lists owner)) ≡ list_of (shown links lists) owner
+slots_whole links lists h owner = by (get lists owner) refl where
+  by : (o : Option OwnerList) → get lists owner ≡ o → slots_from links (option_map (λ l. l.first) o) ≡ list_of (shown links lists) owner
+  by None none = ap (each (slot_in links)) (walk_none (next_in links) (length links)) ∙ sym (list_shown links lists h owner ∙ ap (each (slot_in links)) (subst (λ o. IsLinkedAs links o (h.chain owner)) none (h.linked owner)))
+  by (Some l) is = sym (list_shown links lists h owner ∙ ap (each (slot_in links)) (sym (walked_links links lists h owner l is)))
+
+pub slots_none : (links : List (Option Link)) (from : Option ℕ) → from ≡ None → slots_from links from ≡ []
+slots_none links from none = ap (slots_from links) none ∙ ap (each (slot_in links)) (walk_none (next_in links) (length links))
+
+-- what is left where the first was walked
+pub record AreStepped (links : List (Option Link)) (from next : Option ℕ) (slot : ℕ) : Type 0 where
+  pub walked : AreWalked links next
+  pub named : slots_from links from ≡ slot ∷ slots_from links next
+
+walk_rest : (next : ℕ → Option ℕ) (from : Option ℕ) (n : ℕ) (ns : List ℕ) → from ≡ Some n → IsWalk next from ns → (rest : List ℕ) × (ns ≡ n ∷ rest) × IsWalk next (next n) rest
+walk_rest next from n [] is walks = let e : None ≡ Some n = sym walks ∙ is in absurd (cc)
+walk_rest next from n (k ∷ ns) is walks =
+    let e : k ≡ n = (let f : Some k ≡ Some n = sym walks.0 ∙ is in cc) in
+    (ns, ap (λ j. j ∷ ns) e, subst (λ j. IsWalk next (next j) ns) e walks.1)
+
+pub walk_kept : (links : List (Option Link)) (from : Option ℕ) (n : ℕ) → AreWalked links from → from ≡ Some n → is_some (link_at links n) ≡ true
+walk_kept links from n w is = let rest = walk_rest (next_in links) from n w.numbers is w.walks in w.kept n (ap (has n) rest.1 ∙ has_head n rest.0)
+
+pub walk_steps : (links : List (Option Link)) (from : Option ℕ) (n : ℕ) (one : Link) → AreWalked links from → from ≡ Some n → link_at links n ≡ Some one → AreStepped links from one.next one.slot
+walk_steps links from n one w is at =
+    let rest = walk_rest (next_in links) from n w.numbers is w.walks in
+    let later : AreWalked links one.next = record {
+      numbers = rest.0;
+      walks = subst (λ o. IsWalk (next_in links) o rest.0) (ap next_of at) rest.2;
+      kept = λ m there. w.kept m (ap (has m) rest.1 ∙ has_tail m n rest.0 there);
+      distinct = IsDistinct-tail nat_eq n rest.0 (subst (IsDistinct nat_eq) rest.1 w.distinct);
+    } in
+    record {
+      walked = later;
+      named = ap (each (slot_in links)) (walked_are links from w ∙ rest.1) ∙ (λ i. slot_of (at i) ∷ each (slot_in links) (sym (walked_are links one.next later) i));
+    }

@@ -16,8 +16,8 @@ use Rattle.dc_slots.specs.Slots.{Slots, list_of, with_at, without, put_last, if_
 use Rattle.dc_slots.specs.Numbered.{Kept, Numbered, IsKept, name_in, value_in, owners_in, name_at, value_at, owners_at, with_kept, with_value, with_owners, is_used}
 use Rattle.dc_slots.specs.Parts.{values_of, lists_of, table_of, one_if, count_in, AreTied, AreSound, IsPlaced, IsReleased}
 use Rattle.dc_slots.proofs.KeyLemmas.{cases_key, insert-here, insert-other, remove-here, remove-other, is_insert, is_remove}
-use Rattle.dc_slots.proofs.ChainLemmas.{has_head, has_tail, has_last, has_pushed, has_push, lacks_push, not_both, neither, either, tied, untied, or_first, or_second}
-use Rattle.dc_slots.proofs.LinkLemmas.{each_same, with-here, with-other, is_with, with_same}
+use Rattle.dc_slots.proofs.ChainLemmas.{each_same, has_head, has_tail, has_last, has_pushed, has_push, lacks_push, not_both, neither, either, tied, untied, or_first, or_second}
+use Rattle.dc_slots.proofs.LinkLemmas.{with-here, with-other, is_with, with_same}
 use Rattle.dc_slots.proofs.TableLemmas.{at_number, get-values, get-lists, list_of-lists, count_with, count_insert, listed_is_counted, unlisted_is_uncounted}
 use Rattle.dc_slots.proofs.TiedLemmas.{put-here, put-other, stays_put, kept_put, was_kept, own_number, same_has, same_without, names_stay, lists_stay, values_stay, AreUsedBut, IsNearly, yes_or_no}
 use Rattle.dc_slots.proofs.TiedLemmas.{nearly_sound, sound_nearly, IsSeen}
@@ -168,9 +168,9 @@ module _ {T : Type 0} (places later : Texts ℕ) (s after : Numbered T) (lists :
       let apart : (m : ℕ) → IsKept x m → m ≢ n = (λ m there same. not_both (is_some (get x.kept m)) there (ap (λ j. is_some (get x.kept j)) same ∙ ap is_some (remove-here nat_cmp_total nat_cmp-IsAntisymmetric s.kept n))) in
       let old : (m : ℕ) → IsKept x m → IsKept s m = (λ m there. sym (ap is_some (stays m (apart m there))) ∙ there) in
       let unlisted : (q : List ℕ) (m : ℕ) → has m (list_of lists q) ≡ true → m ≢ n = (λ q m there same.
-          let counted : 0 < count_in n (entries lists) = listed_is_counted n lists q (ap (λ j. has j (list_of lists q)) (sym same) ∙ there) in
-          let none : count_in n (entries lists) ≡ 0 = sym (t.counted n at) ∙ parts.2 in
-          omega arith) in
+      let counted : 0 < count_in n (entries lists) = listed_is_counted n lists q (ap (λ j. has j (list_of lists q)) (sym same) ∙ there) in
+      let none : count_in n (entries lists) ≡ 0 = sym (t.counted n at) ∙ parts.2 in
+      omega arith) in
       let untouched : (m : ℕ) → has m s.touched ≡ true → m ≢ n = (λ m there same. not_both (has m s.touched) there (ap (λ j. has j s.touched) same ∙ parts.1)) in
       let values : values_of (value_at x) (entries less) ≡ values_of (value_at s) (entries places)
       = same_map nat_list_cmp_total exact_texts _ _ (λ q. get-values (value_at x) less q ∙ elim (same_text q (name_at s n)) [
@@ -178,24 +178,26 @@ module _ {T : Type 0} (places later : Texts ℕ) (s after : Numbered T) (lists :
         | inr differ ↦ ap (at_number (value_at x)) (other q differ) ∙ by t q differ (get places q) refl
       ] ∙ sym (get-values (value_at s) places q)) in
       let touched : each (name_at x) s.touched ≡ each (name_at s) s.touched = names_stay s x s.touched (λ m there. ap name_in (stays m (untouched m there))) in
-      let owned : lists_of (name_at x) (entries lists) ≡ lists_of (name_at s) (entries lists) = lists_stay s x lists (λ q m there. ap name_in (stays m (unlisted q m there))) in
-      (record {
-        tied = record {
-          named = λ q m is.
-              let not_name : q ≢ name_at s n = (λ same. let e : None ≡ Some m = sym (ap (get less) same ∙ here) ∙ is in absurd (cc)) in
-              let was : IsKept s m × (name_at s m ≡ q) = t.named q m (sym (other q not_name) ∙ is) in
-              let differ : m ≢ n = (λ same. not_name (sym was.1 ∙ ap (name_at s) same)) in
-              (ap is_some (stays m differ) ∙ was.0, ap name_in (stays m differ) ∙ was.1);
-          placed = λ m there.
-              let differ : m ≢ n = apart m there in
-              ap (λ o. get less (name_in o)) (stays m differ) ∙ other (name_at s m) (λ same. differ (own_number places s lists t m n (old m there) at same)) ∙ t.placed m (old m there);
-          touched = λ m there. ap is_some (stays m (untouched m there)) ∙ t.touched m there;
-          listed = λ q m there. ap is_some (stays m (unlisted q m there)) ∙ t.listed q m there;
-          full = t.full;
-          counted = λ m there. ap owners_in (stays m (apart m there)) ∙ t.counted m (old m there);
-        };
-        used = λ m there. ap (λ o. is_some (value_in o) || (has m s.touched || not (owners_in o == 0))) (stays m (apart m there)) ∙ near.used m (apart m there) (old m there);
-      }, (λ i. record { values = values i; touched = touched i; owned = owned i }) ∙ near.shown) where
+      let owned : lists_of (name_at x) (entries lists) ≡ lists_of (name_at s) (entries lists) = lists_stay s x lists (λ q m there. ap name_in (stays m (unlisted q m there))) in (
+        record {
+          tied = record {
+            named = λ q m is.
+                let not_name : q ≢ name_at s n = (λ same. let e : None ≡ Some m = sym (ap (get less) same ∙ here) ∙ is in absurd (cc)) in
+                let was : IsKept s m × (name_at s m ≡ q) = t.named q m (sym (other q not_name) ∙ is) in
+                let differ : m ≢ n = (λ same. not_name (sym was.1 ∙ ap (name_at s) same)) in
+                (ap is_some (stays m differ) ∙ was.0, ap name_in (stays m differ) ∙ was.1);
+            placed = λ m there.
+                let differ : m ≢ n = apart m there in
+                ap (λ o. get less (name_in o)) (stays m differ) ∙ other (name_at s m) (λ same. differ (own_number places s lists t m n (old m there) at same)) ∙ t.placed m (old m there);
+            touched = λ m there. ap is_some (stays m (untouched m there)) ∙ t.touched m there;
+            listed = λ q m there. ap is_some (stays m (unlisted q m there)) ∙ t.listed q m there;
+            full = t.full;
+            counted = λ m there. ap owners_in (stays m (apart m there)) ∙ t.counted m (old m there);
+          };
+          used = λ m there. ap (λ o. is_some (value_in o) || (has m s.touched || not (owners_in o == 0))) (stays m (apart m there)) ∙ near.used m (apart m there) (old m there);
+        },
+        (λ i. record { values = values i; touched = touched i; owned = owned i }) ∙ near.shown,
+      ) where
         by : AreTied places s lists → (q : List ℕ) → q ≢ name_at s n → (o : Option ℕ) → get places q ≡ o → at_number (value_at (record s { kept = remove s.kept n })) o ≡ at_number (value_at s) o
         by t q differ None found = refl
         by t q differ (Some m) found = ap value_in (remove-other nat_cmp_total nat_cmp-IsAntisymmetric s.kept n m (λ same. differ (sym (t.named q m found).1 ∙ ap (name_at s) same)))

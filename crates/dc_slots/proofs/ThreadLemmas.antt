@@ -1,5 +1,5 @@
 -- What becomes of the touched slots where a slot is put, changed or taken away.
-use Rattle.std.proofs.Common.{◌≡◌, ◌≢◌, ◌⊎◌, ℕ, zero, suc, ◌+◌, ◌<◌, ◌≤◌, Bool, true, false, cond, List, [], ◌∷◌, ◌++◌, length, get_or, nat_eq, Option, Some, None, refl, sym, ap, ◌∙◌, subst, inl, inr, arith}
+use Rattle.std.proofs.Common.{◌≡◌, ◌≢◌, ◌⊎◌, ℕ, zero, suc, ◌+◌, ◌<◌, ◌≤◌, Bool, true, false, cond, List, [], ◌∷◌, ◌++◌, length, get_or, nat_eq, map as each, Option, Some, None, refl, sym, ap, ◌∙◌, subst, inl, inr, arith}
 use Rattle.std.specs.Prelude.{is_some, slice_set, ◌||◌, MatchOption}
 use Rattle.std.specs.List.{IsDistinct}
 use Rattle.std.specs.Ordering.{nat_cmp}
@@ -9,11 +9,11 @@ use Rattle.std.proofs.lemmas.Bool.{cases_eq, eq-eqb}
 use Rattle.std.proofs.lemmas.List.{get_or_past, get_or-set_same, get_or-set_other, set-get_or}
 use Rattle.std.proofs.lemmas.Map.Keys.{IsDistinct-tail, IsDistinct-push}
 use Rattle.dc_slots.specs.Chains.{has, walk, IsWalk, EndsAt}
-use Rattle.dc_slots.specs.Numbered.{Kept, Numbered, with_kept}
-use Rattle.dc_slots.specs.Threads.{slot_at, next_of, next_in, kept_of, with_number, kept_from, touched_from, IsThreaded, last_behind, first_before, with_next, linked, IsChangedAt}
+use Rattle.dc_slots.specs.Numbered.{Kept, Numbered, name_in, name_at, with_kept}
+use Rattle.dc_slots.specs.Threads.{slot_at, next_of, next_in, kept_of, with_number, kept_from, touched_from, IsThreaded, last_behind, first_before, with_next, linked, IsChangedAt, name_of, names_from, IsWalked}
 use Rattle.dc_slots.specs.declared.slot_vector.Slot.{Slot}
 use Rattle.dc_slots.proofs.KeyLemmas.{insert-here, insert-other, remove-here, remove-other, is_insert, is_remove}
-use Rattle.dc_slots.proofs.ChainLemmas.{walk_within, walk_same, walk_pushed, ends_pushed, numbers_equiv, has_pushed, lacks_pushed, has_head, has_tail, first_apart, apart, has_end, no_end, last_alone, not_both, neither, either, untied}
+use Rattle.dc_slots.proofs.ChainLemmas.{each_same, walk_none, walk_within, walk_same, walk_pushed, ends_pushed, numbers_equiv, has_pushed, lacks_pushed, has_head, has_tail, first_apart, apart, has_end, no_end, last_alone, not_both, neither, either, untied}
 
 pub some_of : {X : Type 0} (o : Option X) → is_some o ≡ true → (x : X) × (o ≡ Some x)
 some_of None e = absurd (cc)
@@ -145,18 +145,20 @@ module _ {T : Type 0} where
   threads_pushed slots first None n h there new =
       let none : h.touched ≡ [] = no_end h.touched h.ends in
       let start : first ≡ None = subst (λ l. IsWalk (next_in slots) first l) none h.walks in
-      let alone : n ∷ [] ≡ h.touched ++ n ∷ [] = ap (λ l. l ++ n ∷ []) (sym none) in
-      (record {
-        touched = h.touched ++ n ∷ [];
-        walks = subst (λ l. IsWalk (next_in slots) (first_before first n) l) alone (ap (λ f. first_before f n) start, h.others n new);
-        ends = ends_pushed h.touched n;
-        kept = λ m e. elim (has_pushed m h.touched n e) [
-          | inl same ↦ ap (λ k. is_some (slot_at slots k)) same ∙ there
-          | inr old ↦ h.kept m old
-        ];
-        others = λ m e. h.others m (lacks_pushed m h.touched n e).1;
-        distinct = IsDistinct-push numbers_equiv h.touched n h.distinct new;
-      }, refl)
+      let alone : n ∷ [] ≡ h.touched ++ n ∷ [] = ap (λ l. l ++ n ∷ []) (sym none) in (
+        record {
+          touched = h.touched ++ n ∷ [];
+          walks = subst (λ l. IsWalk (next_in slots) (first_before first n) l) alone (ap (λ f. first_before f n) start, h.others n new);
+          ends = ends_pushed h.touched n;
+          kept = λ m e. elim (has_pushed m h.touched n e) [
+            | inl same ↦ ap (λ k. is_some (slot_at slots k)) same ∙ there
+            | inr old ↦ h.kept m old
+          ];
+          others = λ m e. h.others m (lacks_pushed m h.touched n e).1;
+          distinct = IsDistinct-push numbers_equiv h.touched n h.distinct new;
+        },
+        refl,
+      )
   threads_pushed slots first (Some last) n h there new =
       let last_in : has last h.touched ≡ true = has_end h.touched last h.ends in
       let last_kept : is_some (slot_at slots last) ≡ true = h.kept last last_in in
@@ -165,18 +167,20 @@ module _ {T : Type 0} where
       let changed : IsChangedAt slots later last (with_next (slot_at slots last) (Some n)) = written slots last _ last_kept in
       let differ : n ≢ last = λ e. not_both (has n h.touched) (ap (λ k. has k h.touched) e ∙ last_in) new in
       let named : next_in later last ≡ Some n = ap next_of changed.here ∙ ap (λ o. next_of (with_next o (Some n))) s.1 in
-      let same : (m : ℕ) → m ≢ last → next_in later m ≡ next_in slots m = (λ m e. ap next_of (changed.others m e)) in
-      (record {
-        touched = h.touched ++ n ∷ [];
-        walks = start (next_in later) first h.touched h.ends h.walks (walk_pushed (next_in slots) (next_in later) first h.touched last n h.walks h.ends h.distinct new named (same n differ ∙ h.others n new) (λ m e _. same m e));
-        ends = ends_pushed h.touched n;
-        kept = λ m e. kept_stays slots later last _ changed (ap (λ o. is_some (with_next o (Some n))) s.1) m (elim (has_pushed m h.touched n e) [
-          | inl is ↦ ap (λ k. is_some (slot_at slots k)) is ∙ there
-          | inr old ↦ h.kept m old
-        ]);
-        others = λ m e. let off = lacks_pushed m h.touched n e in same m (λ is. not_both (has m h.touched) (ap (λ k. has k h.touched) is ∙ last_in) off.1) ∙ h.others m off.1;
-        distinct = IsDistinct-push numbers_equiv h.touched n h.distinct new;
-      }, refl) where
+      let same : (m : ℕ) → m ≢ last → next_in later m ≡ next_in slots m = (λ m e. ap next_of (changed.others m e)) in (
+        record {
+          touched = h.touched ++ n ∷ [];
+          walks = start (next_in later) first h.touched h.ends h.walks (walk_pushed (next_in slots) (next_in later) first h.touched last n h.walks h.ends h.distinct new named (same n differ ∙ h.others n new) (λ m e _. same m e));
+          ends = ends_pushed h.touched n;
+          kept = λ m e. kept_stays slots later last _ changed (ap (λ o. is_some (with_next o (Some n))) s.1) m (elim (has_pushed m h.touched n e) [
+            | inl is ↦ ap (λ k. is_some (slot_at slots k)) is ∙ there
+            | inr old ↦ h.kept m old
+          ]);
+          others = λ m e. let off = lacks_pushed m h.touched n e in same m (λ is. not_both (has m h.touched) (ap (λ k. has k h.touched) is ∙ last_in) off.1) ∙ h.others m off.1;
+          distinct = IsDistinct-push numbers_equiv h.touched n h.distinct new;
+        },
+        refl,
+      ) where
         start : (f : ℕ → Option ℕ) (from : Option ℕ) (ns : List ℕ) → EndsAt ns (Some last) → IsWalk (next_in slots) from ns → IsWalk f from (ns ++ n ∷ []) → IsWalk f (first_before from n) (ns ++ n ∷ [])
         start f from [] ends walks walked = absurd (cc)
         start f from (k ∷ ns) ends walks walked = subst (λ o. IsWalk f o (k ∷ ns ++ n ∷ [])) (walks.0 ∙ ap (λ o. first_before o n) (sym walks.0)) walked
@@ -194,18 +198,21 @@ module _ {T : Type 0} where
       let later : List (Option (Slot T)) = slice_set slots n (Some (record s { next_touched = None })) in
       let changed : IsChangedAt slots later n (Some (record s { next_touched = None })) = written slots n _ there in
       let named : next_in slots n ≡ s.next_touched = ap next_of at in
-      let same : (m : ℕ) → m ≢ n → next_in later m ≡ next_in slots m = (λ m e. ap next_of (changed.others m e)) in
-      (record {
-        touched = ns;
-        walks = subst (λ o. IsWalk (next_in later) o ns) named (walk_same (next_in slots) (next_in later) (next_in slots n) ns (λ m in_it. same m (apart m n ns in_it out)) rest.2);
-        ends = subst (λ o. EndsAt ns (last_behind o last)) named (ends_behind (next_in slots) n ns last rest.2 (subst (λ l. EndsAt l last) rest.1 h.ends));
-        kept = λ m e. kept_stays slots later n _ changed refl m (h.kept m (ap (has m) rest.1 ∙ has_tail m n ns e));
-        others = λ m e. elim (cases_eq m n) [
-          | inl here ↦ ap (next_in later) here ∙ ap next_of changed.here
-          | inr differ ↦ same m differ ∙ h.others m (ap (has m) rest.1 ∙ lacks_both ns m differ e)
-        ];
-        distinct = IsDistinct-tail nat_eq n ns distinct;
-      }, rest.1, out) where
+      let same : (m : ℕ) → m ≢ n → next_in later m ≡ next_in slots m = (λ m e. ap next_of (changed.others m e)) in (
+        record {
+          touched = ns;
+          walks = subst (λ o. IsWalk (next_in later) o ns) named (walk_same (next_in slots) (next_in later) (next_in slots n) ns (λ m in_it. same m (apart m n ns in_it out)) rest.2);
+          ends = subst (λ o. EndsAt ns (last_behind o last)) named (ends_behind (next_in slots) n ns last rest.2 (subst (λ l. EndsAt l last) rest.1 h.ends));
+          kept = λ m e. kept_stays slots later n _ changed refl m (h.kept m (ap (has m) rest.1 ∙ has_tail m n ns e));
+          others = λ m e. elim (cases_eq m n) [
+            | inl here ↦ ap (next_in later) here ∙ ap next_of changed.here
+            | inr differ ↦ same m differ ∙ h.others m (ap (has m) rest.1 ∙ lacks_both ns m differ e)
+          ];
+          distinct = IsDistinct-tail nat_eq n ns distinct;
+        },
+        rest.1,
+        out,
+      ) where
         lacks_both : (ns : List ℕ) (m : ℕ) → m ≢ n → has m ns ≡ false → has m (n ∷ ns) ≡ false
         lacks_both ns m differ e = (λ i. untied m n differ i || e i)
 
@@ -313,7 +320,12 @@ module _ {T : Type 0} where
   -- where there is none
   pub none_threaded : (slots : List (Option (Slot T))) → slots ≡ [] → IsThreaded slots None None
   none_threaded slots is = subst (λ l. IsThreaded l None None) (sym is) (record {
-    touched = []; walks = refl; ends = refl; kept = λ n e. absurd (cc); others = λ n e. refl; distinct = none_twice;
+    touched = [];
+    walks = refl;
+    ends = refl;
+    kept = λ n e. absurd (cc);
+    others = λ n e. refl;
+    distinct = none_twice;
   })
 
   -- ---- what is left where the first isn't touched any more
@@ -356,3 +368,46 @@ module _ {T : Type 0} where
     | true ↦ λ e. absurd (not_both (is_some (slot_at slots n)) (h.kept n e) (ap is_some vacant))
     | false ↦ λ e. refl
   ] refl
+
+  -- ---- a walk over the touched slots
+
+  pub walked_whole : (slots : List (Option (Slot T))) (first last : Option ℕ) → IsThreaded slots first last → IsWalked slots first
+  walked_whole slots first last h = record { numbers = h.touched; walks = h.walks; kept = h.kept; distinct = h.distinct }
+
+  walked_is : (slots : List (Option (Slot T))) (from : Option ℕ) (w : IsWalked slots from) → touched_from slots from ≡ w.numbers
+  walked_is slots from w = walk_within (next_in slots) from w.numbers (length slots) w.walks w.distinct (λ n there. within slots n (w.kept n there))
+
+  pub names_whole : (s : Numbered T) (slots : List (Option (Slot T))) (first : Option ℕ) → view_of slots first ≡ s → names_from slots first ≡ each (name_at s) s.touched
+  names_whole s slots first is =
+      each_same (λ n. name_of (slot_at slots n)) (name_at s) (touched_from slots first) (λ n _. named (slot_at slots n) ∙ sym (ap name_in (opened s slots first n n is refl))) ∙ ap (λ v. each (name_at s) v.touched) is where
+        named : (o : Option (Slot T)) → name_of o ≡ name_in (seen o)
+        named None = refl
+        named (Some one) = refl
+
+  pub names_none : (slots : List (Option (Slot T))) (from : Option ℕ) → from ≡ None → names_from slots from ≡ []
+  names_none slots from none = ap (names_from slots) none ∙ ap (each (λ n. name_of (slot_at slots n))) (walk_none (next_in slots) (length slots))
+
+  -- what is left where the first was walked
+  pub record IsStepped (slots : List (Option (Slot T))) (from next : Option ℕ) (name : List ℕ) : Type 0 where
+    pub walked : IsWalked slots next
+    pub named : names_from slots from ≡ name ∷ names_from slots next
+
+  pub walk_kept : (slots : List (Option (Slot T))) (from : Option ℕ) (n : ℕ) → IsWalked slots from → from ≡ Some n → is_some (slot_at slots n) ≡ true
+  walk_kept slots from n w is =
+      let rest : (ns : List ℕ) × (w.numbers ≡ n ∷ ns) × IsWalk (next_in slots) (next_in slots n) ns = rest_of (next_in slots) from n w.numbers is w.walks in
+      w.kept n (ap (has n) rest.1 ∙ has_head n rest.0)
+
+  pub walk_steps : (slots : List (Option (Slot T))) (from : Option ℕ) (n : ℕ) (one : Slot T) → IsWalked slots from → from ≡ Some n → slot_at slots n ≡ Some one → IsStepped slots from one.next_touched one.name
+  walk_steps slots from n one w is at =
+      let rest : (ns : List ℕ) × (w.numbers ≡ n ∷ ns) × IsWalk (next_in slots) (next_in slots n) ns = rest_of (next_in slots) from n w.numbers is w.walks in
+      let named : next_in slots n ≡ one.next_touched = ap next_of at in
+      let later : IsWalked slots one.next_touched = record {
+        numbers = rest.0;
+        walks = subst (λ o. IsWalk (next_in slots) o rest.0) named rest.2;
+        kept = λ m there. w.kept m (ap (has m) rest.1 ∙ has_tail m n rest.0 there);
+        distinct = IsDistinct-tail nat_eq n rest.0 (subst (IsDistinct nat_eq) rest.1 w.distinct);
+      } in
+      record {
+        walked = later;
+        named = ap (each (λ m. name_of (slot_at slots m))) (walked_is slots from w ∙ rest.1) ∙ (λ i. name_of (at i) ∷ each (λ m. name_of (slot_at slots m)) (sym (walked_is slots one.next_touched later) i));
+      }

@@ -106,3 +106,10 @@ pub record AreLinked (links : List (Option Link)) (lists : Texts OwnerList) : Ty
   pub apart : (owner other : List ℕ) (n : ℕ) → has n (chain owner) ≡ true → has n (chain other) ≡ true → owner ≡ other
   pub distinct : (owner : List ℕ) → IsDistinct nat_eq (chain owner)
   pub slots : (owner : List ℕ) → IsDistinct nat_eq (each (slot_in links) (chain owner))
+
+-- from this number on the links of a list are walked to their end
+pub record AreWalked (links : List (Option Link)) (from : Option ℕ) : Type 0 where
+  pub numbers : List ℕ
+  pub walks : IsWalk (next_in links) from numbers
+  pub kept : (n : ℕ) → has n numbers ≡ true → is_some (link_at links n) ≡ true
+  pub distinct : IsDistinct nat_eq numbers

@@ -1,5 +1,5 @@
 -- How touched slots are linked in the vector of slots. No public clause cites this module.
-use Rattle.std.specs.Prelude.{◌≡◌, ◌≢◌, ℕ, suc, Bool, true, false, Option, Some, None, is_some, List, [], ◌∷◌, length, nat_eq, slice_index_or, slice_set}
+use Rattle.std.specs.Prelude.{◌≡◌, ◌≢◌, ℕ, suc, Bool, true, false, Option, Some, None, is_some, List, [], ◌∷◌, length, nat_eq, slice_index_or, slice_set, map as each}
 use Rattle.std.specs.List.{IsDistinct}
 use Rattle.std.specs.FinMap as map
 use Rattle.std.specs.Ordering.{nat_cmp}
@@ -66,3 +66,18 @@ module _ {T : Type 0} where
   pub record IsChangedAt (slots later : List (Option (Slot T))) (n : ℕ) (s : Option (Slot T)) : Type 0 where
     pub here : slot_at later n ≡ s
     pub others : (m : ℕ) → m ≢ n → slot_at later m ≡ slot_at slots m
+
+  abbrev pub name_of : Option (Slot T) → List ℕ
+  name_of None = []
+  name_of (Some s) = s.name
+
+  -- the names of the touched slots from this one on
+  abbrev pub names_from : List (Option (Slot T)) → Option ℕ → List (List ℕ)
+  names_from slots from = each (λ n. name_of (slot_at slots n)) (touched_from slots from)
+
+  -- from this number on the touched slots are walked to their end
+  pub record IsWalked (slots : List (Option (Slot T))) (from : Option ℕ) : Type 0 where
+    pub numbers : List ℕ
+    pub walks : IsWalk (next_in slots) from numbers
+    pub kept : (n : ℕ) → has n numbers ≡ true → is_some (slot_at slots n) ≡ true
+    pub distinct : IsDistinct nat_eq numbers

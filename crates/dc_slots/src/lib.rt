@@ -6,5 +6,5 @@ mod owner_lists;
 pub mod slot_table;
 mod slot_vector;
 
-pub use slot_table::SlotTable;
-
+pub use slot_table::{OwnedNames, SlotTable};
+pub use slot_vector::TouchedNames;

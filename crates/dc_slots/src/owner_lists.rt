@@ -1,5 +1,5 @@
 // The lists of slots that owners have, each linked from its first link to its last.
-ghost use Rattle.std.specs.Prelude.{◌≡◌, ◌≢◌, ◌∷◌, ◌++◌, ℕ, [], true, false, None, Some, is_some, IsSome, OnOk, OnErr, MatchOption, nat_eq, slice_set};
+ghost use Rattle.std.specs.Prelude.{◌≡◌, ◌≢◌, ◌∷◌, ◌++◌, ℕ, [], true, false, None, Some, is_some, IsSome, option_map, OnOk, OnErr, MatchOption, nat_eq, slice_set};
 ghost use Rattle.std.specs.FinMap as map;
 ghost use Rattle.dc_slots.specs.Chains.{has, IsWalk};
 ghost use Rattle.dc_slots.specs.Slots.{list_of, with_at, without, if_any};
@@ -94,6 +94,16 @@ impl OwnerLists {
         }
     }
 
+    /// The slots of the owner, in their order.
+    pub(crate) fn owned(&self, owner: &Name) -> OwnedSlots<'_>
+        ensures { result ≡ list_of self.now owner.now }
+    {
+        OwnedSlots {
+            links: &self.links,
+            next: first_of_list(&self.lists, owner),
+        }
+    }
+
     /// Puts the slot, which the owner hasn't, at the end of the owner's list.
     pub(crate) fn join(&mut self, owner: &Name, slot: SlotNumber) -> Mem<()>
         requires { has slot (list_of self.old owner.now) ≡ false }
@@ -122,6 +132,48 @@ impl OwnerLists {
         let last = last_after(place.before, &next, list.last);
         set_list(&mut self.lists, owner, first, last);
         true
+    }
+}
+
+/// The slots that are left of a walk of an owner's list, in their order.
+#[derive(Drop)]
+pub(crate) struct OwnedSlots<'a> {
+    links: &'a Slab<Link>,
+    next: Option<LinkNumber>,
+}
+
+impl<'a> Model for OwnedSlots<'a> {
+    ghost use Rattle.std.specs.Prelude.{List, ℕ};
+
+    ghost Value = { List ℕ };
+
+    ghost use Rattle.dc_slots.specs.Links.{slots_from, AreWalked};
+
+    ghost view = { λ w. slots_from w.links.now.slots w.next };
+
+    ghost invariant = { λ w. AreWalked w.links.now.slots w.next };
+}
+
+impl<'a> OwnedSlots<'a> {
+    /// The first slot that is left, which is left no more.
+    pub(crate) fn step(&mut self) -> Option<SlotNumber>
+        ensures { MatchOption result ((self.old ≡ []) × (self.new ≡ [])) (λ slot. self.old ≡ slot ∷ self.new) }
+    {
+        let number = self.next?;
+        let links = self.links;
+        let link = &links[number.number];
+        self.next = link.next;
+        Some(link.slot)
+    }
+}
+
+// The first link of the owner's list.
+fn first_of_list(lists: &TextMap<OwnerList>, owner: &Name) -> Option<LinkNumber>
+    ensures { result ≡ option_map (λ l. l.first) (map.get lists.now owner.now) }
+{
+    match lists.get(owner.bytes()) {
+        Some(list) => Some(list.first),
+        None => None,
     }
 }
 
@@ -211,7 +263,11 @@ fn link_over(links: &mut Slab<Link>, link: Option<LinkNumber>, next: &Option<Lin
     }
 }
 
-fn first_after(before: Option<LinkNumber>, next: &Option<LinkNumber>, first: LinkNumber) -> Option<LinkNumber>
+fn first_after(
+    before: Option<LinkNumber>,
+    next: &Option<LinkNumber>,
+    first: LinkNumber,
+) -> Option<LinkNumber>
     ensures { result ≡ first_of before next.now first }
 {
     match before {
@@ -220,7 +276,11 @@ fn first_after(before: Option<LinkNumber>, next: &Option<LinkNumber>, first: Lin
     }
 }
 
-fn last_after(before: Option<LinkNumber>, next: &Option<LinkNumber>, last: LinkNumber) -> Option<LinkNumber>
+fn last_after(
+    before: Option<LinkNumber>,
+    next: &Option<LinkNumber>,
+    last: LinkNumber,
+) -> Option<LinkNumber>
     ensures { result ≡ last_of before next.now last }
 {
     match next {
@@ -230,7 +290,12 @@ fn last_after(before: Option<LinkNumber>, next: &Option<LinkNumber>, last: LinkN
 }
 
 // Gives the owner the list from the one link to the other, or none.
-fn set_list(lists: &mut TextMap<OwnerList>, owner: &Name, first: Option<LinkNumber>, last: Option<LinkNumber>)
+fn set_list(
+    lists: &mut TextMap<OwnerList>,
+    owner: &Name,
+    first: Option<LinkNumber>,
+    last: Option<LinkNumber>,
+)
     requires { IsSome (map.get lists.old owner.now) }
     ensures { lists.new ≡ with_at lists.old owner.now (list_between first last) }
 {

@@ -1,6 +1,7 @@
 // Values by their names, which names were touched, and which names each owner has.
 ghost use Rattle.std.specs.Prelude.{◌≡◌, ◌+◌, [], ◌∷◌, ◌++◌, IfOk, OnOk, OnErr, None, Some, not, drop, false};
 ghost use Rattle.std.specs.Option.{option_copied};
+ghost use Rattle.std.specs.Iterator.{YieldsFirstBy, item_count};
 ghost use Rattle.std.specs.FinMap as map;
 ghost use Rattle.dc_text.specs.Bytes.{is_nil};
 ghost use Rattle.dc_slots.specs.Chains.{has};
@@ -8,8 +9,8 @@ ghost use Rattle.dc_slots.specs.Numbered.{IsKept, owners_at, with_owners};
 ghost use Rattle.dc_slots.specs.Slots.{list_of, with_touched, with_owner, without_owner, IsUnused};
 ghost use Rattle.dc_slots.specs.Parts.{IsPlaced, IsReleased};
 
-use crate::owner_lists::OwnerLists;
-use crate::slot_vector::{SlotNumber, SlotVector};
+use crate::owner_lists::{OwnedSlots, OwnerLists};
+use crate::slot_vector::{SlotNumber, SlotVector, TouchedNames};
 use dc_text::{List, Mem, Name, TextMap};
 use std::alloc::Global;
 use std::marker::Model;
@@ -107,6 +108,13 @@ impl<T: Drop> SlotTable<T> {
         Ok(())
     }
 
+    /// The touched names, in the order in which they were touched. It takes no memory.
+    pub fn touched(&self) -> TouchedNames<'_, T>
+        ensures { result ≡ self.now.touched }
+    {
+        self.slots.touched()
+    }
+
     /// Takes note that no name is touched any more.
     pub fn clear_touched(&mut self)
         ensures { self.new ≡ record self.old { touched = [] } }
@@ -142,6 +150,16 @@ impl<T: Drop> SlotTable<T> {
         Ok(())
     }
 
+    /// The names of the owner, in the order in which they came to it. It takes no memory.
+    pub fn owned(&self, owner: &Name) -> OwnedNames<'_, T>
+        ensures { result ≡ list_of self.now.owned owner.now }
+    {
+        OwnedNames {
+            slots: &self.slots,
+            left: self.owners.owned(owner),
+        }
+    }
+
     /// Takes the name out of the owner's list, if it is there.
     pub fn leave_owner(&mut self, name: &Name, owner: &Name)
         ensures { self.new ≡ without_owner self.old name.now owner.now }
@@ -156,6 +174,38 @@ impl<T: Drop> SlotTable<T> {
     }
 }
 
+/// The names that are left of a walk of an owner's names, in their order.
+#[derive(Drop)]
+pub struct OwnedNames<'a, T> {
+    slots: &'a SlotVector<T>,
+    left: OwnedSlots<'a>,
+}
+
+impl<'a, T> Model for OwnedNames<'a, T> {
+    ghost use Rattle.std.specs.Prelude.{◌≡◌, List, ℕ, true, map as each};
+    ghost use Rattle.dc_slots.specs.Chains.{has};
+    ghost use Rattle.dc_slots.specs.Numbered.{IsKept, name_at};
+
+    ghost Value = { List (List ℕ) };
+
+    ghost view = { λ w. each (name_at w.slots.now) w.left };
+
+    ghost invariant = { λ w. (n : ℕ) → has n w.left ≡ true → IsKept w.slots.now n };
+}
+
+impl<'a, T: Drop> Iterator for OwnedNames<'a, T> {
+    type Item = &'a Name;
+
+    ghost next_gives = { YieldsFirstBy (λ name. name.now) (λ rest. rest) };
+
+    ghost remaining = { item_count (λ rest. rest) };
+
+    fn next(&mut self) -> Option<&'a Name> {
+        let number = self.left.step()?;
+        Some(self.slots.name(number))
+    }
+}
+
 // The number of the name's slot, if it has one.
 fn number_of(places: &TextMap<SlotNumber>, name: &Name) -> Option<SlotNumber>
     ensures { result ≡ map.get places.now name.now }
@@ -167,7 +217,11 @@ fn number_of(places: &TextMap<SlotNumber>, name: &Name) -> Option<SlotNumber>
 }
 
 // The number of the name's slot, which is put where there is none.
-fn place_for<T: Drop>(places: &mut TextMap<SlotNumber>, slots: &mut SlotVector<T>, name: &Name) -> Mem<SlotNumber>
+fn place_for<T: Drop>(
+    places: &mut TextMap<SlotNumber>,
+    slots: &mut SlotVector<T>,
+    name: &Name,
+) -> Mem<SlotNumber>
     ensures ok { IfOk result (λ n. IsPlaced places.old places.new slots.old slots.new name.now n) }
     ensures none { OnErr result (map.get places.old name.now ≡ None) }
     ensures err { OnErr result ((places.new ≡ places.old) × (slots.new ≡ slots.old)) }
@@ -197,7 +251,12 @@ fn release<T: Drop>(places: &mut TextMap<SlotNumber>, slots: &mut SlotVector<T>,
 }
 
 // Puts the slot, which the owner hasn't, at the end of the owner's list, and counts the owner.
-fn join<T: Drop>(slots: &mut SlotVector<T>, owners: &mut OwnerLists, number: SlotNumber, owner: &Name) -> Mem<()>
+fn join<T: Drop>(
+    slots: &mut SlotVector<T>,
+    owners: &mut OwnerLists,
+    number: SlotNumber,
+    owner: &Name,
+) -> Mem<()>
     requires kept { IsKept slots.old number }
     requires new { has number (list_of owners.old owner.now) ≡ false }
     ensures slots { OnOk result (slots.new ≡ with_owners slots.old number (owners_at slots.old number + 1)) }

@@ -1,6 +1,7 @@
 // Slots by their numbers, of which those that are touched each name the next.
-ghost use Rattle.std.specs.Prelude.{◌≡◌, nat_eq, slice_set, ◌+◌, ◌-◌, ◌<◌, ◌∷◌, ◌++◌, [], true, false, None, Some, is_some, IsSome, IfOk, OnOk, OnErr, MatchOption};
+ghost use Rattle.std.specs.Prelude.{◌≡◌, nat_eq, slice_set, ◌+◌, ◌-◌, ◌<◌, ◌∷◌, ◌++◌, [], true, false, None, Some, is_some, IsSome, map as each, IfOk, OnOk, OnErr, MatchOption};
 ghost use Rattle.std.specs.Option.{option_copied};
+ghost use Rattle.std.specs.Iterator.{YieldsFirstBy, item_count};
 ghost use Rattle.std.specs.FinMap as map;
 ghost use Rattle.dc_slots.specs.Chains.{has};
 ghost use Rattle.dc_slots.specs.Threads.{slot_at, next_in, with_next, linked, first_before as first_of, last_behind as last_of};
@@ -194,6 +195,16 @@ impl<T: Drop> SlotVector<T> {
         self.last_touched = Some(number);
     }
 
+    /// The names of the touched slots, in their order.
+    pub(crate) fn touched(&self) -> TouchedNames<'_, T>
+        ensures { result ≡ each (name_at self.now) self.now.touched }
+    {
+        TouchedNames {
+            slots: &self.slots,
+            next: self.first_touched,
+        }
+    }
+
     /// Takes note that the first of the touched slots isn't touched any more, and answers its number.
     pub(crate) fn forget_first(&mut self) -> Option<SlotNumber>
         ensures touched { MatchOption result ((self.old.touched ≡ []) × (self.new ≡ self.old)) (λ n. self.old.touched ≡ n ∷ self.new.touched) }
@@ -243,5 +254,40 @@ fn last_behind(next: &Option<SlotNumber>, last: Option<SlotNumber>) -> Option<Sl
     match next {
         Some(_) => last,
         None => None,
+    }
+}
+
+/// The touched names that are left of a walk, in their order.
+#[derive(Drop)]
+pub struct TouchedNames<'a, T> {
+    slots: &'a Slab<Slot<T>>,
+    next: Option<SlotNumber>,
+}
+
+impl<'a, T> Model for TouchedNames<'a, T> {
+    ghost use Rattle.std.specs.Prelude.{List, ℕ};
+
+    ghost Value = { List (List ℕ) };
+
+    ghost use Rattle.dc_slots.specs.Threads.{names_from, IsWalked};
+
+    ghost view = { λ w. names_from w.slots.now.slots w.next };
+
+    ghost invariant = { λ w. IsWalked w.slots.now.slots w.next };
+}
+
+impl<'a, T> Iterator for TouchedNames<'a, T> {
+    type Item = &'a Name;
+
+    ghost next_gives = { YieldsFirstBy (λ name. name.now) (λ rest. rest) };
+
+    ghost remaining = { item_count (λ rest. rest) };
+
+    fn next(&mut self) -> Option<&'a Name> {
+        let number = self.next?;
+        let slots = self.slots;
+        let slot = &slots[number.number];
+        self.next = slot.next_touched;
+        Some(&slot.name)
     }
 }

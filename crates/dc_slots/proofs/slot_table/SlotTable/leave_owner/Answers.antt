@@ -24,6 +24,6 @@ pub returns-then-leave : goal.returns-then-leave
 returns-then-leave g c = (left_seen c.self.inside.places c.self.inside.slots c.self.inside.owners c.args.self.now c.self.invariant c.self.view_is c.args.name.now c.in-Some.number c.release.new.places c.drop_owner.new.self c.release.new.slots c.args.owner.now c.leave.new.self (sym c.number_of.ensures ∙ c.in-Some.is) (sym c.leave.ensures.found ∙ c.if-leave.true) c.leave.ensures.new c.drop_owner.ensures c.release.ensures).shown
 
 pub returns-else-leave : goal.returns-else-leave
-returns-else-leave g c = 
+returns-else-leave g c =
     ap (table_of c.self.inside.places c.self.inside.slots) (c.leave.ensures.same c.if-leave.false) ∙ c.self.view_is
     ∙ nothing_to_leave c.self.inside.places c.self.inside.slots c.self.inside.owners c.args.self.now c.self.invariant c.self.view_is c.args.name.now c.args.owner.now (not_listed c.self.inside.places c.self.inside.slots c.self.inside.owners c.args.self.now c.self.invariant c.self.view_is c.args.name.now c.args.owner.now c.in-Some.number (sym c.number_of.ensures ∙ c.in-Some.is) (sym c.leave.ensures.found ∙ c.if-leave.false))
