@@ -1,24 +1,24 @@
 -- What becomes of the lists of owners where a link is put or taken away.
-use Rattle.std.proofs.Common.{◌≡◌, ◌≢◌, ◌⊎◌, ℕ, zero, suc, ◌+◌, ◌<◌, ◌≤◌, Bool, true, false, cond, List, [], ◌∷◌, ◌++◌, length, get_or, nat_eq, map as each, Option, Some, None, option_map, unwrap_or, refl, sym, ap, ◌∙◌, subst, inl, inr, arith, length-append, append_assoc}
-use Rattle.std.specs.Prelude.{is_some, slice_set, not, ◌||◌, MatchOption}
-use Rattle.std.specs.List.{IsDistinct, list_any, filter}
+use Rattle.std.proofs.Common.{◌≡◌, ◌≢◌, ◌⊎◌, ℕ, suc, ◌+◌, ◌<◌, ◌≤◌, Bool, true, false, cond, List, [], ◌∷◌, ◌++◌, length, nat_eq, map as each, Option, Some, None, option_map, unwrap_or, refl, sym, ap, ◌∙◌, subst, inl, inr, arith, length-append, append_assoc}
+use Rattle.std.specs.Prelude.{is_some, not, ◌||◌, MatchOption}
+use Rattle.std.specs.List.{IsDistinct, list_any}
 use Rattle.std.specs.Ordering.{eq_by_cmp}
 use Rattle.std.specs.Cmp.Lexicographic.{nat_list_cmp_total}
-use Rattle.std.specs.FinMap.{FinMap, get, insert, remove, empty, entries, get-empty, get-entries, get-insert, find, same_map}
-use Rattle.std.proofs.lemmas.Bool.{cases_eq, eq-eqb}
-use Rattle.std.proofs.lemmas.List.{get_or_past, get_or-set_same, get_or-set_other, set-get_or, map-append, append-nil}
+use Rattle.std.specs.FinMap.{get, insert, empty, entries, get-empty, get-entries, get-insert, find, same_map}
+use Rattle.std.proofs.lemmas.Bool.{cases_eq}
+use Rattle.std.proofs.lemmas.List.{get_or_past, get_or-set_same, get_or-set_other, map-append, append-nil}
 use Rattle.std.proofs.lemmas.List.Folds.{list_any-append}
 use Rattle.std.proofs.lemmas.Map.Keys.{IsDistinct-tail, IsDistinct-push}
 use Rattle.dc_text.specs.Maps.{Texts, text_cmp}
 use Rattle.dc_text.proofs.MapLemmas.{exact_texts}
-use Rattle.dc_slots.specs.Chains.{has, walk, IsWalk, EndsAt}
+use Rattle.dc_slots.specs.Chains.{has, IsWalk, EndsAt}
 use Rattle.dc_slots.specs.Slots.{list_of, with_at, without, if_any}
 use Rattle.dc_slots.specs.Links.{link_at, next_of, next_in, slot_of, slot_in, links_from, slots_from, slots_by_owner, IsLinkedAs, list_with, list_between, with_next, linked, IsJoined, IsPlace, IsUnlinked, first_after, last_after, AreLinked, AreWalked}
 use Rattle.dc_slots.specs.declared.owner_lists.Link.{Link}
 use Rattle.dc_slots.specs.declared.owner_lists.OwnerList.{OwnerList}
 use Rattle.dc_slots.specs.declared.owner_lists.Place.{Place}
 use Rattle.dc_slots.proofs.KeyLemmas.{cases_key, insert-here, insert-other, remove-here, remove-other, is_insert, is_remove}
-use Rattle.dc_slots.proofs.ChainLemmas.{each_same, walk_none, walk_within, walk_is, walk_same, walk_pushed, walk_cut, walk_behind, length_walk, ends_pushed, ends_before, ends_behind_front, numbers_equiv, has_head, has_tail, has_last, or_first, or_second, has_pushed, has_push, has_end, has_append, has_cut, has_uncut, has_middle, not_in_front, not_in_back, not_in_cut, distinct_cut, distinct_back, first_apart, apart, no_end, not_both, neither, either, tied, untied}
+use Rattle.dc_slots.proofs.ChainLemmas.{each_same, walk_none, walk_within, walk_is, walk_same, walk_pushed, walk_cut, walk_behind, length_walk, ends_pushed, ends_before, ends_behind_front, numbers_equiv, has_head, has_tail, has_last, or_first, has_pushed, has_push, has_end, has_append, has_cut, has_uncut, has_middle, not_in_front, not_in_back, not_in_cut, distinct_cut, distinct_back, first_apart, apart, no_end, not_both, neither, tied}
 
 -- ---- what is seen of the links
 

@@ -1,7 +1,7 @@
 -- What each operation of a slot table makes of the parts, and of the table that they show.
-use Rattle.std.proofs.Common.{Result, Ok, Err, OnErr, ◌≡◌, ◌≢◌, ◌⊎◌, ℕ, zero, suc, ◌+◌, ◌-◌, ◌<◌, ◌≤◌, Bool, true, false, cond, List, [], ◌∷◌, ◌++◌, nat_eq, map as each, Option, Some, None, option_map, unwrap_or, refl, sym, ap, ◌∙◌, subst, inl, inr, arith}
+use Rattle.std.proofs.Common.{Result, Ok, Err, OnErr, ◌≡◌, ℕ, ◌+◌, ◌-◌, ◌<◌, Bool, true, false, cond, List, [], ◌∷◌, ◌++◌, nat_eq, map as each, Option, Some, None, option_map, unwrap_or, refl, sym, ap, ◌∙◌, subst, inl, inr, arith}
 use Rattle.std.specs.Prelude.{is_some, not, ◌||◌, ◌&&◌, ◌==◌, T}
-use Rattle.std.specs.List.{list_any, filter}
+use Rattle.std.specs.List.{list_any}
 use Rattle.std.specs.Str.{bytes_eq}
 use Rattle.std.specs.declared.cmp.Ordering.{Ordering}
 use Rattle.std.specs.declared.cmp.Ordering.TheVariants.{Less, Equal, Greater}
@@ -9,24 +9,22 @@ use Rattle.std.specs.FinMap.Entries.{below_all, by_order}
 use Rattle.std.specs.Ordering.{nat_cmp, is_lt}
 use Rattle.std.specs.Cmp.{nat_cmp_total, eq_by_cmp_equiv}
 use Rattle.std.specs.Cmp.Lexicographic.{nat_list_cmp_total}
-use Rattle.std.specs.FinMap.{FinMap, get, insert, remove, empty, entries, entries_sorted, entries-insert, find, put, is_sorted, get-entries, get-empty, same_map, nat_cmp-IsAntisymmetric}
-use Rattle.std.proofs.lemmas.Bool.{cases_eq, eqb-true, eq-eqb}
-use Rattle.std.proofs.lemmas.List.{map-append}
+use Rattle.std.specs.FinMap.{get, insert, remove, empty, entries, entries_sorted, entries-insert, find, put, is_sorted, get-entries, get-empty, nat_cmp-IsAntisymmetric}
 use Rattle.dc_text.specs.Maps.{Texts, text_cmp}
 use Rattle.dc_text.proofs.MapLemmas.{exact_texts, entries-in_order}
 use Rattle.dc_slots.specs.Chains.{has}
 use Rattle.dc_slots.specs.Slots.{Slots, list_of, with_at, without, put_last, if_any, IsUnused}
-use Rattle.dc_slots.specs.Numbered.{Kept, Numbered, IsKept, name_in, value_in, owners_in, name_at, value_at, owners_at, with_kept, with_value, with_owners, is_used}
-use Rattle.dc_slots.specs.Parts.{values_of, lists_of, table_of, one_if, count_in, AreTied, AreSound, IsPlaced, IsReleased}
-use Rattle.dc_slots.proofs.KeyLemmas.{cases_key, insert-here, insert-other, remove-here, remove-other, is_insert, is_remove}
-use Rattle.dc_slots.proofs.ChainLemmas.{each_same, has_head, has_tail, has_last, has_pushed, has_push, lacks_push, not_both, neither, either, tied, untied, or_first, or_second}
-use Rattle.dc_slots.proofs.LinkLemmas.{with-here, with-other, is_with, with_same, without_none}
+use Rattle.dc_slots.specs.Numbered.{Kept, Numbered, IsKept, name_in, value_in, owners_in, name_at, value_at, owners_at, with_kept, with_value, with_owners}
+use Rattle.dc_slots.specs.Parts.{values_of, lists_of, table_of, count_in, AreTied, AreSound, IsPlaced, IsReleased}
+use Rattle.dc_slots.proofs.KeyLemmas.{insert-here, is_insert, is_remove}
+use Rattle.dc_slots.proofs.ChainLemmas.{has_last, not_both, untied, or_first, or_second}
+use Rattle.dc_slots.proofs.LinkLemmas.{with_same, without_none}
 use Rattle.dc_slots.proofs.ChangeLemmas.{same_text}
-use Rattle.dc_slots.proofs.TableLemmas.{first_half, second_half, none_below, differs, get-listed, at_number, get-values, get-lists, list_of-lists, count_with, count_insert, listed_is_counted, unlisted_is_uncounted}
-use Rattle.dc_slots.proofs.TiedLemmas.{put-here, put-other, stays_put, kept_put, was_kept, own_number, same_has, same_without, names_stay, lists_stay, values_stay, AreUsedBut, IsNearly, yes_or_no}
+use Rattle.dc_slots.proofs.TableLemmas.{first_half, second_half, none_below, differs, get-listed, at_number, get-values, get-lists, list_of-lists, listed_is_counted}
+use Rattle.dc_slots.proofs.TiedLemmas.{put-here, put-other, same_has, IsNearly}
 use Rattle.dc_slots.proofs.TiedLemmas.{nearly_sound, sound_nearly, IsSeen, unused_name}
 use Rattle.dc_slots.proofs.ChangeLemmas.{each_any, value_near, touch_near, join_near, leave_near}
-use Rattle.dc_slots.proofs.PlaceLemmas.{HasPlace, has_place, rest_near, is_left}
+use Rattle.dc_slots.proofs.PlaceLemmas.{HasPlace, has_place, is_left}
 
 both : (a b : Bool) → T a → T b → T (a && b)
 both true b p q = q

@@ -1,25 +1,20 @@
 -- What becomes of the table that parts show where a slot is put, where the first of the touched slots is let go, and where an unused slot is taken away.
-use Rattle.std.proofs.Common.{◌≡◌, ◌≢◌, ◌⊎◌, ℕ, zero, suc, ◌+◌, ◌-◌, ◌<◌, ◌≤◌, Bool, true, false, cond, List, [], ◌∷◌, ◌++◌, nat_eq, map as each, Option, Some, None, option_map, unwrap_or, refl, sym, ap, ◌∙◌, subst, inl, inr, arith}
-use Rattle.std.specs.Prelude.{is_some, not, drop, ◌||◌, ◌&&◌, ◌==◌}
-use Rattle.std.specs.List.{list_any, filter}
-use Rattle.std.specs.Str.{bytes_eq}
-use Rattle.std.specs.Ordering.{nat_cmp}
+use Rattle.std.proofs.Common.{◌≡◌, ◌≢◌, ℕ, ◌<◌, Bool, true, false, List, ◌∷◌, map as each, Option, Some, None, refl, sym, ap, ◌∙◌, subst, inl, inr, arith}
+use Rattle.std.specs.Prelude.{is_some, not, drop, ◌||◌, ◌==◌}
 use Rattle.std.specs.Cmp.{nat_cmp_total}
 use Rattle.std.specs.Cmp.Lexicographic.{nat_list_cmp_total}
-use Rattle.std.specs.FinMap.{FinMap, get, insert, remove, empty, entries, same_map, nat_cmp-IsAntisymmetric}
-use Rattle.std.proofs.lemmas.Bool.{cases_eq, eqb-true, eq-eqb}
-use Rattle.std.proofs.lemmas.List.{map-append}
-use Rattle.dc_text.specs.Maps.{Texts, text_cmp}
+use Rattle.std.specs.FinMap.{get, insert, remove, entries, same_map, nat_cmp-IsAntisymmetric}
+use Rattle.std.proofs.lemmas.Bool.{cases_eq, eqb-true}
+use Rattle.dc_text.specs.Maps.{Texts}
 use Rattle.dc_text.proofs.MapLemmas.{exact_texts}
 use Rattle.dc_slots.specs.Chains.{has}
-use Rattle.dc_slots.specs.Slots.{Slots, list_of, with_at, without, put_last, if_any}
-use Rattle.dc_slots.specs.Numbered.{Kept, Numbered, IsKept, name_in, value_in, owners_in, name_at, value_at, owners_at, with_kept, with_value, with_owners, is_used}
-use Rattle.dc_slots.specs.Parts.{values_of, lists_of, table_of, one_if, count_in, AreTied, AreSound, IsPlaced, IsReleased}
-use Rattle.dc_slots.proofs.KeyLemmas.{cases_key, insert-here, insert-other, remove-here, remove-other, is_insert, is_remove}
-use Rattle.dc_slots.proofs.ChainLemmas.{each_same, has_head, has_tail, has_last, has_pushed, has_push, lacks_push, not_both, neither, either, tied, untied, or_first, or_second}
-use Rattle.dc_slots.proofs.LinkLemmas.{with-here, with-other, is_with, with_same}
-use Rattle.dc_slots.proofs.TableLemmas.{at_number, get-values, get-lists, list_of-lists, count_with, count_insert, listed_is_counted, unlisted_is_uncounted}
-use Rattle.dc_slots.proofs.TiedLemmas.{put-here, put-other, stays_put, kept_put, was_kept, own_number, same_has, same_without, names_stay, lists_stay, values_stay, AreUsedBut, IsNearly, yes_or_no}
+use Rattle.dc_slots.specs.Slots.{Slots, list_of}
+use Rattle.dc_slots.specs.Numbered.{Kept, Numbered, IsKept, name_in, value_in, owners_in, name_at, value_at, owners_at, with_kept, is_used}
+use Rattle.dc_slots.specs.Parts.{values_of, lists_of, table_of, count_in, AreTied, AreSound, IsPlaced, IsReleased}
+use Rattle.dc_slots.proofs.KeyLemmas.{insert-here, insert-other, remove-here, remove-other}
+use Rattle.dc_slots.proofs.ChainLemmas.{has_tail, not_both, neither, untied}
+use Rattle.dc_slots.proofs.TableLemmas.{at_number, get-values, listed_is_counted, unlisted_is_uncounted}
+use Rattle.dc_slots.proofs.TiedLemmas.{put-here, put-other, kept_put, own_number, names_stay, lists_stay, IsNearly, yes_or_no}
 use Rattle.dc_slots.proofs.TiedLemmas.{nearly_sound, sound_nearly, IsSeen}
 use Rattle.dc_slots.proofs.ChangeLemmas.{same_text}
 use Rattle.dc_slots.proofs.ThreadLemmas.{no_some}

@@ -1,28 +1,19 @@
 -- What a slot table shows of its parts, and what becomes of it where they change.
-use Rattle.std.proofs.Common.{◌≡◌, ◌≢◌, ◌⊎◌, ℕ, zero, suc, ◌+◌, ◌-◌, ◌<◌, ◌≤◌, Bool, true, false, cond, List, [], ◌∷◌, ◌++◌, nat_eq, map as each, Option, Some, None, option_map, unwrap_or, refl, sym, ap, ◌∙◌, subst, inl, inr, arith}
-use Rattle.std.specs.Prelude.{is_some, not, ◌||◌, ◌&&◌, ◌==◌, T}
-use Rattle.std.specs.List.{list_any, filter}
-use Rattle.std.specs.Str.{bytes_eq}
+use Rattle.std.proofs.Common.{◌≡◌, ◌≢◌, ℕ, ◌+◌, ◌<◌, Bool, true, false, cond, List, [], ◌∷◌, map as each, Option, Some, None, option_map, unwrap_or, refl, sym, ap, ◌∙◌, subst, inl, inr, arith}
+use Rattle.std.specs.Prelude.{◌&&◌, T}
 use Rattle.std.specs.declared.cmp.Ordering.{Ordering}
 use Rattle.std.specs.declared.cmp.Ordering.TheVariants.{Less, Equal, Greater}
-use Rattle.std.specs.Ordering.{eq_by_cmp, is_eq, is_lt, nat_cmp}
-use Rattle.std.specs.Cmp.{eq_by_cmp_equiv, nat_cmp_total}
+use Rattle.std.specs.Ordering.{eq_by_cmp, is_eq, is_lt}
+use Rattle.std.specs.Cmp.{eq_by_cmp_equiv}
 use Rattle.std.specs.Cmp.Lexicographic.{nat_list_cmp_total}
-use Rattle.std.specs.FinMap.{FinMap, get, insert, remove, empty, entries, entries_sorted, entries-insert, get-empty, get-entries, get-insert, get-remove, find, put, is_sorted, same_map, nat_cmp-IsAntisymmetric}
+use Rattle.std.specs.FinMap.{get, insert, remove, entries, entries_sorted, entries-insert, get-empty, get-entries, get-insert, get-remove, find, put, is_sorted}
 use Rattle.std.specs.FinMap.Entries.{below_all, by_order, is_sorted-put}
-use Rattle.std.proofs.lemmas.Bool.{cases_eq, eqb-true, eq-eqb}
-use Rattle.std.proofs.lemmas.List.{map-append}
-use Rattle.std.proofs.lemmas.List.Folds.{list_any-append}
-use Rattle.std.proofs.lemmas.Slice.Eq.{bytes_eq-Decides}
 use Rattle.dc_text.specs.Maps.{Texts, text_cmp}
 use Rattle.dc_text.proofs.MapLemmas.{exact_texts}
 use Rattle.dc_slots.specs.Chains.{has}
-use Rattle.dc_slots.specs.Slots.{Slots, list_of, with_at, without, put_last, if_any, with_touched, with_owner, without_owner, IsUnused}
-use Rattle.dc_slots.specs.Numbered.{Kept, Numbered, IsKept, name_in, value_in, owners_in, name_at, value_at, owners_at, with_kept, with_value, with_owners, is_used}
-use Rattle.dc_slots.specs.Parts.{values_of, lists_of, table_of, one_if, count_in, AreTied, AreSound, IsPlaced, IsReleased}
-use Rattle.dc_slots.proofs.KeyLemmas.{cases_key, insert-here, insert-other, remove-here, remove-other, is_insert, is_remove}
-use Rattle.dc_slots.proofs.ChainLemmas.{each_same, has_head, has_tail, has_pushed, has_push, has_append, has_last, not_both, neither, either, tied, untied, or_first, or_second}
-use Rattle.dc_slots.proofs.LinkLemmas.{with-here, with-other, is_with, with_same}
+use Rattle.dc_slots.specs.Slots.{list_of, with_at, if_any}
+use Rattle.dc_slots.specs.Parts.{values_of, lists_of, one_if, count_in}
+use Rattle.dc_slots.proofs.KeyLemmas.{cases_key, remove-here, remove-other, is_insert, is_remove}
 
 -- ---- lists of entries
 

@@ -1,19 +1,19 @@
 -- What becomes of the touched slots where a slot is put, changed or taken away.
-use Rattle.std.proofs.Common.{◌≡◌, ◌≢◌, ◌⊎◌, ℕ, zero, suc, ◌+◌, ◌<◌, ◌≤◌, Bool, true, false, cond, List, [], ◌∷◌, ◌++◌, length, get_or, nat_eq, map as each, Option, Some, None, refl, sym, ap, ◌∙◌, subst, inl, inr, arith}
+use Rattle.std.proofs.Common.{◌≡◌, ◌≢◌, ℕ, zero, suc, ◌+◌, ◌<◌, true, false, List, [], ◌∷◌, ◌++◌, length, nat_eq, map as each, Option, Some, None, refl, sym, ap, ◌∙◌, subst, inl, inr, arith}
 use Rattle.std.specs.Prelude.{is_some, slice_set, ◌||◌, MatchOption}
 use Rattle.std.specs.List.{IsDistinct}
 use Rattle.std.specs.Ordering.{nat_cmp}
 use Rattle.std.specs.Cmp.{nat_cmp_total}
-use Rattle.std.specs.FinMap.{FinMap, get, insert, remove, empty, get-empty, nat_cmp-IsAntisymmetric}
+use Rattle.std.specs.FinMap.{FinMap, get, insert, remove, get-empty, nat_cmp-IsAntisymmetric}
 use Rattle.std.proofs.lemmas.Bool.{cases_eq, eq-eqb}
 use Rattle.std.proofs.lemmas.List.{get_or_past, get_or-set_same, get_or-set_other, set-get_or}
 use Rattle.std.proofs.lemmas.Map.Keys.{IsDistinct-tail, IsDistinct-push}
-use Rattle.dc_slots.specs.Chains.{has, walk, IsWalk, EndsAt}
+use Rattle.dc_slots.specs.Chains.{has, IsWalk, EndsAt}
 use Rattle.dc_slots.specs.Numbered.{Kept, Numbered, name_in, name_at, with_kept}
-use Rattle.dc_slots.specs.Threads.{slot_at, next_of, next_in, kept_of, with_number, kept_from, touched_from, IsThreaded, last_behind, first_before, with_next, linked, IsChangedAt, name_of, names_from, IsWalked}
+use Rattle.dc_slots.specs.Threads.{slot_at, next_of, next_in, kept_of, kept_from, touched_from, IsThreaded, last_behind, first_before, with_next, linked, IsChangedAt, name_of, names_from, IsWalked}
 use Rattle.dc_slots.specs.declared.slot_vector.Slot.{Slot}
-use Rattle.dc_slots.proofs.KeyLemmas.{insert-here, insert-other, remove-here, remove-other, is_insert, is_remove}
-use Rattle.dc_slots.proofs.ChainLemmas.{each_same, walk_none, walk_within, walk_same, walk_pushed, ends_pushed, numbers_equiv, has_pushed, lacks_pushed, has_head, has_tail, first_apart, apart, has_end, no_end, last_alone, not_both, neither, either, untied}
+use Rattle.dc_slots.proofs.KeyLemmas.{insert-here, insert-other, is_insert, is_remove}
+use Rattle.dc_slots.proofs.ChainLemmas.{each_same, walk_none, walk_within, walk_same, walk_pushed, ends_pushed, numbers_equiv, has_pushed, lacks_pushed, has_head, has_tail, first_apart, apart, has_end, no_end, last_alone, not_both, untied}
 
 pub some_of : {X : Type 0} (o : Option X) → is_some o ≡ true → (x : X) × (o ≡ Some x)
 some_of None e = absurd (cc)

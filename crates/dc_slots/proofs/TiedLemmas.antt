@@ -1,25 +1,23 @@
 -- What becomes of a slot table where a slot is put, changed, linked or taken away.
-use Rattle.std.proofs.Common.{◌≡◌, ◌≢◌, ◌⊎◌, ℕ, zero, suc, ◌+◌, ◌-◌, ◌<◌, ◌≤◌, Bool, true, false, cond, List, [], ◌∷◌, ◌++◌, nat_eq, map as each, Option, Some, None, option_map, unwrap_or, refl, sym, ap, ◌∙◌, subst, inl, inr, arith}
-use Rattle.std.specs.Prelude.{is_some, not, ◌||◌, ◌&&◌, ◌==◌}
-use Rattle.std.specs.List.{list_any, filter}
+use Rattle.std.proofs.Common.{◌≡◌, ◌≢◌, ◌⊎◌, ℕ, Bool, true, false, cond, List, [], ◌∷◌, nat_eq, map as each, Option, Some, None, option_map, unwrap_or, refl, sym, ap, ◌∙◌, inl, inr}
+use Rattle.std.specs.Prelude.{is_some, not, ◌||◌}
+use Rattle.std.specs.List.{list_any, IsDistinct, AllByRecursion}
+use Rattle.std.proofs.lemmas.Map.Keys.{IsDistinct-head, IsDistinct-tail, IsDistinct-cons}
 use Rattle.std.specs.Str.{bytes_eq}
-use Rattle.std.specs.Ordering.{nat_cmp}
 use Rattle.std.specs.Cmp.{nat_cmp_total}
 use Rattle.std.specs.Cmp.Lexicographic.{nat_list_cmp_total}
-use Rattle.std.specs.FinMap.{FinMap, get, insert, remove, empty, entries, same_map, nat_cmp-IsAntisymmetric}
+use Rattle.std.specs.FinMap.{get, entries, same_map, nat_cmp-IsAntisymmetric}
 use Rattle.std.proofs.lemmas.Bool.{cases_eq, eqb-true, eq-eqb}
-use Rattle.std.proofs.lemmas.List.{map-append}
 use Rattle.std.proofs.lemmas.Slice.Eq.{bytes_eq-Decides}
-use Rattle.dc_text.specs.Maps.{Texts, text_cmp}
+use Rattle.dc_text.specs.Maps.{Texts}
 use Rattle.dc_text.proofs.MapLemmas.{exact_texts}
 use Rattle.dc_slots.specs.Chains.{has}
-use Rattle.dc_slots.specs.Slots.{Slots, list_of, with_at, without, put_last, if_any, with_touched, with_owner, without_owner, IsUnused}
-use Rattle.dc_slots.specs.Numbered.{Kept, Numbered, IsKept, name_in, value_in, owners_in, name_at, value_at, owners_at, with_kept, with_value, with_owners, is_used}
-use Rattle.dc_slots.specs.Parts.{values_of, lists_of, table_of, one_if, count_in, AreTied, AreSound, IsPlaced, IsReleased}
-use Rattle.dc_slots.proofs.KeyLemmas.{cases_key, insert-here, insert-other, remove-here, remove-other, is_insert, is_remove}
-use Rattle.dc_slots.proofs.ChainLemmas.{each_same, has_head, has_tail, has_pushed, has_push, lacks_push, not_both, neither, either, tied, untied}
-use Rattle.dc_slots.proofs.LinkLemmas.{with-here, with-other, is_with, with_same}
-use Rattle.dc_slots.proofs.TableLemmas.{at_number, get-values, get-lists, list_of-lists, count_with, count_insert, listed_is_counted, unlisted_is_uncounted}
+use Rattle.dc_slots.specs.Slots.{Slots, list_of, without, IsUnused}
+use Rattle.dc_slots.specs.Numbered.{Kept, Numbered, IsKept, name_at, value_at, with_kept, is_used}
+use Rattle.dc_slots.specs.Parts.{values_of, lists_of, table_of, AreTied, AreSound}
+use Rattle.dc_slots.proofs.KeyLemmas.{insert-here, insert-other}
+use Rattle.dc_slots.proofs.ChainLemmas.{each_same, has_head, has_tail}
+use Rattle.dc_slots.proofs.TableLemmas.{at_number, get-values, get-lists, list_of-lists}
 
 -- ---- slots by their numbers
 
@@ -50,6 +48,10 @@ module _ {T : Type 0} (s : Numbered T) (n : ℕ) where
   ]
 
 -- ---- names and numbers
+
+no_name_twice : IsDistinct bytes_eq []
+unfolding IsDistinct
+no_name_twice = tt
 
 pub yes_or_no : (b : Bool) → (b ≡ true) ⊎ (b ≡ false)
 yes_or_no true = inl refl
@@ -85,6 +87,17 @@ module _ {T : Type 0} (places : Texts ℕ) (s : Numbered T) (lists : Texts (List
             ap (λ b. each (name_at s) (cond (not b) (m ∷ without nat_eq ns n) (without nat_eq ns n))) no_is ∙ ap (λ l. name_at s m ∷ l) rest
             ∙ ap (λ b. cond (not b) (name_at s m ∷ without bytes_eq (each (name_at s) ns) (name_at s n)) (without bytes_eq (each (name_at s) ns) (name_at s n))) (sym no_is ∙ same_name n m at (kept m (has_head m ns)))
       ]
+
+  names_apart : (n : ℕ) (ms : List ℕ) → IsKept s n → ((m : ℕ) → has m ms ≡ true → IsKept s m) → AllByRecursion (λ m. nat_eq n m ≡ false) ms → AllByRecursion (λ q. bytes_eq (name_at s n) q ≡ false) (each (name_at s) ms)
+  names_apart n [] at kept all = tt
+  names_apart n (m ∷ ms) at kept all = (sym (same_name n m at (kept m (has_head m ms))) ∙ all.0, names_apart n ms at (λ k there. kept k (has_tail k m ms there)) all.1)
+
+  -- numbers that differ have names that do
+  pub names_distinct : (ns : List ℕ) → ((m : ℕ) → has m ns ≡ true → IsKept s m) → IsDistinct nat_eq ns → IsDistinct bytes_eq (each (name_at s) ns)
+  names_distinct [] kept distinct = no_name_twice
+  names_distinct (n ∷ ns) kept distinct =
+      IsDistinct-cons bytes_eq (name_at s n) (each (name_at s) ns) (names_apart n ns (kept n (has_head n ns)) (λ k there. kept k (has_tail k n ns there)) (IsDistinct-head nat_eq n ns distinct))
+      (names_distinct ns (λ k there. kept k (has_tail k n ns there)) (IsDistinct-tail nat_eq n ns distinct))
 
   -- a name without a slot isn't used
   pub unused_name : (name : List ℕ) → get places name ≡ None → IsUnused (table_of places s lists) name

@@ -1,9 +1,8 @@
 -- How the lists of owners are linked. No public clause cites this module.
-use Rattle.std.specs.Prelude.{◌≡◌, ◌≢◌, ℕ, Bool, true, false, Option, Some, None, is_some, List, [], ◌∷◌, ◌++◌, length, nat_eq, slice_index_or, slice_set, map as each, MatchOption}
+use Rattle.std.specs.Prelude.{◌≡◌, ◌≢◌, ℕ, true, false, Option, Some, None, is_some, List, [], ◌∷◌, ◌++◌, length, nat_eq, slice_index_or, slice_set, map as each, MatchOption}
 use Rattle.std.specs.List.{IsDistinct}
 use Rattle.std.specs.FinMap as map
 use Rattle.dc_text.specs.Maps.{Texts}
-use Rattle.dc_slots.specs.Slots.{with_at}
 use Rattle.dc_slots.specs.Chains.{has, walk, IsWalk, EndsAt}
 use Rattle.dc_slots.specs.declared.owner_lists.Link.{Link}
 use Rattle.dc_slots.specs.declared.owner_lists.OwnerList.{OwnerList}

@@ -1,10 +1,10 @@
 -- How a slot table is kept: the number of each name's slot, the slots, and the numbers that each owner has. No public clause cites this module.
-use Rattle.std.specs.Prelude.{◌≡◌, ◌≢◌, ◌⊎◌, ℕ, ◌+◌, Bool, true, false, Option, Some, None, List, [], ◌∷◌, map as each, if◌then◌else◌}
+use Rattle.std.specs.Prelude.{◌≡◌, ◌⊎◌, ℕ, ◌+◌, Bool, true, false, Option, Some, None, List, [], ◌∷◌, map as each}
 use Rattle.std.specs.FinMap as map
 use Rattle.dc_text.specs.Maps.{Texts}
 use Rattle.dc_slots.specs.Chains.{has}
 use Rattle.dc_slots.specs.Slots.{Slots, with_at, list_of, if_any}
-use Rattle.dc_slots.specs.Numbered.{Numbered, Kept, IsKept, name_at, value_at, owners_at, with_kept, is_used}
+use Rattle.dc_slots.specs.Numbered.{Numbered, IsKept, name_at, value_at, owners_at, with_kept, is_used}
 
 abbrev pub values_of : {T : Type 0} → (ℕ → Option T) → List (List ℕ × ℕ) → Texts T
 values_of value [] = map.empty

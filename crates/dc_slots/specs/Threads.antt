@@ -1,5 +1,5 @@
 -- How touched slots are linked in the vector of slots. No public clause cites this module.
-use Rattle.std.specs.Prelude.{◌≡◌, ◌≢◌, ℕ, suc, Bool, true, false, Option, Some, None, is_some, List, [], ◌∷◌, length, nat_eq, slice_index_or, slice_set, map as each}
+use Rattle.std.specs.Prelude.{◌≡◌, ◌≢◌, ℕ, suc, true, false, Option, Some, None, is_some, List, [], ◌∷◌, length, nat_eq, slice_index_or, slice_set, map as each}
 use Rattle.std.specs.List.{IsDistinct}
 use Rattle.std.specs.FinMap as map
 use Rattle.std.specs.Ordering.{nat_cmp}

@@ -1,10 +1,14 @@
 // The lists of slots that owners have, each linked from its first link to its last.
 ghost use Rattle.std.specs.Prelude.{◌≡◌, ◌≢◌, ◌∷◌, ◌++◌, ℕ, [], true, false, None, Some, is_some, IsSome, option_map, OnOk, OnErr, MatchOption, nat_eq, slice_set};
+ghost use Rattle.std.specs.List.{IsDistinct};
 ghost use Rattle.std.specs.FinMap as map;
 ghost use Rattle.dc_slots.specs.Chains.{has, IsWalk};
 ghost use Rattle.dc_slots.specs.Slots.{list_of, with_at, without, if_any};
 ghost use Rattle.dc_slots.specs.Links.{link_at, next_in, links_from, slots_from, linked, list_between, IsJoined, IsPlace, IsUnlinked, first_after as first_of, last_after as last_of};
 ghost use Rattle.dc_slots.specs.declared.owner_lists.OwnerList.{OwnerList as Listed};
+
+#[cfg(test)]
+pub(crate) mod tests;
 
 use crate::slot_vector::SlotNumber;
 use dc_text::{Mem, Name, TextMap};
@@ -96,7 +100,8 @@ impl OwnerLists {
 
     /// The slots of the owner, in their order.
     pub(crate) fn owned(&self, owner: &Name) -> OwnedSlots<'_>
-        ensures { result ≡ list_of self.now owner.now }
+        ensures slots { result ≡ list_of self.now owner.now }
+        ensures distinct { IsDistinct nat_eq (list_of self.now owner.now) }
     {
         OwnedSlots {
             links: &self.links,

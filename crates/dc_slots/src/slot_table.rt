@@ -1,13 +1,18 @@
 // Values by their names, which names were touched, and which names each owner has.
 ghost use Rattle.std.specs.Prelude.{◌≡◌, ◌+◌, [], ◌∷◌, ◌++◌, IfOk, OnOk, OnErr, None, Some, not, drop, false};
+ghost use Rattle.std.specs.List.{IsDistinct};
 ghost use Rattle.std.specs.Option.{option_copied};
 ghost use Rattle.std.specs.Iterator.{YieldsFirstBy, item_count};
+ghost use Rattle.std.specs.Str.{bytes_eq};
 ghost use Rattle.std.specs.FinMap as map;
 ghost use Rattle.dc_text.specs.Bytes.{is_nil};
 ghost use Rattle.dc_slots.specs.Chains.{has};
 ghost use Rattle.dc_slots.specs.Numbered.{IsKept, owners_at, with_owners};
 ghost use Rattle.dc_slots.specs.Slots.{list_of, with_touched, with_owner, without_owner, IsUnused};
 ghost use Rattle.dc_slots.specs.Parts.{IsPlaced, IsReleased};
+
+#[cfg(test)]
+mod tests;
 
 use crate::owner_lists::{OwnedSlots, OwnerLists};
 use crate::slot_vector::{SlotNumber, SlotVector, TouchedNames};
@@ -110,7 +115,8 @@ impl<T: Drop> SlotTable<T> {
 
     /// The touched names, in the order in which they were touched. It takes no memory.
     pub fn touched(&self) -> TouchedNames<'_, T>
-        ensures { result ≡ self.now.touched }
+        ensures names { result ≡ self.now.touched }
+        ensures distinct { IsDistinct bytes_eq self.now.touched }
     {
         self.slots.touched()
     }
@@ -152,7 +158,8 @@ impl<T: Drop> SlotTable<T> {
 
     /// The names of the owner, in the order in which they came to it. It takes no memory.
     pub fn owned(&self, owner: &Name) -> OwnedNames<'_, T>
-        ensures { result ≡ list_of self.now.owned owner.now }
+        ensures names { result ≡ list_of self.now.owned owner.now }
+        ensures distinct { IsDistinct bytes_eq (list_of self.now.owned owner.now) }
     {
         OwnedNames {
             slots: &self.slots,

@@ -1,11 +1,15 @@
 // Slots by their numbers, of which those that are touched each name the next.
 ghost use Rattle.std.specs.Prelude.{◌≡◌, nat_eq, slice_set, ◌+◌, ◌-◌, ◌<◌, ◌∷◌, ◌++◌, [], true, false, None, Some, is_some, IsSome, map as each, IfOk, OnOk, OnErr, MatchOption};
+ghost use Rattle.std.specs.List.{IsDistinct};
 ghost use Rattle.std.specs.Option.{option_copied};
 ghost use Rattle.std.specs.Iterator.{YieldsFirstBy, item_count};
 ghost use Rattle.std.specs.FinMap as map;
 ghost use Rattle.dc_slots.specs.Chains.{has};
 ghost use Rattle.dc_slots.specs.Threads.{slot_at, next_in, with_next, linked, first_before as first_of, last_behind as last_of};
 ghost use Rattle.dc_slots.specs.Numbered.{IsKept, is_used, name_at, value_at, owners_at, with_kept, with_value, with_owners};
+
+#[cfg(test)]
+pub(crate) mod tests;
 
 use dc_text::{Mem, Name, OutOfMemory};
 use slab::Slab;
@@ -197,7 +201,8 @@ impl<T: Drop> SlotVector<T> {
 
     /// The names of the touched slots, in their order.
     pub(crate) fn touched(&self) -> TouchedNames<'_, T>
-        ensures { result ≡ each (name_at self.now) self.now.touched }
+        ensures names { result ≡ each (name_at self.now) self.now.touched }
+        ensures distinct { IsDistinct nat_eq self.now.touched }
     {
         TouchedNames {
             slots: &self.slots,

@@ -1,7 +1,7 @@
-use Rattle.std.proofs.Common.{◌≡◌, ◌∷◌, ◌++◌, ℕ, [], true, false, Some, None, refl, sym, ap, ◌∙◌, subst, nat_eq}
+use Rattle.std.proofs.Common.{◌≡◌, false, Some, sym, ap, ◌∙◌, nat_eq}
 use Rattle.std.specs.Prelude.{is_some}
 use Rattle.std.proofs.lemmas.Bool.{eqb-true}
-use Rattle.dc_slots.specs.Links.{link_at, next_of, next_in, slot_of, slot_in, links_from, slots_from, IsPlace}
+use Rattle.dc_slots.specs.Links.{link_at, next_of, slot_of, slot_in}
 use Rattle.dc_slots.proofs.ChainLemmas.{numbers_equiv}
 use Rattle.dc_slots.proofs.LinkLemmas.{search_begins, search_kept, search_found, search_goes, search_shrinks, search_ends}
 use Rattle.dc_slots.proofs.owner_lists.place_of.Goals as goal

@@ -1,4 +1,4 @@
-use Rattle.std.proofs.Common.{◌≡◌, ◌∷◌, ℕ, [], true, Some, None, map as each, refl, sym, ap, ◌∙◌}
+use Rattle.std.proofs.Common.{sym, ap, ◌∙◌}
 use Rattle.std.specs.Prelude.{is_some}
 use Rattle.dc_slots.specs.Links.{link_at}
 use Rattle.dc_slots.proofs.LinkLemmas.{walk_kept, walk_steps}

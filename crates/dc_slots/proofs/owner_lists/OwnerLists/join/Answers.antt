@@ -1,9 +1,7 @@
-use Rattle.std.proofs.Common.{◌≡◌, ◌∷◌, ◌++◌, ℕ, [], true, false, Some, None, refl, sym, ap, ◌∙◌, subst, nat_eq}
-use Rattle.std.specs.Prelude.{is_some}
+use Rattle.std.proofs.Common.{◌∷◌, ◌++◌, [], sym, ap, ◌∙◌}
 use Rattle.std.specs.FinMap as map
 use Rattle.dc_slots.specs.Chains.{has}
-use Rattle.dc_slots.specs.Slots.{list_of, with_at, without, if_any}
-use Rattle.dc_slots.specs.Links.{link_at, next_in, links_from, slots_from, AreLinked, IsPlace}
+use Rattle.dc_slots.specs.Slots.{list_of}
 use Rattle.dc_slots.proofs.LinkLemmas.{are_joined, joined_shown, last_is_kept, list_shown}
 use Rattle.dc_slots.proofs.owner_lists.OwnerLists.join.Goals as goal
 

@@ -1,9 +1,8 @@
-use Rattle.std.proofs.Common.{◌≡◌, ◌∷◌, ◌++◌, ℕ, [], true, false, Some, None, refl, sym, ap, ◌∙◌, subst, nat_eq}
-use Rattle.std.specs.Prelude.{is_some}
+use Rattle.std.proofs.Common.{◌≡◌, Some, None, sym, ap, ◌∙◌, nat_eq}
 use Rattle.std.specs.FinMap as map
 use Rattle.dc_slots.specs.Chains.{has}
 use Rattle.dc_slots.specs.Slots.{list_of, with_at, without, if_any}
-use Rattle.dc_slots.specs.Links.{link_at, next_in, links_from, slots_from, list_between, first_after, last_after, AreLinked, IsPlace}
+use Rattle.dc_slots.specs.Links.{next_in, list_between, first_after, last_after}
 use Rattle.dc_slots.proofs.LinkLemmas.{list_walks, list_kept, list_is, no_list, nothing_left, place_there, place_kept, before_kept, place_in_chain, are_parted, parted_shown}
 use Rattle.dc_slots.proofs.owner_lists.OwnerLists.leave.Goals as goal
 

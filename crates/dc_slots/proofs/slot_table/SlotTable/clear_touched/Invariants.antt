@@ -1,5 +1,4 @@
 use Rattle.std.proofs.Common.{◌≡◌, [], length}
-use Rattle.dc_slots.specs.Slots.{Slots}
 use Rattle.dc_slots.proofs.slot_table.SlotTable.clear_touched.Given as goal
 
 abbrev pub invariant-loop : goal.invariant-loop

@@ -3,7 +3,6 @@ use Rattle.std.specs.Option.{option_copied}
 use Rattle.std.specs.FinMap as map
 use Rattle.dc_slots.specs.Numbered.{value_at}
 use Rattle.dc_slots.proofs.TableLemmas.{at_number, get-values}
-use Rattle.dc_slots.proofs.OperationLemmas.{put_seen}
 use Rattle.dc_slots.proofs.slot_table.SlotTable.get.Goals as goal
 
 pub returns : goal.returns

@@ -1,4 +1,4 @@
-use Rattle.std.proofs.Common.{◌≡◌, ◌++◌, ap, ◌∙◌}
+use Rattle.std.proofs.Common.{◌++◌, ap, ◌∙◌}
 use Rattle.std.specs.FinMap as map
 use Rattle.dc_text.proofs.MapLemmas.{seen}
 use Rattle.dc_slots.proofs.OperationLemmas.{names_with_value, names_are_keys}

@@ -1,7 +1,6 @@
 use Rattle.std.proofs.Common.{◌≡◌, ◌++◌}
 use Rattle.std.specs.FinMap as map
 use Rattle.dc_text.proofs.MapLemmas.{seen}
-use Rattle.dc_slots.specs.Slots.{Slots}
 use Rattle.dc_slots.proofs.OperationLemmas.{names_with_value}
 use Rattle.dc_slots.proofs.slot_table.SlotTable.names_in_order.Given as goal
 

@@ -1,7 +1,6 @@
-use Rattle.std.proofs.Common.{◌≡◌, ◌∷◌, ℕ, true, false, Some, sym, ap, ◌∙◌}
-use Rattle.std.specs.Prelude.{is_some}
+use Rattle.std.proofs.Common.{◌∷◌, sym, ap, ◌∙◌}
 use Rattle.dc_slots.specs.Chains.{has}
-use Rattle.dc_slots.proofs.ThreadLemmas.{opened, seen, touched_is, first_is_kept, IsRest, rest_is, some_is_seen}
+use Rattle.dc_slots.proofs.ThreadLemmas.{touched_is, first_is_kept, rest_is, some_is_seen}
 use Rattle.dc_slots.proofs.slot_vector.SlotVector.forget_first.Goals as goal
 
 pub take_next-next-requires : goal.take_next-next-requires

@@ -1,10 +1,7 @@
-use Rattle.std.proofs.Common.{◌≡◌, ◌+◌, ◌-◌, ◌++◌, ◌∷◌, ℕ, [], true, false, Some, None, Option, nat_eq, refl, sym, ap, ◌∙◌, subst}
-use Rattle.std.specs.Prelude.{is_some, ◌||◌, not, option_copied, option_map}
-use Rattle.std.specs.FinMap as map
-use Rattle.dc_slots.specs.Chains.{has}
-use Rattle.dc_slots.specs.Numbered.{Kept, name_in, value_in, owners_in, name_at, value_at, owners_at}
-use Rattle.dc_slots.specs.Threads.{slot_at, kept_of, next_of, next_in, IsThreaded, IsChangedAt}
-use Rattle.dc_slots.proofs.ThreadLemmas.{is_opened, read, touched_seen, named_is_touched, last_is_touched, none_is_touched, no_some}
+use Rattle.std.proofs.Common.{◌≡◌, true, Some, None, nat_eq, sym, ap, ◌∙◌, subst}
+use Rattle.std.specs.Prelude.{is_some}
+use Rattle.dc_slots.specs.Threads.{next_of, next_in, IsThreaded}
+use Rattle.dc_slots.proofs.ThreadLemmas.{is_opened, touched_seen, named_is_touched, last_is_touched, none_is_touched, no_some}
 use Rattle.dc_slots.proofs.slot_vector.SlotVector.is_touched.Goals as goal
 
 pub index-requires : goal.index-requires

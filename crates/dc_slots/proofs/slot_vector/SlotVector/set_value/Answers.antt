@@ -1,9 +1,5 @@
-use Rattle.std.proofs.Common.{◌≡◌, ◌+◌, ◌-◌, ◌++◌, ◌∷◌, ℕ, [], true, false, Some, None, Option, nat_eq, refl, sym, ap, ◌∙◌, subst}
-use Rattle.std.specs.Prelude.{is_some, ◌||◌, not, option_copied, option_map}
-use Rattle.std.specs.FinMap as map
-use Rattle.dc_slots.specs.Chains.{has}
-use Rattle.dc_slots.specs.Numbered.{Kept, name_in, value_in, owners_in, name_at, value_at, owners_at}
-use Rattle.dc_slots.specs.Threads.{slot_at, kept_of, next_of, next_in, IsThreaded, IsChangedAt}
+use Rattle.std.proofs.Common.{refl, sym, ap, ◌∙◌}
+use Rattle.dc_slots.specs.Numbered.{name_in, value_in, owners_in}
 use Rattle.dc_slots.proofs.ThreadLemmas.{is_opened, read, rewritten, rewritten_view}
 use Rattle.dc_slots.proofs.slot_vector.SlotVector.set_value.Goals as goal
 

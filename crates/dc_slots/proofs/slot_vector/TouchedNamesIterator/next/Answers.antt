@@ -1,4 +1,4 @@
-use Rattle.std.proofs.Common.{◌≡◌, ◌∷◌, ℕ, [], true, Some, None, map as each, length, suc, arith, refl, sym, ap, ◌∙◌}
+use Rattle.std.proofs.Common.{◌≡◌, length, suc, arith, sym, ap, ◌∙◌}
 use Rattle.std.specs.Prelude.{is_some}
 use Rattle.dc_slots.specs.Threads.{slot_at, names_from}
 use Rattle.dc_slots.proofs.ThreadLemmas.{walk_kept, walk_steps}
