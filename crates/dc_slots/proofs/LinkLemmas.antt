@@ -13,7 +13,7 @@ use Rattle.dc_text.specs.Maps.{Texts, text_cmp}
 use Rattle.dc_text.proofs.MapLemmas.{exact_texts}
 use Rattle.dc_slots.specs.Chains.{has, IsWalk, EndsAt}
 use Rattle.dc_slots.specs.Slots.{list_of, with_at, without, if_any}
-use Rattle.dc_slots.specs.Links.{link_at, next_of, next_in, slot_of, slot_in, links_from, slots_from, slots_by_owner, IsLinkedAs, list_with, list_between, with_next, linked, IsJoined, IsPlace, IsUnlinked, first_after, last_after, AreLinked, AreWalked}
+use Rattle.dc_slots.specs.Links.{link_at, next_of, next_in, slot_of, slot_in, links_from, slots_from, slots_by_owner, IsLinkedAs, list_with, list_between, with_next, linked, IsJoined, IsPlace, IsFound, IsUnlinked, first_after, last_after, AreLinked, AreWalked}
 use Rattle.dc_slots.specs.declared.owner_lists.Link.{Link}
 use Rattle.dc_slots.specs.declared.owner_lists.OwnerList.{OwnerList}
 use Rattle.dc_slots.specs.declared.owner_lists.Place.{Place}
@@ -604,10 +604,10 @@ module _ (links : List (Option Link)) (lists : Texts OwnerList) (h : AreLinked l
           let distinct : IsDistinct nat_eq (p.front ++ number ∷ p.back) = subst (IsDistinct nat_eq) (sym (walked_links links lists h owner l is) ∙ p.split) (h.distinct owner) in
           (list_kept links lists h owner l is b (ap (has b) p.split ∙ has_append b p.front (number ∷ p.back) ∙ or_first (has b p.front) _ there), apart b number p.front there (not_in_front p.front p.back number distinct))
 
-pub told : (links : List (Option Link)) (ns : List ℕ) (slot : ℕ) (there : Bool) (o : Option Place) → MatchOption o (there ≡ false) (λ p. IsPlace links ns slot p.before p.number)
-    → ((before : Option ℕ) (number : ℕ) → IsPlace links ns slot before number → there ≡ true) → is_some o ≡ there
-told links ns slot there None none is = sym none
-told links ns slot there (Some p) place is = sym (is p.before p.number place)
+pub told : (links : List (Option Link)) (from : Option ℕ) (slot : ℕ) (o : Option Place) → IsFound links from slot o
+    → ((before : Option ℕ) (number : ℕ) → IsPlace links (links_from links from) slot before number → has slot (slots_from links from) ≡ true) → is_some o ≡ has slot (slots_from links from)
+told links from slot None none is = sym none
+told links from slot (Some p) place is = sym (is p.before p.number place)
 
 -- ---- a walk over a list
 

@@ -6,6 +6,7 @@ use Rattle.dc_text.specs.Maps.{Texts}
 use Rattle.dc_slots.specs.Chains.{has, walk, IsWalk, EndsAt}
 use Rattle.dc_slots.specs.declared.owner_lists.Link.{Link}
 use Rattle.dc_slots.specs.declared.owner_lists.OwnerList.{OwnerList}
+use Rattle.dc_slots.specs.declared.owner_lists.Place.{Place}
 
 abbrev pub link_at : List (Option Link) → ℕ → Option Link
 link_at links n = slice_index_or links n None
@@ -80,6 +81,11 @@ pub record IsPlace (links : List (Option Link)) (ns : List ℕ) (slot : ℕ) (be
   pub ends : EndsAt front before
   pub found : slot_in links number ≡ slot
   pub first : has slot (each (slot_in links) front) ≡ false
+
+-- where the slot's link stands among the links from this one on, if it is there
+abbrev pub IsFound : List (Option Link) → Option ℕ → ℕ → Option Place → Type 0
+IsFound links from slot None = has slot (slots_from links from) ≡ false
+IsFound links from slot (Some p) = IsPlace links (links_from links from) slot p.before p.number
 
 -- the link is gone, and the one before it, if there is one, names what it named
 pub record IsUnlinked (links later : List (Option Link)) (before : Option ℕ) (number : ℕ) : Type 0 where

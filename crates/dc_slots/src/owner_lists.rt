@@ -4,7 +4,7 @@ ghost use Rattle.std.specs.List.{IsDistinct};
 ghost use Rattle.std.specs.FinMap as map;
 ghost use Rattle.dc_slots.specs.Chains.{has, IsWalk};
 ghost use Rattle.dc_slots.specs.Slots.{list_of, with_at, without, if_any};
-ghost use Rattle.dc_slots.specs.Links.{link_at, next_in, links_from, slots_from, linked, list_between, IsJoined, IsPlace, IsUnlinked, first_after as first_of, last_after as last_of};
+ghost use Rattle.dc_slots.specs.Links.{link_at, next_in, links_from, linked, list_between, IsJoined, IsFound, IsUnlinked, first_after as first_of, last_after as last_of};
 ghost use Rattle.dc_slots.specs.declared.owner_lists.OwnerList.{OwnerList as Listed};
 
 #[cfg(test)]
@@ -231,7 +231,7 @@ fn join_list(
 fn place_of(links: &Slab<Link>, first: LinkNumber, slot: SlotNumber) -> Option<Place>
     requires walks { IsWalk (next_in links.now.slots) (Some first) (links_from links.now.slots (Some first)) }
     requires kept { (n : ℕ) → has n (links_from links.now.slots (Some first)) ≡ true → IsSome (link_at links.now.slots n) }
-    ensures { MatchOption result (has slot (slots_from links.now.slots (Some first)) ≡ false) (λ p. IsPlace links.now.slots (links_from links.now.slots (Some first)) slot p.before p.number) }
+    ensures { IsFound links.now.slots (Some first) slot result }
 {
     let mut before = None;
     let mut at = Some(first);
