@@ -1,0 +1,9 @@
+pub mod ChainLemmas
+pub mod KeyLemmas
+pub mod ThreadLemmas
+pub mod LinkLemmas
+pub mod TableLemmas
+pub mod TiedLemmas
+pub mod ChangeLemmas
+pub mod PlaceLemmas
+pub mod OperationLemmas
