@@ -13,7 +13,9 @@ use Rattle.dc_run.specs.Ends.{status_of, LinksCount, ProgramCounts}
 use Rattle.dc_run.specs.Rounds.{HasDoneJobs}
 use Rattle.dc_run.specs.Saves.{Save}
 use Rattle.dc_run.specs.Starting.{HasStarted, EndsBefore}
-use Rattle.dc_run.specs.World.{RunState, World, before_rounds}
+use Rattle.dc_run.specs.World.{Links, RunState, World, before_rounds, stock_of}
+use Rattle.dc_layer.specs.State.{LayerState}
+use Rattle.dc_outside.specs.State.{FilesState, LinkState}
 
 -- ---- a run of a tool
 
@@ -65,3 +67,10 @@ pub record IsRun (words : List (List ℕ)) (settings : Settings) (old new : Worl
   pub links_count : LinksCount outcome.end old.links new.links
   pub program_counts : ProgramCounts outcome.end old.links.child.program.failures new.links.child.program.failures
   pub keeps : KeepsDatabases settings.conf_path old.stock.files new.stock.files outcome.end saves
+
+-- A run of the program over layers of its own, of which none was in use: it ended so, whatever it left in them, and this is its exit status.
+pub record IsProgramRun (words : List (List ℕ)) (settings : Settings) (old : World) (links : Links) (err : LinkState) (files : FilesState) (status : ℕ) : Type 0 where
+  pub used : List LayerState
+  pub outcome : Outcome
+  pub ran : IsRun words settings old (record { stock = stock_of files used; links = links; err = err }) outcome
+  pub status_is : status ≡ outcome.status

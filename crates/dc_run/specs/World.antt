@@ -1,5 +1,5 @@
 -- What a run finds and leaves.
-use Rattle.std.specs.Prelude.{ℕ, List, map as each}
+use Rattle.std.specs.Prelude.{ℕ, List, [], map as each}
 use Rattle.dc_layer.specs.State.{LayerState}
 use Rattle.dc_outside.specs.State.{LinkState, FilesState}
 use Rattle.dc_session.specs.SessionState.{nothing_typed}
@@ -44,6 +44,10 @@ links_of io child = record { io = io; child = child }
 abbrev pub run_state : LinkState → LinkState → LinkState → FilesState → List LayerState → TypeAhead → ℕ → RunState
 run_state io child err files used ahead code =
     record { world = record { stock = stock_of files used; links = links_of io child; err = err }; ahead = ahead; code = code }
+
+-- what a run finds: these links, standard error and files, and no layer in use
+abbrev pub world_before : LinkState → LinkState → LinkState → FilesState → World
+world_before io child err files = record { stock = stock_of files []; links = links_of io child; err = err }
 
 -- ---- over a shelf: the states of its boxes
 

@@ -3,6 +3,8 @@ ghost use Rattle.std.specs.Prelude.{◌≡◌, IfOk};
 ghost use Rattle.dc_conf.specs.declared.spec.LayerSort.TheVariants.{File as OneFile, Tree, Pack};
 ghost use Rattle.dc_outside.specs.Programs.{IsIdle};
 ghost use Rattle.dc_layer.specs.State.{blank};
+ghost use Rattle.dc_run.specs.Headline.{IsProgramRun};
+ghost use Rattle.dc_run.specs.World.{links_of, world_before};
 
 use dc_dirs::{DirTreeLayer, PackageDirLayer};
 use dc_layer::{FileLayer, Layer};
@@ -31,8 +33,8 @@ fn blank_boxes(alloc: Global) -> Mem<(Box<FileLayer>, Box<DirTreeLayer>, Box<Pac
     Ok((file, tree, pack))
 }
 
-/// Runs the words over a shelf of blank layers: one of each sort for each of the sixteen databases that a configuration may have. What made
-/// a box of any layer could break what is said of it, so that no function hands one out.
+/// Runs the words over a shelf of blank layers: one of each sort for each of the sixteen databases that a configuration may have. It answers the
+/// exit status. What made a box of any layer could break what is said of it, so that no function hands one out.
 pub fn run_over<L: Link, E: Link, C: Child, F: Files>(
     alloc: Global,
     words: &List<Text>,
@@ -43,6 +45,9 @@ pub fn run_over<L: Link, E: Link, C: Child, F: Files>(
     files: &mut F,
 ) -> Mem<u8>
     requires { IsIdle (C.link child.old).program.life }
+    ensures { IfOk result (λ status. IsProgramRun words.now settings.now
+        (world_before (L.link io.old) (C.link child.old) (E.link err.old) (F.files files.old))
+        (links_of (L.link io.new) (C.link child.new)) (E.link err.new) (F.files files.new) status) }
 {
     let mut shelf = Shelf::empty(alloc);
     fill!(shelf, alloc);
