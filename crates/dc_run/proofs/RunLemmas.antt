@@ -9,7 +9,7 @@ use Rattle.dc_serve.specs.declared.outcome.LinkEnd.{LinkEnd}
 use Rattle.dc_serve.specs.declared.outcome.LinkEnd.TheVariants as link
 use Rattle.dc_session.specs.Serving.{IsFinished, Finishes as FinishesSession, IsServed, Resources, resources_in}
 use Rattle.dc_outside.specs.State.{FilesState, LinkState}
-use Rattle.dc_session.specs.SessionState.{SessionState, TerminalState}
+use Rattle.dc_session.specs.SessionState.{SessionState, TerminalState, nothing_typed}
 use Rattle.dc_session.specs.declared.stepped.StepError.{StepError}
 use Rattle.dc_session.specs.declared.stepped.StepError.TheVariants as step
 use Rattle.dc_cli.specs.Tools.{AreRefusedAt, IsToolWords, Names, NamesTool, IsCommand, owner_of}
@@ -159,11 +159,13 @@ module _ (used : Tool) (settings : Settings) (old new : World) (outcome : Outcom
   ended_before before same said is =
       subst (λ (o : Outcome). HasRunTool used settings old new o []) (sym is) (inl (before, record { links_are = same; said = said; code_is = refl; status_is = refl }, refl))
 
-  pub ended_after : (mid : Stock) (roots : Roots) (left : RunState) (answer : ToolAnswer) (saved : End) (status : ℕ) → HasStarted settings.conf_path old.stock.files mid roots
-      → HasDone used roots settings (before_rounds (record old { stock = mid })) left answer [] → (commits : (last : List Save) × Commits (comes_to_save answer.ended) answer.ended left.world.stock new.stock last saved)
+  pub ended_after : (mid : Stock) (roots : Roots) (ahead : TypeAhead) (left : RunState) (answer : ToolAnswer) (saved : End) (status : ℕ) → ahead ≡ nothing_typed → HasStarted settings.conf_path old.stock.files mid roots
+      → HasDone used roots settings (run_state old.links.io old.links.child old.err mid.files mid.used ahead 0) left answer [] → (commits : (last : List Save) × Commits (comes_to_save answer.ended) answer.ended left.world.stock new.stock last saved)
       → new.links.io ≡ left.world.links.io → Awaits answer.is_started left.world.links.child new.links.child saved how answer.status status → HasSaid (end_line how) left.world.err new.err
       → outcome ≡ record { status = status_of how status; end = how; last_code = answer.last_code } → HasRunTool used settings old new outcome (commits.0 ++ [])
-  ended_after mid roots left answer saved status started does commits io awaits said is =
+  ended_after mid roots ahead left answer saved status none started does commits io awaits said is =
+      let done : HasDone used roots settings (before_rounds (record old { stock = mid })) left answer []
+      = subst (λ (a : TypeAhead). HasDone used roots settings (run_state old.links.io old.links.child old.err mid.files mid.used a 0) left answer []) none does in
       let after : RunState = record { world = record { stock = new.stock; links = new.links; err = left.world.err }; ahead = left.ahead; code = left.code } in
       let round : Round = record { job = Whole used; answer = answer; left = left; inner = []; last = commits.0; finish = saved; status = status; how = how; new = after } in
       subst (λ (o : Outcome). HasRunTool used settings old new o (commits.0 ++ [])) (sym is) (inr (record {
@@ -185,7 +187,7 @@ module _ (used : Tool) (settings : Settings) (old new : World) (outcome : Outcom
             jobs_are = refl;
             are = (
               record {
-                works = does;
+                works = done;
                 commits = commits.1;
                 awaits = awaits;
                 told = none_said left.world.err;
@@ -206,7 +208,7 @@ module _ (used : Tool) (settings : Settings) (old new : World) (outcome : Outcom
         };
         said = said;
         rest_is = refl;
-        code_is = sym does.code_is;
+        code_is = sym done.code_is;
         status_is = refl;
       }))
 

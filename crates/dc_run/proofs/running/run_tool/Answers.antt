@@ -1,7 +1,5 @@
-use Rattle.std.proofs.Common.{refl, subst}
-use Rattle.dc_run.specs.Rounds.{HasDone}
-use Rattle.dc_run.specs.World.{World, run_state, world}
-use Rattle.dc_teletype.specs.TerminalLines.{TypeAhead}
+use Rattle.std.proofs.Common.{refl}
+use Rattle.dc_run.specs.World.{World, links_of, world}
 use Rattle.dc_run.proofs.RunLemmas.{ended_before, ended_after}
 use Rattle.dc_run.proofs.running.run_tool.Goals as goal
 
@@ -14,14 +12,13 @@ returns-in-Err g c =
 pub returns-in-Ok : goal.returns-in-Ok
 returns-in-Ok g c =
     let old : World = (world (g.L.Link.link c.args.io.now) (g.C.Link.link c.args.child.now) (g.E.Link.link c.args.err.now) (g.F.Files.files c.args.files.now) (λ b. (goal.Layer-dyn g b).state b.1) c.args.shelf.now) in
-    let new : World = (world (g.L.Link.link c.use_tool-answer.new.io) (g.C.Link.link c.await_program-end.new.child) (g.E.Link.link c.end_run-in-Ok.new.err) _ (λ b. (goal.Layer-dyn g b).state b.1) _) in
+    let new : World = record { stock = _; links = links_of (g.L.Link.link c.use_tool-answer.new.io) (g.C.Link.link c.await_program-end.new.child); err = g.E.Link.link c.end_run-in-Ok.new.err } in
     record {
       ran = (
         _,
         ended_after c.args.tool.now c.args.settings.now old new c.end_run-in-Ok.result c.await_program-end.result.0
-            _ c.in-Ok.roots _ c.use_tool-answer.result c.finish_used-how.result
-            c.await_program-end.result.1 c.in-Ok.ensures.starts
-            (subst (λ (a : TypeAhead). HasDone c.args.tool.now c.in-Ok.roots c.args.settings.now (run_state (g.L.Link.link c.args.io.now) (g.C.Link.link c.args.child.now) (g.E.Link.link c.args.err.now) _ _ a 0) _ c.use_tool-answer.result []) c.new-teletype.ensures c.use_tool-answer.ensures.does)
+            _ c.in-Ok.roots c.new-teletype.result.ahead _ c.use_tool-answer.result c.finish_used-how.result
+            c.await_program-end.result.1 c.new-teletype.ensures c.in-Ok.ensures.starts c.use_tool-answer.ensures.does
             c.finish_used-how.ensures refl c.await_program-end.ensures c.end_run-in-Ok.ensures.said c.end_run-in-Ok.ensures.outcome,
       );
     }

@@ -23,3 +23,8 @@ pub returns-in-LoadTemplate-clause-running : goal.returns-in-LoadTemplate-clause
 returns-in-LoadTemplate-clause-running g c started =
     let waits = (c.load_template_files.ensures no_terminal nowhere (record { frontend = Noninteractive; threshold = High; nonint_seen = false }) nothing_asked).waits in
     cc
+
+pub returns-in-Communicate-clause-running : goal.returns-in-Communicate-clause-running
+returns-in-Communicate-clause-running g c started =
+    let waits = (c.communicate.ensures.served (g.C.Link.link c.args.child.now)).waits in
+    cc

@@ -8,7 +8,7 @@ returns-in-Ok-load_used-clause-starts g c =
     record {
       conf = c.in-Ok.conf;
       loaded = loaded_by c.args.path.now c.in-Ok.conf (g.F.Files.files c.args.files.now) (g.F.Files.files c.read_configuration.new.files) (g.F.Files.files c.load_used.new.files) c.as_slice-2.result.now _ _ _ (Ok tt)
-          c.in-Ok.ensures.0 c.in-Ok.ensures.1 (search rules) (search rules) c.in-Ok-load_used.ensures.loads refl;
+          c.in-Ok.ensures.0 c.in-Ok.ensures.1 (search rules) (search rules) (search rules) c.in-Ok-load_used.ensures.loads refl;
       config_is = plans.0;
       templates_is = plans.1;
       frontend_is = search rules;
