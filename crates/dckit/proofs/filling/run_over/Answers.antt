@@ -1,9 +1,6 @@
 -- The shelf that is made has sixteen boxes of each sort, and the run is that over it.
-use Rattle.std.proofs.Common.{◌∙◌, List, map as each, refl, ap, subst, arith}
-use Rattle.dc_layer.specs.State.{LayerState}
-use Rattle.dc_run.specs.Headline.{IsRun}
-use Rattle.dc_run.specs.World.{links_of, stock_of}
-use Rattle.dckit.proofs.ShelfLemmas.{grows}
+use Rattle.std.proofs.Common.{◌∙◌, map as each, ap, arith}
+use Rattle.dckit.proofs.ShelfLemmas.{grows, ran_over}
 use Rattle.dckit.proofs.filling.run_over.Goals as goal
 
 pub run_words-outcome-requires-clause-some_files : goal.run_words-outcome-requires-clause-some_files
@@ -22,14 +19,7 @@ pub run_words-outcome-requires-clause-used : goal.run_words-outcome-requires-cla
 run_words-outcome-requires-clause-used g c =
     c.take_each-16.ensures.used ∙ c.take_each-15.ensures.used ∙ c.take_each-14.ensures.used ∙ c.take_each-13.ensures.used ∙ c.take_each-12.ensures.used ∙ c.take_each-11.ensures.used ∙ c.take_each-10.ensures.used ∙ c.take_each-9.ensures.used ∙ c.take_each-8.ensures.used ∙ c.take_each-7.ensures.used ∙ c.take_each-6.ensures.used ∙ c.take_each-5.ensures.used ∙ c.take_each-4.ensures.used ∙ c.take_each-3.ensures.used ∙ c.take_each-2.ensures.used ∙ c.take_each.ensures.used ∙ c.empty-shelf.ensures.used
 
-pub returns-in_ok : goal.returns-in_ok
-returns-in_ok g c =
+pub returns : goal.returns
+returns g c =
     let none = c.take_each-16.ensures.used ∙ c.take_each-15.ensures.used ∙ c.take_each-14.ensures.used ∙ c.take_each-13.ensures.used ∙ c.take_each-12.ensures.used ∙ c.take_each-11.ensures.used ∙ c.take_each-10.ensures.used ∙ c.take_each-9.ensures.used ∙ c.take_each-8.ensures.used ∙ c.take_each-7.ensures.used ∙ c.take_each-6.ensures.used ∙ c.take_each-5.ensures.used ∙ c.take_each-4.ensures.used ∙ c.take_each-3.ensures.used ∙ c.take_each-2.ensures.used ∙ c.take_each.ensures.used ∙ c.empty-shelf.ensures.used in
-    record {
-      used = _;
-      outcome = c.run_words-outcome.result;
-      ran = subst (λ (used : List LayerState). IsRun c.args.words.now c.args.settings.now
-          (record { stock = stock_of (g.F.Files.files c.args.files.now) used; links = links_of (g.L.Link.link c.args.io.now) (g.C.Link.link c.args.child.now); err = g.E.Link.link c.args.err.now })
-          _ c.run_words-outcome.result) (ap (each _) none) c.run_words-outcome.ensures.ran;
-      status_is = refl;
-    }
+    ran_over _ _ _ _ _ _ _ _ _ _ c.run_words-outcome.result (ap (each _) none) c.run_words-outcome.ensures.ran
