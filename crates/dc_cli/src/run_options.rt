@@ -50,7 +50,8 @@ impl RunOption {
 
     // The option that the word spells together with its value.
     fn long(word: &[u8]) -> Option<(RunOption, &[u8])>
-        ensures { MatchOption result ((option : RunOption) (value : List ℕ) → word.now ≢ long_word option ++ value) (λ spelled. word.now ≡ long_word spelled.0 ++ spelled.1.now) }
+        ensures { MatchOption result ((option : RunOption) (value : List ℕ) → word.now ≢ long_word option ++ value)
+            (λ spelled. word.now ≡ long_word spelled.0 ++ spelled.1.now) }
     {
         if let Some(value) = word.strip_prefix(b"--owner=") {
             Some((RunOption::Owner, value))
@@ -126,7 +127,8 @@ impl<'a> RunOptions<'a> {
         rest: &'w [Text],
     ) -> Result<FirstOption<'w>, usize>
         requires { begins_with_dash word.now ≡ true }
-        ensures { MatchResult result (IsFirst self.now word.now rest.now) (λ place. (given : List Given) → Say given self.now → AreRefusedBehind given word.now rest.now place) }
+        ensures { MatchResult result (IsFirst self.now word.now rest.now)
+            (λ place. (given : List Given) → Say given self.now → AreRefusedBehind given word.now rest.now place) }
     {
         if let Some(option) = RunOption::short(word.bytes()) {
             if self.has(option) {

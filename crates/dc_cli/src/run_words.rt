@@ -39,7 +39,8 @@ pub(crate) fn read_run(alloc: Global, words: &[Text]) -> Result<Tool, ToolError>
 
 fn run_for(alloc: Global, options: RunOptions, command: &[Text]) -> Result<Tool, ToolError>
     requires { is_name_of (unwrap_or (option_copied options.owner) (codes "unknown")) ≡ true }
-    ensures { MatchResult result (λ tool. tool ≡ Tool.Run (unwrap_or (option_copied options.entry.owner) (codes "unknown")) options.entry.frontend options.entry.priority command.now)
+    ensures { MatchResult result (λ tool. tool
+        ≡ Tool.Run (unwrap_or (option_copied options.entry.owner) (codes "unknown")) options.entry.frontend options.entry.priority command.now)
         (λ error. error ≡ ToolError.OutOfMemory) }
 {
     let owner = read_owner(alloc, options.owner.unwrap_or(b"unknown"))?;

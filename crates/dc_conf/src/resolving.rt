@@ -41,7 +41,8 @@ fn resolve_known(
     databases: &[LayerSpec],
     roots: &[Text],
 ) -> Mem<Resolved>
-    ensures specs { IfOk result (λ resolved. resolved.specs ≡ filter (λ spec. list_any (λ root. is_among_of (holders_of conf.now root) spec.name) roots.now) databases.now) }
+    ensures specs { IfOk result (λ resolved. resolved.specs
+        ≡ filter (λ spec. list_any (λ root. is_among_of (holders_of conf.now root) spec.name) roots.now) databases.now) }
     ensures plans { IfOk result (λ resolved. resolved.plans ≡ each (plan_of conf.now resolved.specs) roots.now) }
 {
     let specs = reached(conf, alloc, databases, roots)?;

@@ -199,7 +199,10 @@ impl MemFiles {
 
     // Keeps a call that was done, and what stands after it.
     fn stand(&mut self, op: FilesOp, path: &Text, current: DiskState) -> Mem<()>
-        ensures ok { OnOk result (self.new ≡ record self.old { disk = then_stands self.old.disk current; calls = self.old.calls ++ record { op = op; path = path.now; ok = true } ∷ [] }) }
+        ensures ok { OnOk result (self.new ≡ record self.old {
+          disk = then_stands self.old.disk current;
+          calls = self.old.calls ++ record { op = op; path = path.now; ok = true } ∷ [];
+        }) }
         ensures err { OnErr result (self.new ≡ self.old) }
     {
         let before = self.current.copy()?;

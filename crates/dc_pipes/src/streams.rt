@@ -35,7 +35,8 @@ pub fn write_all<W: Write>(output: &mut W, bytes: &[u8]) -> Result<()>
 
 // Writes a front of the bytes, and answers the rest. Where a signal interrupted the write, that is all of them.
 fn write_some<'a, W: Write>(output: &mut W, bytes: &'a [u8]) -> Result<&'a [u8]>
-    ensures { MatchResult result (λ rest. IsWritten (W.contents output.old) (W.contents output.new) bytes.now rest.now) (λ _. Keeps (W.contents output.old) (W.contents output.new)) }
+    ensures { MatchResult result (λ rest. IsWritten (W.contents output.old) (W.contents output.new) bytes.now rest.now)
+        (λ _. Keeps (W.contents output.old) (W.contents output.new)) }
 {
     match output.write(bytes) {
         Ok(count) if count == 0 => Err(Error::from(ErrorKind::WriteZero)),

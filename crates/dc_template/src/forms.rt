@@ -141,7 +141,8 @@ fn is_template_word(word: &[u8]) -> bool
 
 // The key that most templates have, where it is spelled as they do.
 fn usual_key(word: &[u8]) -> Option<&'static [u8]>
-    ensures { MatchOption result (Unit {0}) (λ key. (key.now ≡ map lower word.now) × (is_field_key key.now ≡ true) × ((value : Listed ℕ) → headed key.now value ≡ Form.Sets key.now value)) }
+    ensures { MatchOption result (Unit {0}) (λ key. (key.now ≡ map lower word.now) × (is_field_key key.now ≡ true)
+        × ((value : Listed ℕ) → headed key.now value ≡ Form.Sets key.now value)) }
 {
     match word {
         b"Type" => Some(b"type"),

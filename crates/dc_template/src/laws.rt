@@ -46,7 +46,8 @@ pub fn references_are_replaced()
     ensures variable { (variables : Texts (List ℕ)) (key rest : List ℕ) → closes key ≡ false
         → expanded variables (dollar_sign ∷ opening_brace ∷ key ++ closing_brace ∷ rest) ≡ variable_or_nothing variables key ++ expanded variables rest }
     ensures quoted { (variables : Texts (List ℕ)) (key rest : List ℕ) → closes key ≡ false
-        → expanded variables (backslash ∷ dollar_sign ∷ opening_brace ∷ key ++ closing_brace ∷ rest) ≡ dollar_sign ∷ opening_brace ∷ key ++ closing_brace ∷ expanded variables rest }
+        → expanded variables (backslash ∷ dollar_sign ∷ opening_brace ∷ key ++ closing_brace ∷ rest)
+        ≡ dollar_sign ∷ opening_brace ∷ key ++ closing_brace ∷ expanded variables rest }
     ensures unclosed { (variables : Texts (List ℕ)) (text : List ℕ) → closes text ≡ false → expanded variables text ≡ text }
     ensures other { (variables : Texts (List ℕ)) (byte : ℕ) (rest : List ℕ) → opens (byte ∷ rest) ≡ false → (byte == backslash && opens rest) ≡ false
         → expanded variables (byte ∷ rest) ≡ byte ∷ expanded variables rest }

@@ -151,7 +151,10 @@ fn line_of_vec(bytes: Vec<u8>) -> Option<Line>
 // Where the first newline stands, and what it parts.
 fn newline_at(bytes: &[u8]) -> Option<usize>
     ensures { MatchOption result (text_lines bytes.now ≡ record { ended = []; rest = bytes.now })
-        (λ k. (k < length bytes.now) × (text_lines bytes.now ≡ record { ended = take k bytes.now ∷ (text_lines (drop (k + 1) bytes.now)).ended; rest = (text_lines (drop (k + 1) bytes.now)).rest })) }
+        (λ k. (k < length bytes.now) × (text_lines bytes.now ≡ record {
+          ended = take k bytes.now ∷ (text_lines (drop (k + 1) bytes.now)).ended;
+          rest = (text_lines (drop (k + 1) bytes.now)).rest;
+        })) }
 {
     place_of(bytes, b'\n')
 }
