@@ -12,7 +12,7 @@ use Rattle.dc_serve.specs.declared.machine.Response.TheVariants as did
 use Rattle.dc_serve.specs.declared.outcome.Served.{Served}
 use Rattle.dc_serve.specs.declared.outcome.Served.TheVariants.{On, Stopped, Failed, OutOfMemory, Broken}
 use Rattle.dc_serve.specs.Execution.{Transition, lines_of, stops}
-use Rattle.dc_serve.specs.Inside.{Serves, HasServed, SendsReply, ServedCounts, ServesLines}
+use Rattle.dc_serve.specs.Inside.{Serves, HasServed, AnswersLine, SendsReply, ServedCounts, ServesLines}
 use Rattle.dc_serve.specs.Said.{AreSaid}
 use Rattle.dc_serve.proofs.Courses.{lines_of-append, state_after-append, stops-append, replies-append, last_code_from-append, course-append}
 use Rattle.dc_serve.proofs.Talks.{then_pieces-nil, then_pieces-then_pieces}
@@ -21,7 +21,7 @@ module _ {S B : Type 0} (steps : S → Line → Response → S → Type 0) (abor
   -- ---- one line
 
   -- a line without a reply
-  pub line_silent : (talk : Option (List Piece)) (s new : S) (line : Line) (code : ℕ) → steps s line did.Silent new → HasServed steps aborts talk talk s (line ∷ []) On code new code
+  line_silent : (talk : Option (List Piece)) (s new : S) (line : Line) (code : ℕ) → steps s line did.Silent new → HasServed steps aborts talk talk s (line ∷ []) On code new code
   line_silent talk s new line code heeded = record {
     transitions = record { line = line; did = did.Silent; new = new } ∷ [];
     rest = [];
@@ -33,7 +33,7 @@ module _ {S B : Type 0} (steps : S → Line → Response → S → Type 0) (abor
   }
 
   -- a line that stops the machine
-  pub line_stopped : (talk : Option (List Piece)) (s new : S) (line : Line) (code : ℕ) → steps s line did.Stopped new → HasServed steps aborts talk talk s (line ∷ []) Stopped code new code
+  line_stopped : (talk : Option (List Piece)) (s new : S) (line : Line) (code : ℕ) → steps s line did.Stopped new → HasServed steps aborts talk talk s (line ∷ []) Stopped code new code
   line_stopped talk s new line code heeded = record {
     transitions = record { line = line; did = did.Stopped; new = new } ∷ [];
     rest = [];
@@ -118,7 +118,7 @@ module _ {S B : Type 0} (steps : S → Line → Response → S → Type 0) (abor
   replied_rest OutOfMemory io new_io code text last new_last sends = only_said io new_io _ sends.0.state refl refl
   replied_rest (Broken error) io new_io code text last new_last sends = absurd sends
 
-  pub line_replied : (outcome : Served B) (io new_io : LinkState) (s new : S) (line : Line) (code : ℕ) (text : List ℕ) (last new_last : ℕ)
+  line_replied : (outcome : Served B) (io new_io : LinkState) (s new : S) (line : Line) (code : ℕ) (text : List ℕ) (last new_last : ℕ)
       → steps s line (did.Replied code text) new → SendsReply outcome io new_io code text last new_last
       → ServesLines steps aborts io new_io s (line ∷ []) outcome last new new_last
   line_replied outcome io new_io s new line code text last new_last handled sends = record {
@@ -126,6 +126,17 @@ module _ {S B : Type 0} (steps : S → Line → Response → S → Type 0) (abor
     counts = replied_counts outcome io new_io code text last new_last sends;
     rest = replied_rest outcome io new_io code text last new_last sends;
   }
+
+  -- a line that was answered so
+  pub line_answered : (response : Response) (outcome : Served B) (io new_io : LinkState) (s new : S) (line : Line) (last new_last : ℕ)
+      → steps s line response new → AnswersLine response outcome io new_io last new_last
+      → ServesLines steps aborts io new_io s (line ∷ []) outcome last new new_last
+  line_answered did.Silent outcome io new_io s new line last new_last handled is =
+      rw (is.0, is.1, is.2) (record { served = line_silent io.talk s new line last handled; counts = refl; rest = refl })
+  line_answered (did.Replied code text) outcome io new_io s new line last new_last handled sends =
+      line_replied outcome io new_io s new line code text last new_last handled sends
+  line_answered did.Stopped outcome io new_io s new line last new_last handled is =
+      rw (is.0, is.1, is.2) (record { served = line_stopped io.talk s new line last handled; counts = refl; rest = refl })
 
   -- ---- lines after others
 

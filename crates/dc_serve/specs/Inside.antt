@@ -8,6 +8,7 @@ use Rattle.dc_outside.specs.LinkCalls.{IsCutAt, IsRefused}
 use Rattle.dc_outside.specs.State.{LinkState}
 use Rattle.dc_outside.specs.Talk.{then_pieces}
 use Rattle.dc_serve.specs.declared.machine.Response.{Response}
+use Rattle.dc_serve.specs.declared.machine.Response.TheVariants as did
 use Rattle.dc_serve.specs.declared.outcome.LinkEnd.{LinkEnd}
 use Rattle.dc_serve.specs.declared.outcome.LinkEnd.TheVariants as link
 use Rattle.dc_serve.specs.declared.outcome.Served.{Served}
@@ -59,6 +60,12 @@ SendsReply Stopped old new code text last new_last = ⊥
 SendsReply Failed old new code text last new_last = IsCutAt text old new × (new_last ≡ code)
 SendsReply OutOfMemory old new code text last new_last = IsRefused old new × (new_last ≡ last)
 SendsReply (Broken error) old new code text last new_last = ⊥
+
+-- what answering a line does to the link, and to the last code: its reply is sent, where it has one
+abbrev pub AnswersLine : {B : Type 0} → Response → Served B → LinkState → LinkState → ℕ → ℕ → Type 0
+AnswersLine did.Silent served old new last new_last = (served ≡ On) × (new ≡ old) × (new_last ≡ last)
+AnswersLine (did.Replied code text) served old new last new_last = SendsReply served old new code text last new_last
+AnswersLine did.Stopped served old new last new_last = (served ≡ Stopped) × (new ≡ old) × (new_last ≡ last)
 
 -- how the link counted the calls of a serving
 abbrev pub ServedCounts : {B : Type 0} → Served B → Counts → Counts → Type 0

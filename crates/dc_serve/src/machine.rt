@@ -25,7 +25,10 @@ pub trait LineMachine {
 
     ghost state: { Self → State };
 
-    /// A line that comes in the first state does this, and leaves the second.
+    /// A line that comes in the first state does this, and leaves the second, in which what it has to tell isn't told yet.
+    ghost handles: { State → Line → Response → State → Type 0 };
+
+    /// A line that comes in the first state does this, and leaves the second: its reply is out, and what it has to tell is told.
     ghost steps: { State → Line → Response → State → Type 0 };
 
     /// A line that comes in the first state and isn't heeded to its end leaves the second.
@@ -37,7 +40,12 @@ pub trait LineMachine {
     ghost borrows: { Self → Borrows };
 
     fn handle(&mut self, line: &Line) -> Result<Response, Self::Break>
-        ensures ok { IfOk result (λ did. steps (state self.old) line.now did (state self.new)) }
+        ensures ok { IfOk result (λ did. handles (state self.old) line.now did (state self.new)) }
         ensures err { IfErr result (λ error. aborts (state self.old) line.now error (state self.new)) }
+        ensures borrows { borrows self.new ≡ borrows self.old };
+
+    /// Tells what the last line has to tell beside its reply, which is out. So it stands behind that reply, and before all of the next line.
+    fn tell(&mut self)
+        ensures told { (before : State) (line : Line) (did : Response) → handles before line did (state self.old) → steps before line did (state self.new) }
         ensures borrows { borrows self.new ≡ borrows self.old };
 }

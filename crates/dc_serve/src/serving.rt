@@ -1,7 +1,7 @@
 // Serves the lines of a link, each before more is read.
 ghost use Rattle.std.specs.Prelude.{◌≡◌, ◌<◌, ◌≤◌, [], ◌∷◌, length, IfOk};
 ghost use Rattle.dc_words.specs.Stream.{whole_lines, rest_of, line_of_rest};
-ghost use Rattle.dc_serve.specs.Inside.{SendsReply, ServesLines};
+ghost use Rattle.dc_serve.specs.Inside.{AnswersLine, SendsReply, ServesLines};
 ghost use Rattle.dc_serve.specs.LinkRun.{ServesLink};
 
 use crate::machine::{LineMachine, Response};
@@ -34,7 +34,18 @@ fn send<L: Link, B: Drop>(io: &mut L, code: u8, text: &Text, last_code: &mut u8)
     }
 }
 
-// Serves one line: one write, where it has a reply.
+// Sends the reply of a line, where it has one.
+fn answer<L: Link, B: Drop>(io: &mut L, did: Response, last_code: &mut u8) -> Served<B>
+    ensures { AnswersLine did result (L.link io.old) (L.link io.new) last_code.old last_code.new }
+{
+    match did {
+        Response::Silent => Served::On,
+        Response::Stopped => Served::Stopped,
+        Response::Replied { code, text } => send(io, code, &text, last_code),
+    }
+}
+
+// Serves one line: one write, where it has a reply, and behind it what else is told.
 fn serve_line<L: Link, H: LineMachine>(
     io: &mut L,
     machine: &mut H,
@@ -47,9 +58,11 @@ fn serve_line<L: Link, H: LineMachine>(
 {
     match machine.handle(line) {
         Err(error) => Served::Broken(error),
-        Ok(Response::Silent) => Served::On,
-        Ok(Response::Stopped) => Served::Stopped,
-        Ok(Response::Replied { code, text }) => send(io, code, &text, last_code),
+        Ok(did) => {
+            let served = answer(io, did, last_code);
+            machine.tell();
+            served
+        }
     }
 }
 

@@ -1,8 +1,8 @@
 // A machine that tells on standard error what it is given, behind a link.
-ghost use Rattle.std.specs.Prelude.{◌≡◌, IfOk};
+ghost use Rattle.std.specs.Prelude.{◌≡◌, ℕ, List, [], IfOk};
 ghost use Rattle.std.specs.Borrow.{GName};
 ghost use Rattle.dc_serve.specs.LinkRun.{ServesLink};
-ghost use Rattle.dc_serve.specs.Telling.{TellerState, Tells as TellsOn, TellsNothing as TellsNothingOn, told_of};
+ghost use Rattle.dc_serve.specs.Telling.{TellerState, IsToTell, Tells as TellsOn, TellsNothing as TellsNothingOn, told_of};
 
 use crate::{Conversation, LineMachine, LinkEnd, Response, serve_link};
 use dc_outside::{Link, MemLink};
@@ -10,11 +10,12 @@ use dc_text::{Mem, OutOfMemory, Text};
 use dc_words::Line;
 use std::alloc::Global;
 
-// It tells each line, and replies to it.
+// It replies to each line, and tells it behind that.
 #[derive(Drop)]
 struct Teller<'e, E: Link> {
     alloc: Global,
     err: &'e mut E,
+    untold: Text,
 }
 
 impl<'e, E: Link> LineMachine for Teller<'e, E> {
@@ -22,7 +23,9 @@ impl<'e, E: Link> LineMachine for Teller<'e, E> {
 
     ghost State = { TellerState };
 
-    ghost state = { λ t. record { err = E.link t.err.now } };
+    ghost state = { λ t. record { err = E.link t.err.now; untold = t.untold } };
+
+    ghost handles = { IsToTell };
 
     ghost steps = { TellsOn };
 
@@ -34,9 +37,13 @@ impl<'e, E: Link> LineMachine for Teller<'e, E> {
 
     fn handle(&mut self, line: &Line) -> Result<Response, OutOfMemory> {
         let text = Text::from_bytes(self.alloc, b"0 ok\n")?;
-        let told = told(self.alloc, line)?;
-        let _ = self.err.write(told.bytes());
+        self.untold = told(self.alloc, line)?;
         Ok(Response::Replied { code: 0, text })
+    }
+
+    fn tell(&mut self) {
+        let _ = self.err.write(self.untold.bytes());
+        self.untold = Text::new(self.alloc);
     }
 }
 
@@ -54,22 +61,38 @@ fn told(alloc: Global, line: &Line) -> Mem<Text>
     }
 }
 
-// Tells the lines of the link on standard error: each in its own transition.
+// Tells the lines of the link on standard error: each in its own transition, behind its reply.
 fn tell_lines<L: Link, E: Link>(
     alloc: Global,
     io: &mut L,
     err: &mut E,
     last_code: u8,
 ) -> Conversation<OutOfMemory>
-    ensures { ServesLink TellsOn TellsNothingOn (L.link io.old) (L.link io.new)
-        (record { err = E.link err.old }) result.end (record { err = E.link err.new }) last_code result.last_code }
+    ensures { (untold : List ℕ) × ServesLink TellsOn TellsNothingOn (L.link io.old) (L.link io.new)
+        (record { err = E.link err.old; untold = [] }) result.end (record { err = E.link err.new; untold = untold }) last_code result.last_code }
 {
-    let mut teller = Teller { alloc, err };
-    serve_link(alloc, io, &mut teller, last_code)
+    let mut teller = Teller {
+        alloc,
+        err,
+        untold: Text::new(alloc),
+    };
+    let served = serve_link(alloc, io, &mut teller, last_code);
+    let Teller {
+        alloc: _,
+        err,
+        untold: _told,
+    } = teller;
+    let_go(err);
+    served
 }
 
+// Nothing more is done with it.
+fn let_go<X>(x: &mut X)
+    ensures { x.new ≡ x.old }
+{}
+
 #[test]
-fn what_a_command_tells_stands_in_its_transition(rt: HostRuntime) {
+fn what_a_command_tells_stands_behind_its_reply(rt: HostRuntime) {
     let mut io = MemLink::new(rt.alloc(), b"a\nb\nc", &[1, 2], &[]).expect(&rt, "memory");
     let mut err = MemLink::new(rt.alloc(), b"", &[], &[]).expect(&rt, "memory");
     let served = tell_lines(rt.alloc(), &mut io, &mut err, 30);
