@@ -107,7 +107,7 @@ pub fn load_template_files<E: Link, F: Files>(
         files: _kept,
         of: _,
     } = loader;
-    *layers = desk.layers_left(alloc);
+    *layers = desk.into_layers(alloc);
     ToolAnswer {
         ended: loaded.ended,
         is_started: false,

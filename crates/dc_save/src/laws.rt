@@ -1,14 +1,16 @@
 //! Laws of saves, over the definitions alone.
 ghost use Rattle.std.specs.Prelude.{◌≡◌, ◌++◌, List, Result, true, map as each};
-ghost use Rattle.std.specs.List.{list_all};
+ghost use Rattle.std.specs.List.{list_all, IsDistinct};
+ghost use Rattle.std.specs.Str.{bytes_eq};
 ghost use Rattle.dc_outside.specs.State.{FilesView};
 ghost use Rattle.dc_conf.specs.Configuration.{are_apart, fits_sort};
 ghost use Rattle.dc_conf.specs.declared.spec.LayerSpec.{LayerSpec};
+ghost use Rattle.dc_conf.specs.declared.spec.LayerSort.TheVariants.{Tree};
 ghost use Rattle.dc_layer.specs.declared.image.Image.{Image};
 ghost use Rattle.dc_save.specs.declared.saving.SaveError.{SaveError};
 ghost use Rattle.dc_outside.specs.Disk.{Disk, DiskState, IsDurable, HasLeftMore};
 ghost use Rattle.dc_save.specs.Saving.{Saves, LeavesOldOrNew, MayAddAny, AreApart, KeepsPaths, StandSaved, all_images, all_saved};
-ghost use Rattle.dc_layer.specs.State.{LayerState, images};
+ghost use Rattle.dc_layer.specs.State.{LayerState, images, images_by, item_image};
 ghost use Rattle.dc_save.specs.Places.{AreOf, AreSetUpFor};
 
 /// However a save ends, a crash at any moment leaves each path's old file or the new one, and at most the paths beside it else.
@@ -44,4 +46,10 @@ pub fn saves_chain()
 /// The images of layers that were set up for these databases are images of them.
 pub fn images_of_layers_are_of_their_databases()
     ensures { (layers : List LayerState) (specs : List LayerSpec) → AreSetUpFor layers specs → AreOf specs (all_images (each images layers)) }
+{}
+
+/// Where no name is touched twice, a folder with a file for each item asks for one file for each touched name, in their order.
+pub fn each_touched_name_has_one_file()
+    ensures { (spec : LayerSpec) (layer : LayerState) → IsDistinct bytes_eq layer.touched
+        → images_by Tree spec layer ≡ each (item_image spec layer.table) layer.touched }
 {}

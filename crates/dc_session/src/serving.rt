@@ -73,7 +73,7 @@ pub fn serve_layers<L: Link, T: Link, E: Link, F: Files>(
     let mut store = Store::new(alloc, std::mem::replace(layers, Vec::new(alloc)));
     let questions = Questions::new(alloc, &mut store, config, templates, setup.lang);
     let desk = SessionQuestions::new(questions, setup.owner);
-    match policy(alloc, &desk.questions, setup) {
+    match ask_policy(alloc, &desk.questions, setup) {
         Ok(policy) => {
             let mut asking = Asking::nothing(alloc);
             serve_desk(
@@ -135,8 +135,8 @@ fn let_go<X>(x: &mut X)
     ensures { x.new ≡ x.old }
 {}
 
-// Serves the link by this session, and finishes it. A machine that stands around the session, and holds it by `&mut`, is served here in its
-// place: `serve_link` takes any machine, and `finish_served` takes the session behind it.
+// Serves the link by this session, and finishes it. A machine that stands around the session holds it by `&mut`, and is served in its place:
+// `serve_link` takes any machine, and `finish_served` the session behind it.
 fn serve_session<'s, 'f, 't, 'h, 'e, L: Link, F: Files, T: Link, E: Link>(
     alloc: Global,
     io: &mut L,
@@ -152,8 +152,8 @@ fn serve_session<'s, 'f, 't, 'h, 'e, L: Link, F: Files, T: Link, E: Link>(
     finish_served(session, served)
 }
 
-// How questions are asked.
-fn policy(alloc: Global, questions: &Questions<'_>, setup: &SessionSetup<'_>) -> Mem<AskPolicy>
+/// How the questions of a session are asked that is set up so: as was chosen, and else as questions say (debconf(7)).
+pub fn ask_policy(alloc: Global, questions: &Questions<'_>, setup: &SessionSetup<'_>) -> Mem<AskPolicy>
     requires { HasPlans questions.now }
     ensures { IfOk result (λ policy. policy ≡ seen (asked state questions.now)
         (policy_by setup.now.frontend setup.now.threshold setup.now.nonint_seen)) }
@@ -236,8 +236,8 @@ fn priority_said(said: Result<Text, QuestionError>) -> Mem<Priority>
     }
 }
 
-// Finishes a session whose link was served to this end, unless memory ran out or the terminal failed.
-fn finish_served<'s, 'f, 't, 'h, 'e, F: Files, T: Link, E: Link>(
+/// Finishes a session whose link was served to this end, by itself or by a machine around it, unless memory ran out or the terminal failed.
+pub fn finish_served<'s, 'f, 't, 'h, 'e, F: Files, T: Link, E: Link>(
     session: &mut Session<'s, 'f, 't, 'h, 'e, F, T, E>,
     served: Conversation<StepError>,
 ) -> Conversation<StepError>

@@ -66,7 +66,7 @@ impl<'s, 'f, 't, 'h, 'e, F: Files, T: Link, E: Link> Session<'s, 'f, 't, 'h, 'e,
     }
 
     /// The desk of the session, its files, its terminal with what was typed there and isn't used, and standard error, as it left them.
-    pub(crate) fn into_parts(
+    pub fn into_parts(
         self,
     ) -> (
         SessionQuestions<'s>,
@@ -184,6 +184,8 @@ impl<'s, 'f, 't, 'h, 'e, F: Files, T: Link, E: Link> LineMachine
 
     ghost state = { session_of (λ b. (Layer-box b).state b.value) F.files T.link E.link };
 
+    ghost handles = { HandlesLine };
+
     ghost steps = { HandlesLine };
 
     ghost aborts = { AbortsAt };
@@ -200,4 +202,7 @@ impl<'s, 'f, 't, 'h, 'e, F: Files, T: Link, E: Link> LineMachine
             Err(_) => Err(StepError::OutOfMemory),
         }
     }
+
+    // No command tells anything beside its reply.
+    fn tell(&mut self) {}
 }

@@ -1,6 +1,5 @@
 // Template files that are loaded into the questions of a desk.
-ghost use Rattle.std.specs.Prelude.{◌≡◌, length};
-ghost use Rattle.dc_question.specs.Questions.{IsSetOver};
+ghost use Rattle.std.specs.Prelude.{◌≡◌};
 ghost use Rattle.dc_session.specs.FileLoading.{Takes};
 ghost use Rattle.dc_session.specs.Inside.{HasDistinctNames};
 ghost use Rattle.dc_session.specs.SessionState.{FilesState, LinkState, TerminalState, session_at_desk};
@@ -9,10 +8,8 @@ ghost use Rattle.dc_session.specs.declared.policy.AskPolicy.{AskPolicy};
 
 use crate::session_questions::SessionQuestions;
 use crate::template_files::Found;
-use dc_layer::Layer;
 use dc_question::QuestionError;
 use dc_text::{Mem, OutOfMemory};
-use std::alloc::Global;
 
 /// What becomes of a template file.
 #[derive(Drop)]
@@ -52,13 +49,5 @@ impl<'s> SessionQuestions<'s> {
                 }
             }
         }
-    }
-
-    /// The layers of a desk at which the work is over, as it left them. Their store keeps none.
-    pub fn layers_left(self, alloc: Global) -> Vec<Box<dyn Layer>>
-        requires { IsSetOver self.questions.context (length self.questions.store.now.layers.items) }
-        ensures { result.items ≡ self.entry.questions.store.now.layers.items }
-    {
-        self.into_layers(alloc)
     }
 }

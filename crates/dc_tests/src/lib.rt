@@ -2,6 +2,8 @@
 #![tactic(auto)]
 
 #[cfg(test)]
+mod around_tests;
+#[cfg(test)]
 mod running_tests;
 #[cfg(test)]
 mod tests;

@@ -14,7 +14,7 @@ use dc_text::{FieldKey, List, Text};
 use std::alloc::Global;
 use std::process::Abort;
 
-fn text(rt: &impl Abort, alloc: Global, bytes: &str) -> Text {
+pub(crate) fn text(rt: &impl Abort, alloc: Global, bytes: &str) -> Text {
     Text::from_bytes(alloc, bytes.as_bytes()).expect(rt, "memory")
 }
 
@@ -200,7 +200,7 @@ fn a_program_is_read_to_its_end_and_waited_for(rt: HostRuntime) {
 }
 
 // A layer in a file, without items.
-fn layer(rt: &impl Abort, alloc: Global) -> FileLayer {
+pub(crate) fn layer(rt: &impl Abort, alloc: Global) -> FileLayer {
     let mut layer = FileLayer::blank(alloc);
     let spec = LayerSpec {
         name: Text::new(alloc),
