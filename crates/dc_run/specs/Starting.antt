@@ -8,6 +8,7 @@ use Rattle.dc_outside.specs.Steps.{after_look}
 use Rattle.dc_outside.specs.State.{FilesView, LinkState}
 use Rattle.dc_outside.specs.declared.files.FilesOp.TheVariants.{Read}
 use Rattle.dc_conf.specs.Configuration.{Configuration, IsAnswer, reached, plan_of}
+use Rattle.dc_conf.specs.Plans.{IsOver, are_disjoint}
 use Rattle.dc_conf.specs.declared.faults.ConfError.{ConfError}
 use Rattle.dc_conf.specs.declared.spec.LayerSpec.{LayerSpec}
 use Rattle.dc_frontend.specs.Frontends.{frontend_of}
@@ -51,6 +52,12 @@ databases_of conf = reached conf (roots conf)
 -- the files once the configuration was read
 abbrev pub conf_read : FilesView → List ℕ → FilesView
 conf_read files path = after_look files Read path true
+
+-- the plans of questions and of templates are over so many layers, and share none
+pub record AreOver (roots : Roots) (count : ℕ) : Type 0 where
+  pub config : IsOver roots.config count
+  pub templates : IsOver roots.templates count
+  pub disjoint : are_disjoint roots.config roots.templates ≡ true
 
 -- ---- the start of a session
 

@@ -1,8 +1,10 @@
 -- What a run finds and leaves.
-use Rattle.std.specs.Prelude.{ℕ, List, [], map as each}
+use Rattle.std.specs.Prelude.{◌≡◌, ◌≤◌, ℕ, List, [], length, map as each}
+use Rattle.dc_conf.specs.declared.spec.LayerSort.TheVariants.{File, Tree, Pack}
 use Rattle.dc_layer.specs.State.{LayerState}
 use Rattle.dc_outside.specs.State.{LinkState, FilesState}
 use Rattle.dc_session.specs.SessionState.{nothing_typed}
+use Rattle.dc_shelf.specs.Shelves.{AreBlank}
 use Rattle.dc_shelf.specs.declared.shelf.Shelf.{Shelf}
 use Rattle.dc_teletype.specs.TerminalLines.{TypeAhead}
 
@@ -62,6 +64,16 @@ packs_in state shelf = each (λ b. state (b.vtable, b.value)) shelf.packs.items
 
 abbrev pub used_in : {X : Type 0} {F : X → Type 0} → ((x : X) × F x → LayerState) → Shelf X F → List LayerState
 used_in state shelf = each (λ b. state (b.vtable, b.value)) shelf.used.items
+
+-- sixteen blank boxes of each sort at least, since a configuration may have as many databases, and none is used yet
+pub record IsReady {X : Type 0} {F : X → Type 0} (state : (x : X) × F x → LayerState) (shelf : Shelf X F) : Type 0 where
+  pub files : AreBlank File (files_in state shelf)
+  pub trees : AreBlank Tree (trees_in state shelf)
+  pub packs : AreBlank Pack (packs_in state shelf)
+  pub some_files : 16 ≤ length shelf.files.items
+  pub some_trees : 16 ≤ length shelf.trees.items
+  pub some_packs : 16 ≤ length shelf.packs.items
+  pub none_used : shelf.used.items ≡ []
 
 -- what stands: the links, the files, and the used boxes
 abbrev pub world : {X : Type 0} {F : X → Type 0} → LinkState → LinkState → LinkState → FilesState → ((x : X) × F x → LayerState) → Shelf X F → World

@@ -1,7 +1,5 @@
 // The call that the program makes.
-ghost use Rattle.std.specs.Prelude.{◌≡◌, ◌≤◌, List, [], length, map as each, true};
-ghost use Rattle.dc_conf.specs.Plans.{IsOver, are_disjoint};
-ghost use Rattle.dc_conf.specs.declared.spec.LayerSort.TheVariants.{File, Tree, Pack};
+ghost use Rattle.std.specs.Prelude.{◌≡◌, List, [], length, map as each, true};
 ghost use Rattle.dc_outside.specs.Programs.{IsIdle, IsRunning};
 ghost use Rattle.dc_run.specs.EndLines.{end_line, HasSaid};
 ghost use Rattle.dc_run.specs.Ends.{status_of};
@@ -10,8 +8,8 @@ ghost use Rattle.dc_run.specs.Inside.{HasCommand};
 ghost use Rattle.dc_run.specs.Rounds.{HasDone};
 ghost use Rattle.dc_run.specs.Running.{Awaits};
 ghost use Rattle.dc_run.specs.Saves.{Save};
-ghost use Rattle.dc_run.specs.World.{files_in, packs_in, run_state, trees_in, world};
-ghost use Rattle.dc_shelf.specs.Shelves.{AreBlank};
+ghost use Rattle.dc_run.specs.Starting.{AreOver};
+ghost use Rattle.dc_run.specs.World.{IsReady, run_state, world};
 
 use crate::finishing::finish_used;
 use crate::loading_templates::load_template_files;
@@ -45,13 +43,7 @@ pub fn run_words<L: Link, E: Link, C: Child, F: Files>(
     files: &mut F,
     shelf: &mut Shelf,
 ) -> Outcome
-    requires files { AreBlank File (files_in state shelf.old) }
-    requires trees { AreBlank Tree (trees_in state shelf.old) }
-    requires packs { AreBlank Pack (packs_in state shelf.old) }
-    requires some_files { 16 ≤ length shelf.old.files.items }
-    requires some_trees { 16 ≤ length shelf.old.trees.items }
-    requires some_packs { 16 ≤ length shelf.old.packs.items }
-    requires used { shelf.old.used.items ≡ [] }
+    requires ready { IsReady state shelf.old }
     requires idle { IsIdle (C.link child.old).program.life }
     // What the tool does is what the plain machine does; what was saved and stands in `used` are its layers, by the end; the end is told on
     // `err`; and a kill at any moment leaves each database as its saves say.
@@ -78,13 +70,7 @@ fn run_tool<L: Link, E: Link, C: Child, F: Files>(
     files: &mut F,
     shelf: &mut Shelf,
 ) -> Outcome
-    requires files { AreBlank File (files_in state shelf.old) }
-    requires trees { AreBlank Tree (trees_in state shelf.old) }
-    requires packs { AreBlank Pack (packs_in state shelf.old) }
-    requires some_files { 16 ≤ length shelf.old.files.items }
-    requires some_trees { 16 ≤ length shelf.old.trees.items }
-    requires some_packs { 16 ≤ length shelf.old.packs.items }
-    requires used { shelf.old.used.items ≡ [] }
+    requires ready { IsReady state shelf.old }
     requires idle { IsIdle (C.link child.old).program.life }
     requires command { HasCommand tool.now }
     ensures ran { (saves : List Save) × HasRunTool tool.now settings.now
@@ -137,9 +123,7 @@ fn use_tool<L: Link, E: Link, C: Child, F: Files>(
     teletype: &mut Teletype,
     last_code: u8,
 ) -> ToolAnswer
-    requires config { IsOver roots.now.config (length used.old.items) }
-    requires templates { IsOver roots.now.templates (length used.old.items) }
-    requires disjoint { are_disjoint roots.now.config roots.now.templates ≡ true }
+    requires roots { AreOver roots.now (length used.old.items) }
     requires idle { IsIdle (C.link child.old).program.life }
     requires command { HasCommand tool.now }
     ensures does { HasDone tool.now roots.now settings.now

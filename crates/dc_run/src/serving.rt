@@ -1,12 +1,11 @@
 // The tools that serve commands.
 ghost use Rattle.std.specs.Prelude.{◌≡◌, ◌<◌, List, ℕ, length, map as each, true};
-ghost use Rattle.dc_conf.specs.Plans.{IsOver, are_disjoint};
 ghost use Rattle.dc_outside.specs.Programs.{IsIdle, IsRunning};
 ghost use Rattle.dc_outside.specs.State.{LinkState};
 ghost use Rattle.dc_run.specs.Jobs.{HasCommunicated};
 ghost use Rattle.dc_run.specs.Inside.{HasServedProgram, asked_run};
 ghost use Rattle.dc_run.specs.Running.{HasRunProgram, end_unstarted as end_unstarted_of};
-ghost use Rattle.dc_run.specs.Starting.{begun, resources_for, session_at};
+ghost use Rattle.dc_run.specs.Starting.{AreOver, begun, resources_for, session_at};
 ghost use Rattle.dc_run.specs.World.{links_of, run_state};
 ghost use Rattle.dc_session.specs.Serving.{IsServed, resources_of};
 ghost use Rattle.dc_session.specs.SessionState.{terminal_at};
@@ -47,9 +46,7 @@ pub fn communicate<L: Link, E: Link, F: Files>(
     teletype: &mut Teletype,
     last_code: u8,
 ) -> ToolAnswer
-    requires config { IsOver roots.now.config (length used.old.items) }
-    requires templates { IsOver roots.now.templates (length used.old.items) }
-    requires disjoint { are_disjoint roots.now.config roots.now.templates ≡ true }
+    requires roots { AreOver roots.now (length used.old.items) }
     ensures served { (child : LinkState) → HasCommunicated
         (begun (Communicate owner.now)
         (run_state (L.link io.old) child (E.link err.old) (F.files files.old) (each state used.old.items) teletype.old.ahead last_code)
@@ -97,9 +94,7 @@ pub fn run_program<L: Link, E: Link, C: Child, F: Files>(
     teletype: &mut Teletype,
     last_code: u8,
 ) -> ToolAnswer
-    requires config { IsOver roots.now.config (length used.old.items) }
-    requires templates { IsOver roots.now.templates (length used.old.items) }
-    requires disjoint { are_disjoint roots.now.config roots.now.templates ≡ true }
+    requires roots { AreOver roots.now (length used.old.items) }
     requires idle { IsIdle (C.link child.old).program.life }
     requires some { 0 < length command.now }
     ensures ran { HasRunProgram command.now
@@ -139,9 +134,7 @@ fn serve_program<L: Link, E: Link, C: Child, F: Files>(
     teletype: &mut Teletype,
     last_code: u8,
 ) -> ToolAnswer
-    requires config { IsOver roots.now.config (length used.old.items) }
-    requires templates { IsOver roots.now.templates (length used.old.items) }
-    requires disjoint { are_disjoint roots.now.config roots.now.templates ≡ true }
+    requires roots { AreOver roots.now (length used.old.items) }
     ensures served { (command : List (List ℕ)) → HasServedProgram
         (begun (asked_run asking.now command)
         (run_state (L.link io.old) (C.link child.old) (E.link err.old) (F.files files.old) (each state used.old.items) teletype.old.ahead last_code)
@@ -190,9 +183,7 @@ fn serve_for<L: Link, T: Link, E: Link, F: Files>(
     teletype: &mut Teletype,
     last_code: u8,
 ) -> Conversation<StepError>
-    requires config { IsOver roots.now.config (length used.old.items) }
-    requires templates { IsOver roots.now.templates (length used.old.items) }
-    requires disjoint { are_disjoint roots.now.config roots.now.templates ≡ true }
+    requires roots { AreOver roots.now (length used.old.items) }
     ensures { IsServed
         (session_at
         (resources_of (each state used.old.items) (F.files files.old) (terminal_at (T.link terminal.old) teletype.old.ahead) (E.link err.old))

@@ -4,14 +4,13 @@ ghost use Rattle.std.specs.List.{AllByRecursion};
 ghost use Rattle.std.specs.Option.{option_or};
 ghost use Rattle.dc_frontend.specs.Frontends.{frontend_of};
 ghost use Rattle.dc_conf.specs.Configuration.{plan_of, IsAnswer, AreDisjoint};
-ghost use Rattle.dc_conf.specs.Plans.{IsOver, are_disjoint};
+ghost use Rattle.dc_conf.specs.Plans.{IsOver};
 ghost use Rattle.dc_proto.specs.Priorities.{priority_of};
-ghost use Rattle.dc_conf.specs.declared.spec.LayerSort.TheVariants.{File, Tree, Pack};
-ghost use Rattle.dc_shelf.specs.Shelves.{AreBlank, LoadsAll, all_set_up};
+ghost use Rattle.dc_shelf.specs.Shelves.{LoadsAll, all_set_up};
 ghost use Rattle.dc_save.specs.Loading.{text_in};
 ghost use Rattle.dc_run.specs.Ends.{end_of_conf as end_of_conf_by, end_of_patterns as end_of_patterns_by, end_of_load as end_of_load_by};
-ghost use Rattle.dc_run.specs.Starting.{Starts, ReadsConf, IsSomeConfiguration, databases_of, chosen as chosen_of};
-ghost use Rattle.dc_run.specs.World.{files_in, packs_in, stock_of, trees_in, used_in};
+ghost use Rattle.dc_run.specs.Starting.{AreOver, Starts, ReadsConf, IsSomeConfiguration, databases_of, chosen as chosen_of};
+ghost use Rattle.dc_run.specs.World.{IsReady, stock_of, used_in};
 
 use crate::outcome::{End, PatternAt};
 use crate::settings::Settings;
@@ -43,16 +42,9 @@ pub fn start<F: Files>(
     files: &mut F,
     shelf: &mut Shelf,
 ) -> Result<Roots, End>
-    requires files { AreBlank File (files_in state shelf.old) }
-    requires trees { AreBlank Tree (trees_in state shelf.old) }
-    requires packs { AreBlank Pack (packs_in state shelf.old) }
-    requires some_files { 16 ≤ length shelf.old.files.items }
-    requires some_trees { 16 ≤ length shelf.old.trees.items }
-    requires some_packs { 16 ≤ length shelf.old.packs.items }
-    requires used { shelf.old.used.items ≡ [] }
+    requires { IsReady state shelf.old }
     ensures starts { Starts path.now (F.files files.old) (stock_of (F.files files.new) (used_in state shelf.new)) result }
-    ensures over { IfOk result (λ roots. IsOver roots.config (length shelf.new.used.items) × IsOver roots.templates (length shelf.new.used.items)) }
-    ensures disjoint { IfOk result (λ roots. are_disjoint roots.config roots.templates ≡ true) }
+    ensures over { IfOk result (λ roots. AreOver roots (length shelf.new.used.items)) }
 {
     let conf = match read_configuration(alloc, path, files) {
         Ok(conf) => conf,

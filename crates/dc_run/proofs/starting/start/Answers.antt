@@ -1,5 +1,5 @@
 use Rattle.std.proofs.Common.{rules, refl, Ok}
-use Rattle.dc_run.proofs.StartLemmas.{loaded_by, both_plans, both_disjoint}
+use Rattle.dc_run.proofs.StartLemmas.{loaded_by, both_plans, both_disjoint, over_used}
 use Rattle.dc_run.proofs.starting.start.Goals as goal
 
 pub returns-in-Ok-load_used-clause-starts : goal.returns-in-Ok-load_used-clause-starts
@@ -15,5 +15,7 @@ returns-in-Ok-load_used-clause-starts g c =
       priority_is = search rules;
     }
 
-pub returns-in-Ok-load_used-clause-disjoint : goal.returns-in-Ok-load_used-clause-disjoint
-returns-in-Ok-load_used-clause-disjoint g c = both_disjoint _ _ _ c.roots_of.ensures.plans c.in-Ok-resolve.ensures.disjoint
+pub returns-in-Ok-load_used-clause-over : goal.returns-in-Ok-load_used-clause-over
+returns-in-Ok-load_used-clause-over g c =
+    let over = over_used _ _ _ _ _ c.roots_of.ensures.plans (search rules) (search rules) in
+    record { config = over.0; templates = over.1; disjoint = both_disjoint _ _ _ c.roots_of.ensures.plans c.in-Ok-resolve.ensures.disjoint }
