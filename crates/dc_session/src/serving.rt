@@ -153,7 +153,11 @@ fn serve_session<'s, 'f, 't, 'h, 'e, L: Link, F: Files, T: Link, E: Link>(
 }
 
 /// How the questions of a session are asked that is set up so: as was chosen, and else as questions say (debconf(7)).
-pub fn ask_policy(alloc: Global, questions: &Questions<'_>, setup: &SessionSetup<'_>) -> Mem<AskPolicy>
+pub fn ask_policy(
+    alloc: Global,
+    questions: &Questions<'_>,
+    setup: &SessionSetup<'_>,
+) -> Mem<AskPolicy>
     requires { HasPlans questions.now }
     ensures { IfOk result (λ policy. policy ≡ seen (asked state questions.now)
         (policy_by setup.now.frontend setup.now.threshold setup.now.nonint_seen)) }
