@@ -14,7 +14,7 @@ is_equal Less e = absurd (cc)
 is_equal Equal e = refl
 is_equal Greater e = absurd (cc)
 
-same : (q k : List ℕ) → eq_by_cmp text_cmp q k ≡ true → q ≡ k
+pub same : (q k : List ℕ) → eq_by_cmp text_cmp q k ≡ true → q ≡ k
 same q k t = exact_texts q k (is_equal _ t)
 
 -- what is put is there
@@ -66,3 +66,12 @@ put_beside m from to v apart = same_map nat_list_cmp_total exact_texts _ _ (λ q
       | false ↦ λ t. refl
     ] refl
     ∙ sym (get-insert nat_list_cmp_total (remove m from) to v q ∙ ap (cond (eq_by_cmp text_cmp q to) (Some v)) (get-remove nat_list_cmp_total m from q)))
+
+-- to put again what stood there before undoes what was put
+pub put_back : {X : Type 0} (m : Texts X) (k : List ℕ) (v w : X) → get m k ≡ Some v → insert (insert m k w) k v ≡ m
+put_back m k v w there = same_map nat_list_cmp_total exact_texts _ _ (λ q.
+    get-insert nat_list_cmp_total (insert m k w) k v q ∙ ap (cond (eq_by_cmp text_cmp q k) (Some v)) (get-insert nat_list_cmp_total m k w q)
+    ∙ elim (eq_by_cmp text_cmp q k) as (λ b. eq_by_cmp text_cmp q k ≡ b → cond b (Some v) (cond b (Some w) (get m q)) ≡ get m q) [
+      | true ↦ λ t. sym (ap (get m) (same q k t) ∙ there)
+      | false ↦ λ t. refl
+    ] refl)

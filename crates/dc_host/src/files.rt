@@ -6,7 +6,7 @@ ghost use Rattle.dc_text.specs.Maps.{text_cmp};
 ghost use Rattle.dc_outside.specs.Counts.{Counted};
 ghost use Rattle.dc_host.specs.Folders.{IsKept, Keeps};
 ghost use Rattle.dc_host.specs.Known.{known_renamed};
-ghost use Rattle.dc_host.specs.Locks.{KeepsLocks};
+ghost use Rattle.dc_host.specs.Locks.{KeepsLocks, KeepsLocksBut};
 
 use crate::counts::CallCounts;
 use crate::folders::ChangedFolders;
@@ -43,7 +43,7 @@ impl<R: SystemFiles<File = File> + Alloc + Clone + Drop> HostFiles<HostSystem<R>
     pub fn new(alloc: Global, rt: R, open_to_all: List<Text>) -> HostFiles<HostSystem<R>>
         ensures changed { result.changed ≡ map.empty }
         ensures counts { result.counts ≡ record { faults = 0; refusals = 0 } }
-        ensures locks { result.guard.locks.held ≡ map.empty }
+        ensures locks { result.guard.locks ≡ record { read = []; placed = map.empty } }
         ensures open_to_all { result.guard.open_to_all ≡ open_to_all }
     {
         HostFiles::over(alloc, HostSystem::new(rt), open_to_all)
@@ -55,7 +55,7 @@ impl<S: System> HostFiles<S> {
     pub fn over(alloc: Global, system: S, open_to_all: List<Text>) -> HostFiles<S>
         ensures changed { result.changed ≡ map.empty }
         ensures counts { result.counts ≡ record { faults = 0; refusals = 0 } }
-        ensures locks { result.guard.locks.held ≡ map.empty }
+        ensures locks { result.guard.locks ≡ record { read = []; placed = map.empty } }
         ensures open_to_all { result.guard.open_to_all ≡ open_to_all }
     {
         HostFiles {
@@ -73,7 +73,7 @@ impl<S: System> HostFiles<S> {
         ensures small { IfOk result (λ found. IfSome found (λ bytes. length bytes ≤ MAX_FILE)) }
         ensures known { IfOk result (λ found. map.contains_key self.new.guard.known path.now ≡ is_some found) }
         ensures changed { self.new.changed ≡ self.old.changed }
-        ensures locks { KeepsLocks self.old.guard.locks.held self.new.guard.locks.held }
+        ensures locks { KeepsLocks self.old.guard.locks self.new.guard.locks }
         ensures counts { self.new.counts ≡ self.old.counts }
     {
         let Some(file) = self.guard.open(&mut self.system, path, path_of(path)?)? else {
@@ -90,7 +90,7 @@ impl<S: System> HostFiles<S> {
     fn list_files(&mut self, dir: &Text) -> Result<List<Text>, FilesError>
         ensures order { IfOk result (λ paths. IsStrictlySortedBy text_cmp paths) }
         ensures changed { Keeps self.old.changed self.new.changed }
-        ensures locks { KeepsLocks self.old.guard.locks.held self.new.guard.locks.held }
+        ensures locks { KeepsLocks self.old.guard.locks self.new.guard.locks }
         ensures counts { self.new.counts ≡ self.old.counts }
     {
         self.guard.enter(&mut self.system, &mut self.changed, dir)?;
@@ -129,13 +129,14 @@ impl<S: System> HostFiles<S> {
         self.changed.sync_with(&mut self.system, name)
     }
 
-    #[tactic(auto, using(crate::proofs::FolderLemmas::keeps_same, crate::proofs::FolderLemmas::keeps_on, crate::proofs::FolderLemmas::kept_on, crate::proofs::LockLemmas::keeps_locks_same))]
+    #[tactic(auto, using(crate::proofs::FolderLemmas::keeps_same, crate::proofs::FolderLemmas::keeps_on, crate::proofs::FolderLemmas::kept_on, crate::proofs::LockLemmas::keeps_but_same, crate::proofs::LockLemmas::keeps_locks_same))]
     fn rename_file(&mut self, from: &Text, to: &Text) -> Result<(), FilesError>
         ensures from { OnOk result (IsKept self.new.changed from.now) }
         ensures to { OnOk result (IsKept self.new.changed to.now) }
         ensures known { OnOk result (self.new.guard.known ≡ known_renamed self.old.guard.known from.now to.now) }
         ensures changed { Keeps self.old.changed self.new.changed }
-        ensures locks { KeepsLocks self.old.guard.locks.held self.new.guard.locks.held }
+        ensures locks { KeepsLocksBut to.now self.old.guard.locks self.new.guard.locks }
+        ensures failed { OnErr result (KeepsLocks self.old.guard.locks self.new.guard.locks) }
         ensures counts { self.new.counts ≡ self.old.counts }
     {
         let old = path_of(from)?;
@@ -171,7 +172,7 @@ impl<S: System> Files for HostFiles<S> {
         ensures small { IfOk result (λ found. IfSome found (λ bytes. length bytes ≤ MAX_FILE)) }
         ensures known { IfOk result (λ found. map.contains_key self.new.guard.known path.now ≡ is_some found) }
         ensures changed { self.new.changed ≡ self.old.changed }
-        ensures locks { KeepsLocks self.old.guard.locks.held self.new.guard.locks.held }
+        ensures locks { KeepsLocks self.old.guard.locks self.new.guard.locks }
         ensures counts { Counted self.old.counts self.new.counts result }
     {
         let answer = self.read_file(path);
@@ -181,7 +182,7 @@ impl<S: System> Files for HostFiles<S> {
     fn list(&mut self, dir: &Text) -> Result<List<Text>, FilesError>
         ensures order { IfOk result (λ paths. IsStrictlySortedBy text_cmp paths) }
         ensures changed { Keeps self.old.changed self.new.changed }
-        ensures locks { KeepsLocks self.old.guard.locks.held self.new.guard.locks.held }
+        ensures locks { KeepsLocks self.old.guard.locks self.new.guard.locks }
         ensures counts { Counted self.old.counts self.new.counts result }
     {
         let answer = self.list_files(dir);
@@ -214,7 +215,8 @@ impl<S: System> Files for HostFiles<S> {
         ensures to { OnOk result (IsKept self.new.changed to.now) }
         ensures known { OnOk result (self.new.guard.known ≡ known_renamed self.old.guard.known from.now to.now) }
         ensures changed { Keeps self.old.changed self.new.changed }
-        ensures locks { KeepsLocks self.old.guard.locks.held self.new.guard.locks.held }
+        ensures locks { KeepsLocksBut to.now self.old.guard.locks self.new.guard.locks }
+        ensures failed { OnErr result (KeepsLocks self.old.guard.locks self.new.guard.locks) }
         ensures counts { Counted self.old.counts self.new.counts result }
     {
         let answer = self.rename_file(from, to);

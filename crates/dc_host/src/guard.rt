@@ -1,11 +1,11 @@
 // What keeps two programs apart on one file: advisory locks, and a new file for each write.
-ghost use Rattle.std.specs.Prelude.{◌≡◌, [], None, IfOk, IsSomeAnd, OnErr, OnOk, is_some, false, nat_eq};
-ghost use Rattle.std.specs.List.{list_any, starts_with};
+ghost use Rattle.std.specs.Prelude.{◌≡◌, [], None, Some, IfErr, IfOk, IfSome, IsSomeAnd, OnErr, OnOk, is_some, false, true};
+ghost use Rattle.std.specs.List.{list_any};
 ghost use Rattle.std.specs.Str.{bytes_eq};
 ghost use Rattle.std.specs.FinMap as map;
 ghost use Rattle.dc_host.specs.Folders.{Keeps};
 ghost use Rattle.dc_host.specs.Known.{known_renamed};
-ghost use Rattle.dc_host.specs.Locks.{KeepsLocks};
+ghost use Rattle.dc_host.specs.Locks.{as_written, is_below, KeepsLocks, KeepsLocksBut, StaysLocked};
 
 use crate::folders::ChangedFolders;
 use crate::locks::{Lock, Locks, take_lock};
@@ -48,7 +48,7 @@ impl<H: Handle + Drop> Guard<H> {
     /// No lock is held yet. What stands at the paths of `open_to_all` will be read without one.
     pub fn new(alloc: Global, open_to_all: List<Text>) -> Guard<H>
         ensures open_to_all { result.open_to_all ≡ open_to_all }
-        ensures locks { result.locks.held ≡ map.empty }
+        ensures locks { result.locks ≡ record { read = []; placed = map.empty } }
         ensures folders { result.folders ≡ [] }
         ensures known { result.known ≡ map.empty }
         ensures written { result.written ≡ None }
@@ -73,7 +73,7 @@ impl<H: Handle + Drop> Guard<H> {
         folder: &Text,
     ) -> Result<(), FilesError>
         ensures changed { Keeps changed.old changed.new }
-        ensures locks { KeepsLocks self.old.locks.held self.new.locks.held }
+        ensures locks { KeepsLocks self.old.locks self.new.locks }
     {
         if !self.is_open_to_all(folder) {
             self.lock_folder(system, changed, folder)?;
@@ -93,7 +93,7 @@ impl<H: Handle + Drop> Guard<H> {
         folder: &Text,
     ) -> Result<(), FilesError>
         ensures changed { Keeps changed.old changed.new }
-        ensures locks { KeepsLocks self.old.locks.held self.new.locks.held }
+        ensures locks { KeepsLocks self.old.locks self.new.locks }
     {
         let path = join(self.alloc, folder.bytes(), LOCK_NAME)?;
         let name = path_of(&path)?;
@@ -101,7 +101,7 @@ impl<H: Handle + Drop> Guard<H> {
             let Some(file) = open_lock(system, changed, name)? else {
                 return Ok(());
             };
-            if self.takes(system, name, &path, file)? {
+            if self.takes(system, name, file)? {
                 return Ok(());
             }
         }
@@ -114,10 +114,9 @@ impl<H: Handle + Drop> Guard<H> {
         &mut self,
         system: &mut S,
         name: &str,
-        path: &Text,
         file: H,
     ) -> Result<bool, FilesError>
-        ensures locks { KeepsLocks self.old.locks.held self.new.locks.held }
+        ensures locks { KeepsLocks self.old.locks self.new.locks }
     {
         let id = id_of_file(&file)?;
         if self.holds(id) {
@@ -127,13 +126,13 @@ impl<H: Handle + Drop> Guard<H> {
         if !leads_to(system, name, id) {
             return Ok(false);
         }
-        let _ = self.locks.put(path, Lock { file, id })?;
+        self.locks.keep(Lock { file, id })?;
         Ok(true)
     }
 
     // Whether the path lies below a folder that was listed.
     fn is_below_listed(&self, path: &Text) -> bool
-        ensures { result ≡ list_any (λ folder. starts_with nat_eq path.now folder) self.now.folders }
+        ensures { result ≡ is_below self.now.folders path.now }
     {
         self.folders
             .as_slice()
@@ -181,7 +180,7 @@ impl<H: Handle + Drop> Guard<H> {
         name: &str,
     ) -> Result<Option<H>, FilesError>
         ensures known { IfOk result (λ file. map.contains_key self.new.known path.now ≡ is_some file) }
-        ensures locks { KeepsLocks self.old.locks.held self.new.locks.held }
+        ensures locks { KeepsLocks self.old.locks self.new.locks }
     {
         let found = match system.status(name) {
             Ok(found) => found,
@@ -198,7 +197,7 @@ impl<H: Handle + Drop> Guard<H> {
         let opened = if needs_no_lock {
             to_read(system, name)?
         } else {
-            self.open_locked(system, path, name)?
+            self.open_locked(system, name)?
         };
         match opened {
             Some(file) => Ok(Some(file)),
@@ -217,7 +216,7 @@ impl<H: Handle + Drop> Guard<H> {
     }
 
     // Whether this program holds the lock of the file.
-    fn holds(&self, id: FileId) -> bool {
+    pub(crate) fn holds(&self, id: FileId) -> bool {
         let is_written = match &self.written {
             Some(written) => written.lock.id == id,
             None => false,
@@ -230,11 +229,10 @@ impl<H: Handle + Drop> Guard<H> {
     fn open_locked<S: System<Handle = H>>(
         &mut self,
         system: &mut S,
-        path: &Text,
         name: &str,
     ) -> Result<Option<H>, FilesError>
         ensures known { self.new.known ≡ self.old.known }
-        ensures locks { KeepsLocks self.old.locks.held self.new.locks.held }
+        ensures locks { KeepsLocks self.old.locks self.new.locks }
     {
         for _ in 0..TRIES {
             let file = match system.open(name, Access::Updating) {
@@ -247,7 +245,7 @@ impl<H: Handle + Drop> Guard<H> {
             take_lock(&file)?;
             if leads_to(system, name, id) {
                 let reader = done(file.again())?;
-                let _ = self.locks.put(path, Lock { file, id })?;
+                self.locks.keep(Lock { file, id })?;
                 return Ok(Some(reader));
             }
         }
@@ -364,35 +362,107 @@ impl<H: Handle + Drop> Guard<H> {
 
     /// Puts the file that was written last in the place of the other, and holds its lock for that path, unless a folder's stands for it.
     /// It is a fault if it doesn't stand at its path any more, if a file stands at the other that another program has locked, or anything at
-    /// all where no file was known to stand. Where the system fails at it, the locks of both are held still.
-    #[tactic(auto, using(crate::proofs::LockLemmas::keeps_locks_same, crate::proofs::LockLemmas::keeps_locks_on))]
+    /// all where no file was known to stand. Where it fails no lock is let go, since the system may have done it;
+    /// where memory runs out, that of what was written.
+    #[tactic(auto, using(crate::proofs::LockLemmas::keeps_locks_same, crate::proofs::LockLemmas::keeps_but, crate::proofs::LockLemmas::keeps_but_same))]
     pub fn rename<S: System<Handle = H>>(
         &mut self,
         system: &mut S,
         from: (&Text, &str),
         to: (&Text, &str),
     ) -> Result<(), FilesError>
+        ensures written { OnOk result (IsSomeAnd self.old.written (λ written. written.path ≡ from.entry.0.now)) }
         ensures lost { OnOk result (self.new.written ≡ None) }
         ensures known { OnOk result (self.new.known ≡ known_renamed self.old.known from.entry.0.now to.entry.0.now) }
         ensures unknown { OnErr result (self.new.known ≡ self.old.known) }
-        ensures locks { KeepsLocks self.old.locks.held self.new.locks.held }
+        ensures locks { KeepsLocksBut to.entry.0.now self.old.locks self.new.locks }
+        ensures err { OnErr result (KeepsLocks self.old.locks self.new.locks) }
+        ensures still { IfErr result (λ error. error ≡ FilesError.Failed → StaysLocked to.entry.0.now self.old.written self.new.written self.new.locks) }
     {
-        let Written { path, lock } = self.take_written(system, from)?;
-        let is_known = self.known.contains(to.0.bytes());
         // what stands there stays locked until it is replaced
-        let _standing = if is_known {
+        let _standing = if self.known.contains(to.0.bytes()) {
             self.free(system, to.1)?
         } else {
             Standing::Nothing
         };
+        let written = self.take_written(system, from)?;
         if self.is_below_listed(to.0) {
-            let answer = self.put(system, from, to);
-            drop(lock);
-            return answer;
+            self.put_in_folder(system, from, to, written)
+        } else {
+            self.put_locked(system, from, to, written)
         }
-        let last = self.locks.put(to.0, lock)?;
+    }
+
+    // Gives the file that was written the other path, for which a folder's lock stands.
+    fn put_in_folder<S: System<Handle = H>>(
+        &mut self,
+        system: &mut S,
+        from: (&Text, &str),
+        to: (&Text, &str),
+        written: Written<H>,
+    ) -> Result<(), FilesError>
+        requires { self.old.written ≡ None }
+        ensures lost { OnOk result (self.new.written ≡ None) }
+        ensures still { OnErr result (self.new.written ≡ Some written) }
+        ensures known { OnOk result (self.new.known ≡ known_renamed self.old.known from.entry.0.now to.entry.0.now) }
+        ensures unknown { OnErr result (self.new.known ≡ self.old.known) }
+        ensures locks { self.new.locks ≡ self.old.locks }
+    {
         let answer = self.put(system, from, to);
-        if let (Err(_), Some(last)) = (&answer, last) {
+        if answer.is_err() {
+            self.written = Some(written);
+        }
+        answer
+    }
+
+    // The same where its own lock is held for the path. Where it fails the lock of the file that stood there is held too, and its own, unless
+    // memory ran out before.
+    #[tactic(auto, using(crate::proofs::LockLemmas::keeps_locks_same, crate::proofs::LockLemmas::keeps_but_placed, crate::proofs::LockLemmas::keeps_with_placed, crate::proofs::LockLemmas::placed_back, crate::proofs::LockLemmas::placed_there, crate::proofs::LockLemmas::path_there, crate::proofs::LockLemmas::keeps_but_same, crate::proofs::LockLemmas::placed_over))]
+    fn put_locked<S: System<Handle = H>>(
+        &mut self,
+        system: &mut S,
+        from: (&Text, &str),
+        to: (&Text, &str),
+        written: Written<H>,
+    ) -> Result<(), FilesError>
+        requires { self.old.written ≡ None }
+        ensures lost { OnOk result (self.new.written ≡ None) }
+        ensures held { OnOk result (map.get self.new.locks.placed to.entry.0.now ≡ Some written.lock) }
+        ensures known { OnOk result (self.new.known ≡ known_renamed self.old.known from.entry.0.now to.entry.0.now) }
+        ensures unknown { OnErr result (self.new.known ≡ self.old.known) }
+        ensures locks { KeepsLocksBut to.entry.0.now self.old.locks self.new.locks }
+        ensures err { OnErr result (KeepsLocks self.old.locks self.new.locks) }
+        ensures still { IfErr result (λ error. error ≡ FilesError.Failed → StaysLocked to.entry.0.now (Some written) self.new.written self.new.locks) }
+    {
+        let Written { path, lock } = written;
+        match self.locks.put(to.0, lock)? {
+            None => self.put(system, from, to),
+            Some(last) => self.put_over(system, from, to, path, last),
+        }
+    }
+
+    // The same over a file of this program's own, whose lock is held again where it fails.
+    #[tactic(auto, using(crate::proofs::LockLemmas::path_there))]
+    fn put_over<S: System<Handle = H>>(
+        &mut self,
+        system: &mut S,
+        from: (&Text, &str),
+        to: (&Text, &str),
+        path: Text,
+        last: Lock<H>,
+    ) -> Result<(), FilesError>
+        requires there { map.contains_key self.old.locks.placed to.0.now ≡ true }
+        requires taken { self.old.written ≡ None }
+        ensures lost { OnOk result (self.new.written ≡ None) }
+        ensures known { OnOk result (self.new.known ≡ known_renamed self.old.known from.entry.0.now to.entry.0.now) }
+        ensures unknown { OnErr result (self.new.known ≡ self.old.known) }
+        ensures read { self.new.locks.read ≡ self.old.locks.read }
+        ensures ok { OnOk result (self.new.locks ≡ self.old.locks) }
+        ensures back { OnErr result (self.new.locks.placed ≡ map.insert self.old.locks.placed to.entry.0.now last) }
+        ensures still { OnErr result (IfSome (map.get self.old.locks.placed to.entry.0.now) (λ lock. self.new.written ≡ as_written path lock)) }
+    {
+        let answer = self.put(system, from, to);
+        if answer.is_err() {
             let lock = self.locks.give_back(to.0, last);
             self.written = Some(Written { path, lock });
         }
@@ -433,19 +503,19 @@ impl<H: Handle + Drop> Guard<H> {
         system: &mut S,
         place: (&Text, &str),
     ) -> Result<Written<H>, FilesError>
+        ensures ok { IfOk result (λ written. self.old.written ≡ Some written) }
+        ensures path { IfOk result (λ written. written.path ≡ place.entry.0.now) }
         ensures taken { OnOk result (self.new.written ≡ None) }
+        ensures err { OnErr result (self.new.written ≡ self.old.written) }
         ensures locks { self.new.locks ≡ self.old.locks }
         ensures known { self.new.known ≡ self.old.known }
+        ensures folders { self.new.folders ≡ self.old.folders }
     {
         let (path, name) = place;
         match self.written.take() {
-            Some(written) if written.path.bytes() == path.bytes() => {
-                if stands_at(system, name, written.lock.id) {
-                    Ok(written)
-                } else {
-                    Err(FilesError::Failed)
-                }
-            }
+            Some(written)
+                if written.path.bytes() == path.bytes()
+                    && stands_at(system, name, written.lock.id) => { Ok(written) }
             other => {
                 self.written = other;
                 Err(FilesError::Failed)

@@ -1,12 +1,13 @@
 // The locks that a program holds: advisory ones of the system, each on a whole file.
-ghost use Rattle.std.specs.Prelude.{◌≡◌, IfOk, OnErr, OnOk, Some, true};
+ghost use Rattle.std.specs.Prelude.{◌≡◌, ◌∷◌, ◌++◌, [], IfOk, OnErr, OnOk, Some, true};
+ghost use Rattle.std.specs.List.{list_any};
 ghost use Rattle.std.specs.FinMap as map;
 ghost use Rattle.dc_host.specs.Locks.{holds, is_of, KeepsLocks};
 
 use crate::paths::failed;
 use crate::system::{FileId, Handle};
 use dc_outside::FilesError;
-use dc_text::{Mem, Text, TextMap};
+use dc_text::{List, Mem, Text, TextMap};
 use std::alloc::Global;
 
 /// An open file whose lock is held.
@@ -25,27 +26,46 @@ impl<H> Lock<H> {
     }
 }
 
-/// The locks that are held, each at the path of its file.
+/// The locks that are held. None is let go before the end of the program, but for that of a file that it put at a path and that made room for
+/// another one there: no path leads to that file any more.
 #[derive(Drop)]
 pub struct Locks<H> {
-    held: TextMap<Lock<H>>,
+    // of the files that were read, and of those that lock folders
+    read: List<Lock<H>>,
+    // of the file that this program put last at each path
+    placed: TextMap<Lock<H>>,
 }
 
 impl<H: Drop> Locks<H> {
     /// No lock.
     pub fn new(alloc: Global) -> Locks<H>
-        ensures { result.held ≡ map.empty }
+        ensures { result ≡ record { read = []; placed = map.empty } }
     {
         Locks {
-            held: TextMap::new(alloc),
+            read: List::new(alloc),
+            placed: TextMap::new(alloc),
         }
     }
 
-    /// Whether the lock of the file is held, at whichever path.
+    /// Whether the lock of the file is held.
     pub fn holds(&self, id: FileId) -> bool
-        ensures { result ≡ holds self.now.held id }
+        ensures { result ≡ holds self.now id }
     {
-        for (_, lock) in self.held.iter() {
+        self.has_read(id) || self.has_placed(id)
+    }
+
+    // Whether it is a file that was read, or one that locks a folder.
+    fn has_read(&self, id: FileId) -> bool
+        ensures { result ≡ list_any (is_of id) self.now.read }
+    {
+        self.read.as_slice().iter().any(|lock| lock.is_of(id))
+    }
+
+    // Whether it is a file that this program put at some path.
+    fn has_placed(&self, id: FileId) -> bool
+        ensures { result ≡ list_any (is_of id) (map.values self.now.placed) }
+    {
+        for (_, lock) in self.placed.iter() {
             if lock.is_of(id) {
                 return true;
             }
@@ -53,31 +73,41 @@ impl<H: Drop> Locks<H> {
         false
     }
 
-    /// Holds the lock for the path, and hands out the last one, which was held for it.
-    #[tactic(auto, using(crate::proofs::LockLemmas::held_with, crate::proofs::LockLemmas::no_lock, crate::proofs::LockLemmas::keeps_locks_with, crate::proofs::LockLemmas::keeps_locks_same))]
-    pub fn put(&mut self, path: &Text, lock: Lock<H>) -> Mem<Option<Lock<H>>>
-        ensures held { OnOk result (map.get self.new.held path.now ≡ Some lock) }
-        ensures others { OnOk result (self.new.held ≡ map.insert self.old.held path.now lock) }
-        ensures last { IfOk result (λ last. last ≡ map.get self.old.held path.now) }
-        ensures kept { KeepsLocks self.old.held self.new.held }
-        ensures err { OnErr result (self.new.held ≡ self.old.held) }
+    /// Holds the lock of what was read.
+    #[tactic(auto, using(crate::proofs::LockLemmas::keeps_with_read, crate::proofs::LockLemmas::keeps_alike))]
+    pub fn keep(&mut self, lock: Lock<H>) -> Mem<()>
+        ensures read { OnOk result (self.new.read ≡ self.old.read ++ lock ∷ []) }
+        ensures placed { self.new.placed ≡ self.old.placed }
+        ensures kept { KeepsLocks self.old self.new }
+        ensures err { OnErr result (self.new ≡ self.old) }
     {
-        if self.held.contains(path.bytes()) {
-            return Ok(Some(self.held.replace(path.bytes(), lock)));
+        self.read.push(lock)?;
+        Ok(())
+    }
+
+    /// Holds the lock of the file that is put at the path, and hands out that of the last one.
+    #[tactic(auto, using(crate::proofs::LockLemmas::no_lock))]
+    pub fn put(&mut self, path: &Text, lock: Lock<H>) -> Mem<Option<Lock<H>>>
+        ensures placed { OnOk result (self.new.placed ≡ map.insert self.old.placed path.now lock) }
+        ensures last { IfOk result (λ last. last ≡ map.get self.old.placed path.now) }
+        ensures read { self.new.read ≡ self.old.read }
+        ensures err { OnErr result (self.new ≡ self.old) }
+    {
+        if self.placed.contains(path.bytes()) {
+            return Ok(Some(self.placed.replace(path.bytes(), lock)));
         }
-        self.held.insert(path.copy()?, lock)?;
+        self.placed.insert(path.copy()?, lock)?;
         Ok(None)
     }
 
     /// Holds the last lock for the path again, and hands out the one that was put in its place. It takes no memory.
-    #[tactic(auto, using(crate::proofs::LockLemmas::keeps_locks_with))]
     pub fn give_back(&mut self, path: &Text, last: Lock<H>) -> Lock<H>
-        requires { map.contains_key self.old.held path.now ≡ true }
-        ensures put { map.get self.old.held path.now ≡ Some result }
-        ensures last { self.new.held ≡ map.insert self.old.held path.now last }
-        ensures kept { KeepsLocks self.old.held self.new.held }
+        requires { map.contains_key self.old.placed path.now ≡ true }
+        ensures put { map.get self.old.placed path.now ≡ Some result }
+        ensures last { self.new.placed ≡ map.insert self.old.placed path.now last }
+        ensures read { self.new.read ≡ self.old.read }
     {
-        self.held.replace(path.bytes(), last)
+        self.placed.replace(path.bytes(), last)
     }
 }
 

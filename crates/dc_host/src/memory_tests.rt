@@ -76,6 +76,10 @@ struct MemSystem {
     refusal: Option<ErrorKind>,
     // another program takes the place of a file that is made
     is_replaced: bool,
+    // of the file that is made next
+    next: u64,
+    // renames fail
+    is_stuck: bool,
 }
 
 fn system(alloc: Global) -> MemSystem {
@@ -85,6 +89,8 @@ fn system(alloc: Global) -> MemSystem {
         taken: 0,
         refusal: None,
         is_replaced: false,
+        next: 7,
+        is_stuck: false,
     }
 }
 
@@ -135,8 +141,9 @@ impl System for MemSystem {
         if self.files.contains(path.as_bytes()) {
             return Err(Error::from(ErrorKind::AlreadyExists));
         }
-        self.put(path, if self.is_replaced { 8 } else { 7 })?;
-        Ok(self.handle(7))
+        let number = self.next;
+        self.put(path, if self.is_replaced { 8 } else { number })?;
+        Ok(self.handle(number))
     }
 
     fn names(&mut self, alloc: Global, _folder: &str) -> io::Result<List<Text>> {
@@ -160,6 +167,9 @@ impl System for MemSystem {
     }
 
     fn rename(&mut self, from: &str, to: &str) -> io::Result<()> {
+        if self.is_stuck {
+            return Err(Error::from(ErrorKind::Uncategorized));
+        }
         let number = self.number(from)?;
         self.files.remove(from.as_bytes());
         self.put(to, number)
@@ -248,4 +258,54 @@ fn a_file_that_is_locked_is_not_replaced(rt: HostRuntime) {
     let renamed = guard.rename(&mut host, (&new, "q-new"), (&path, "q"));
     assert_eq!(rt; renamed, Err(FilesError::Failed));
     assert_eq!(rt; host.number("q").ok(), Some(4));
+}
+
+// Which of the files 3, 7 and 9 are locked once 3 was read at a path, and 7 and then 9 were to take its place, each in a rename that fails
+// if it is said so.
+fn locked(alloc: Global, fails: [bool; 2]) -> Result<[bool; 3], FilesError> {
+    let path = Text::from_bytes(alloc, b"q")?;
+    let new = Text::from_bytes(alloc, b"q-new")?;
+    let mut host = system(alloc);
+    let mut guard = Guard::new(alloc, List::new(alloc));
+    let mut changed = ChangedFolders::new(alloc);
+    host.files.insert(path.copy()?, 3)?;
+    guard.open(&mut host, &path, "q")?;
+    for (number, is_stuck) in [(7, fails[0]), (9, fails[1])] {
+        host.next = number;
+        host.is_stuck = is_stuck;
+        guard.write(&mut host, &mut changed, (&new, "q-new"), b"x", 0o600)?;
+        let renamed = guard.rename(&mut host, (&new, "q-new"), (&path, "q"));
+        if renamed.is_ok() == is_stuck {
+            return Err(FilesError::Failed);
+        }
+    }
+    Ok([3, 7, 9].map(|number| guard.holds(FileId { device: 0, number })))
+}
+
+#[test]
+fn a_rename_that_fails_lets_no_lock_go(rt: HostRuntime) {
+    for (fails, answer) in [
+        ([false, false], [true, false, true]),
+        ([false, true], [true, true, true]),
+        ([true, false], [true, false, true]),
+        ([true, true], [true, true, true]),
+    ] {
+        let given = locked(rt.alloc(), fails);
+        assert_eq!(rt; given, Ok(answer), "{fails:?}");
+    }
+}
+
+#[test]
+fn what_was_read_stays_locked(rt: HostRuntime) {
+    let path = text(rt.alloc(), b"q").expect(&rt, "memory");
+    let mut host = system(rt.alloc());
+    let mut guard = Guard::new(rt.alloc(), List::new(rt.alloc()));
+    for number in [3, 4] {
+        assert_eq!(rt; host.put("q", number).is_ok(), true);
+        assert_eq!(rt; guard.open(&mut host, &path, "q").is_ok(), true);
+    }
+    for number in [3, 4] {
+        let is_held = guard.holds(FileId { device: 0, number });
+        assert_eq!(rt; is_held, true, "{number}");
+    }
 }

@@ -3,4 +3,4 @@ use Rattle.dc_host.specs.Locks.{KeepsLocks}
 use Rattle.dc_host.proofs.guard.Guard.lock_folder.Given as goal
 
 abbrev pub invariant-loop : goal.invariant-loop
-invariant-loop g l = KeepsLocks l.fn.self.locks.held l.self.locks.held × Keeps l.fn.changed l.changed
+invariant-loop g l = KeepsLocks l.fn.self.locks l.self.locks × Keeps l.fn.changed l.changed

@@ -3,4 +3,4 @@ use Rattle.dc_host.specs.Locks.{KeepsLocks}
 use Rattle.dc_host.proofs.guard.Guard.open_locked.Given as goal
 
 abbrev pub invariant-loop : goal.invariant-loop
-invariant-loop g l = KeepsLocks l.fn.self.locks.held l.self.locks.held × (l.self.known ≡ l.fn.self.known)
+invariant-loop g l = KeepsLocks l.fn.self.locks l.self.locks × (l.self.known ≡ l.fn.self.known)

@@ -3,7 +3,7 @@ use Rattle.std.specs.FinMap as map
 use Rattle.std.specs.List.{list_any}
 use Rattle.dc_host.specs.Locks.{is_of}
 use Rattle.dc_host.proofs.LockLemmas.{any_value}
-use Rattle.dc_host.proofs.locks.Locks.holds.Goals as goal
+use Rattle.dc_host.proofs.locks.Locks.has_placed.Goals as goal
 
 pub loop-lock-init : goal.loop-lock-init
 loop-lock-init g c =
