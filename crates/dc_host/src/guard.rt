@@ -9,7 +9,7 @@ ghost use Rattle.dc_host.specs.Locks.{as_written, is_below, KeepsLocks, KeepsLoc
 
 use crate::folders::ChangedFolders;
 use crate::locks::{Lock, Locks, take_lock};
-use crate::paths::{done, failed, is_denied, is_missing, join, path_of};
+use crate::paths::{done, failed, is_denied, is_missing, join, path_of, place_of_new};
 use crate::search::LOCK_NAME;
 use crate::system::{Access, FileId, Handle, Kind, System};
 use dc_outside::FilesError;
@@ -275,7 +275,7 @@ impl<H: Handle + Drop> Guard<H> {
         take_lock(&file)?;
         let id = id_of_file(&file)?;
         // another program may have taken the file or its name before the lock
-        if !stands_at(system, name, id) {
+        if !stands_at(system, name, id) || self.has_come(system, name) {
             return Err(FilesError::Failed);
         }
         done(fill(&mut file, bytes, mode))?;
@@ -310,9 +310,23 @@ impl<H: Handle + Drop> Guard<H> {
         done(system.open(name, Access::Creating))
     }
 
-    // Takes away what stands at the path, if anything does. The lock that shows that no other program uses the file is held until
-    // it is gone.
+    // Whether a file stands where the one of this name is to be put, and none was known there. Then another program is at its first run too, and
+    // what stands at the name may be its: Perl's debconf makes the file first, and doesn't lock the new one.
+    fn has_come<S: System<Handle = H>>(&self, system: &mut S, name: &str) -> bool {
+        match place_of_new(name) {
+            Some(place) if !self.known.contains(place.as_bytes()) => {
+                system.own_status(place).is_ok()
+            }
+            _ => false,
+        }
+    }
+
+    // Takes away what stands at the path, if anything does and no other program may be writing it. The lock that shows that none uses the file is
+    // held until it is gone.
     fn clear<S: System<Handle = H>>(&self, system: &mut S, name: &str) -> Result<(), FilesError> {
+        if self.has_come(system, name) {
+            return Err(FilesError::Failed);
+        }
         let lock = match self.free(system, name)? {
             Standing::Nothing => return Ok(()),
             Standing::Folder => return Err(FilesError::Failed),

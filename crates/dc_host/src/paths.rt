@@ -1,5 +1,5 @@
 // Paths as the host takes them, and what its errors mean.
-ghost use Rattle.std.specs.Prelude.{◌≡◌, ◌↔◌, ◌⊎◌, IfErr, IfOk, IsOk, IsTrue, Ok};
+ghost use Rattle.std.specs.Prelude.{◌≡◌, ◌↔◌, ◌⊎◌, ◌++◌, IfErr, IfOk, IfSome, IsOk, IsTrue, Ok, codes};
 ghost use Rattle.std.specs.IoError.{error_kind};
 ghost use Rattle.std.specs.Str.{IsUtf8};
 ghost use Rattle.dc_host.specs.Folders.{joined};
@@ -35,6 +35,16 @@ pub fn join(alloc: Global, folder: &[u8], name: &[u8]) -> Mem<Text>
             path.append(name)?;
             Ok(path)
         }
+    }
+}
+
+/// The path in whose place the file of this name is to be put, where it is a new one.
+pub fn place_of_new(name: &str) -> Option<&str>
+    ensures { IfSome result (λ place. place.now ++ codes "-new" ≡ name.now) }
+{
+    match name.as_bytes().strip_suffix(b"-new".as_slice()) {
+        Some(place) => std::str::from_utf8(place).ok(),
+        None => None,
     }
 }
 

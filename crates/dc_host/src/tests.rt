@@ -284,6 +284,16 @@ fn a_folder_that_is_not_there_is_locked(rt: HostRuntime) {
         .expect(&rt, "done");
 }
 
+// What another program does: it puts the text at the name in the folder.
+fn put_other(rt: &HostRuntime, folder: &str, name: &str, text: &str) -> io::Result<()> {
+    fs::write(rt, inside(rt, folder, name)?.as_str(), text)
+}
+
+fn holds(rt: &HostRuntime, folder: &str, name: &str, text: &str) -> io::Result<bool> {
+    let held = fs::read_to_string(rt, inside(rt, folder, name)?.as_str())?;
+    Ok(held.as_str() == text)
+}
+
 #[test]
 fn a_file_that_came_meanwhile_is_kept(rt: HostRuntime) {
     let folder = make_folder(&rt, "meanwhile").ok().expect(&rt, "done");
@@ -295,24 +305,15 @@ fn a_file_that_came_meanwhile_is_kept(rt: HostRuntime) {
         List::new(rt.alloc()),
     );
     assert_eq!(rt; files.read(&path).is_ok(), true);
-    fs::write(
-        &rt,
-        inside(&rt, &folder, "q").ok().expect(&rt, "done").as_str(),
-        "other",
-    )
-    .ok()
-    .expect(&rt, "done");
-    assert_eq!(rt;
-        save(&mut files, &new, &path, "x", 0o600),
-        Err(FilesError::Failed)
-    );
-    let kept = fs::read_to_string(
-        &rt,
-        inside(&rt, &folder, "q").ok().expect(&rt, "done").as_str(),
-    )
-    .ok()
-    .expect(&rt, "done");
-    assert_eq!(rt; kept.as_str(), "other");
+    assert_eq!(rt; files.write(&new, b"x", 0o600), Ok(()));
+    assert!(rt; put_other(&rt, &folder, "q", "other").is_ok());
+    assert_eq!(rt; files.rename(&new, &path), Err(FilesError::Failed));
+    assert!(rt; put_other(&rt, &folder, "q-new", "theirs").is_ok());
+    assert_eq!(rt; files.write(&new, b"x", 0o600), Err(FilesError::Failed));
+    let kept = holds(&rt, &folder, "q", "other");
+    assert_eq!(rt; kept.ok(), Some(true));
+    let theirs = holds(&rt, &folder, "q-new", "theirs");
+    assert_eq!(rt; theirs.ok(), Some(true));
     fs::remove_dir_all(&rt, folder.as_str())
         .ok()
         .expect(&rt, "done");
