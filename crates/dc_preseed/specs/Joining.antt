@@ -6,7 +6,7 @@ use Rattle.std.specs.List.{list_any, flat_map, find}
 use Rattle.std.specs.Option.{option_map_or}
 use Rattle.dc_text.specs.Ascii.{backslash, hash}
 use Rattle.dc_text.specs.Bytes.{is_space}
-use Rattle.dc_words.specs.Stream.{line_of}
+use Rattle.dc_words.specs.Stream.{line_of, all_lines}
 use Rattle.dc_words.specs.declared.stream.Line.{Line}
 use Rattle.dc_words.specs.declared.stream.Line.TheVariants.{Whole, TooLong}
 use Rattle.dc_preseed.specs.declared.joining.Joined.{Joined}
@@ -65,3 +65,7 @@ abbrev pub AreJoined : ℕ → List Line → List Joined → Type 0
 AreJoined number lines [] = lines ≡ []
 AreJoined number lines (one ∷ others) = (group : List Line) × (rest : List Line) × (lines ≡ group ++ rest) × AreOne group rest
     × (one ≡ record { first = counted number; whole = as_one group }) × AreJoined (number + length group) rest others
+
+-- the text is these joined lines
+abbrev pub AreJoinedIn : List ℕ → List Joined → Type 0
+AreJoinedIn text all = AreJoined 1 (all_lines text) all

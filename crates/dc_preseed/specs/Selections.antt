@@ -1,12 +1,13 @@
 -- What a line of selections says (debconf-set-selections(1)): an owner, a question and a type, parted by whitespace, and behind the
 -- type a value. With the word `seen` for a type, the value is that of the flag.
-use Rattle.std.specs.Prelude.{◌≡◌, ℕ, Bool, true, false, not, ◌&&◌, ◌||◌, List, [], ◌∷◌, drop, Option, Some, None, Result, Ok, Err, is_some, is_none, codes, if◌then◌else◌}
+use Rattle.std.specs.Prelude.{◌≡◌, ℕ, Bool, true, false, not, ◌&&◌, ◌||◌, List, [], ◌∷◌, ◌++◌, drop, Option, Some, None, Result, Ok, Err, is_some, is_none, codes, if◌then◌else◌}
 use Rattle.std.specs.List.{find, before_first}
 use Rattle.std.specs.Option.{option_map}
 use Rattle.std.specs.Str.{bytes_eq}
 use Rattle.dc_text.specs.Bytes.{is_space, is_blank, drop_front, trimmed, is_nil}
 use Rattle.dc_text.specs.Faults.{AllStand, IsFirstFault}
 use Rattle.dc_text.specs.Names.{is_name}
+use Rattle.dc_words.specs.Words.{IsPlainWord, IsWordEnd}
 use Rattle.dc_template.specs.Kinds.{kind_of}
 use Rattle.dc_preseed.specs.Joining.{is_comment}
 use Rattle.dc_preseed.specs.declared.faults.SelectionError.{SelectionError}
@@ -40,6 +41,24 @@ parts_of line = record {
   word = first_word (behind_word (behind_word line));
   value = drop 1 (behind_word (behind_word (behind_word line)));
 }
+
+-- The word comes first in the bytes, behind whitespace, and the rest stands behind it.
+pub record ComesFirst (bytes word rest : List ℕ) : Type 0 where
+  pub gap : List ℕ
+  pub whole : bytes ≡ gap ++ word ++ rest
+  pub blank : is_blank gap ≡ true
+  pub solid : IsPlainWord word
+  pub end : IsWordEnd rest
+
+-- the parts are the first three words of the line, each behind the one before it, and the value
+pub record AreParts (line : List ℕ) (parts : Parts) : Type 0 where
+  pub behind_owner : List ℕ
+  pub behind_question : List ℕ
+  pub rest : List ℕ
+  pub owner : ComesFirst line parts.owner behind_owner
+  pub question : ComesFirst behind_owner parts.question behind_question
+  pub word : ComesFirst behind_question parts.word rest
+  pub value : parts.value ≡ drop 1 rest
 
 -- a line that says nothing: without words, or a comment
 abbrev pub is_silent : List ℕ → Bool
