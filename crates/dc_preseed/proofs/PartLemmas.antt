@@ -114,7 +114,7 @@ nothing-behind (x ∷ bytes) none = elim (cases_Bool (is_space x)) [
       let word : is_nil (before_first is_space (x ∷ bytes)) ≡ true = rw solid at none in
       let off : false ≡ true = rw (before_first-cons is_space x bytes, solid) at word in
       cc
-    )
+      )
 ]
 
 -- ---- the parts

@@ -14,7 +14,7 @@ use dc_words::{Line, MAX_LINE};
 use std::alloc::Global;
 use std::marker::Model;
 
-/// A line, or several that are joined, and the number of the first of them.
+/// A line, or several that are joined, and the number of the first of them, counted from 1.
 #[derive(Drop)]
 pub struct Joined {
     pub first: u64,

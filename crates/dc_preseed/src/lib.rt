@@ -9,3 +9,6 @@ pub mod selections;
 pub use faults::{SelectionError, SelectionFault};
 pub use joining::{Joined, Joiner};
 pub use selections::{Selection, read_selection};
+
+#[cfg(test)]
+mod tests;
