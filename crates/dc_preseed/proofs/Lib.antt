@@ -1,0 +1,3 @@
+pub mod JoinLemmas
+pub mod PartLemmas
+pub mod SelectionLemmas

@@ -1,0 +1,4 @@
+pub mod Joiner
+pub mod Joining
+pub mod SelectionExamples
+pub mod Selections
