@@ -1,4 +1,4 @@
-use Rattle.std.proofs.Common.{rules, refl, Ok}
+use Rattle.std.proofs.Common.{rules, refl, Ok, length}
 use Rattle.dc_run.proofs.StartLemmas.{loaded_by, both_plans, both_disjoint, over_used}
 use Rattle.dc_run.proofs.starting.start.Goals as goal
 
@@ -17,5 +17,5 @@ returns-in-Ok-load_used-clause-starts g c =
 
 pub returns-in-Ok-load_used-clause-over : goal.returns-in-Ok-load_used-clause-over
 returns-in-Ok-load_used-clause-over g c =
-    let over = over_used _ _ _ _ _ c.roots_of.ensures.plans (search rules) (search rules) in
+    let over = over_used _ _ _ (length c.in-Ok-resolve.resolved.specs) (length c.load_used.new.used.items) c.roots_of.ensures.plans c.in-Ok-resolve.ensures.over (search rules) in
     record { config = over.0; templates = over.1; disjoint = both_disjoint _ _ _ c.roots_of.ensures.plans c.in-Ok-resolve.ensures.disjoint }
