@@ -43,7 +43,10 @@ pub fn place_of_new(name: &str) -> Option<&str>
     ensures { IfSome result (λ place. place.now ++ codes "-new" ≡ name.now) }
 {
     match name.as_bytes().strip_suffix(b"-new".as_slice()) {
-        Some(place) => std::str::from_utf8(place).ok(),
+        Some(place) => match std::str::from_utf8(place) {
+            Ok(place) => Some(place),
+            Err(_) => None,
+        },
         None => None,
     }
 }
