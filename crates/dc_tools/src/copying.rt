@@ -1,5 +1,5 @@
 // What `copydb` copies.
-ghost use Rattle.std.specs.Prelude.{◌≡◌, ◌∷◌, ◌++◌, [], IfOk, OnOk, length, option_map, true, not};
+ghost use Rattle.std.specs.Prelude.{◌≡◌, ◌∷◌, ◌++◌, [], IfOk, OnOk, length, option_map, true, not, if◌then◌else◌};
 ghost use Rattle.std.specs.Option.{option_copied, option_map_or};
 ghost use Rattle.std.specs.FinMap as map;
 ghost use Rattle.std.specs.List.{list_any, filter_map};
@@ -7,7 +7,7 @@ ghost use Rattle.dc_conf.specs.Plans.{IsOver, are_disjoint};
 ghost use Rattle.dc_store.specs.Batches.{is_refused};
 ghost use Rattle.dc_store.specs.Plans.{look as look_of, names as names_of};
 ghost use Rattle.dc_store.specs.StoreLaws.{IsSameStoreBut, IsSameStoreButAll};
-ghost use Rattle.dc_store.specs.Views.{store_of};
+ghost use Rattle.dc_store.specs.Views.{store_in};
 ghost use Rattle.dc_question.specs.Readings.{template_of};
 ghost use Rattle.dc_tools.specs.Copying.{finds, is_chosen as is_chosen_by, chosen_at as chosen_at_of, kind_copied as kind_copied_of, copy_write as copy_write_of, after_copy, after_copies, refused_names, IsCopied};
 
@@ -62,8 +62,8 @@ pub fn copy_items(
       templates = templates.now;
       by_name = option_copied names.entry;
       by_owner = option_copied owners.entry;
-    }) (store_of state store.old) (store_of state store.new)) }
-    ensures frame { IsSameStoreButAll (names_of (store_of state store.old).layers source.now) (store_of state store.old) (store_of state store.new) }
+    }) (store_in state store.old) (store_in state store.new)) }
+    ensures frame { IsSameStoreButAll (names_of (store_in state store.old).layers source.now) (store_in state store.old) (store_in state store.new) }
 {
     let alloc = *store.layers.allocator();
     let listed = store.names(source)?;
@@ -85,11 +85,11 @@ impl<'c> CopyTask<'c> {
         requires dest { IsOver self.now.dest (length store.old.layers.items) }
         requires templates { IsOver self.now.templates (length store.old.layers.items) }
         requires apart { are_disjoint self.now.source self.now.dest ≡ true }
-        ensures left { OnOk result (store_of state store.new
-            ≡ after_copies (store_of state store.old) self.now (filter_map (chosen_at_of (store_of state store.old).layers self.now) names.now)) }
+        ensures left { OnOk result (store_in state store.new
+            ≡ after_copies (store_in state store.old) self.now (filter_map (chosen_at_of (store_in state store.old).layers self.now) names.now)) }
         ensures told { IfOk result (λ refused. refused
-            ≡ refused_names (store_of state store.old) self.now (filter_map (chosen_at_of (store_of state store.old).layers self.now) names.now)) }
-        ensures frame { IsSameStoreButAll names.now (store_of state store.old) (store_of state store.new) }
+            ≡ refused_names (store_in state store.old) self.now (filter_map (chosen_at_of (store_in state store.old).layers self.now) names.now)) }
+        ensures frame { IsSameStoreButAll names.now (store_in state store.old) (store_in state store.new) }
     {
         let mut refused = List::new(self.alloc);
         let mut rest = names;
@@ -105,11 +105,11 @@ impl<'c> CopyTask<'c> {
         requires source { IsOver self.now.source (length store.old.layers.items) }
         requires dest { IsOver self.now.dest (length store.old.layers.items) }
         requires templates { IsOver self.now.templates (length store.old.layers.items) }
-        ensures left { OnOk result (store_of state store.new
-            ≡ after_copies (store_of state store.old) self.now (filter_map (chosen_at_of (store_of state store.old).layers self.now) (name.now ∷ []))) }
+        ensures left { OnOk result (store_in state store.new
+            ≡ after_copies (store_in state store.old) self.now (filter_map (chosen_at_of (store_in state store.old).layers self.now) (name.now ∷ []))) }
         ensures told { OnOk result (refused.new ≡ refused.old
-            ++ refused_names (store_of state store.old) self.now (filter_map (chosen_at_of (store_of state store.old).layers self.now) (name.now ∷ []))) }
-        ensures frame { IsSameStoreBut name.now (store_of state store.old) (store_of state store.new) }
+            ++ refused_names (store_in state store.old) self.now (filter_map (chosen_at_of (store_in state store.old).layers self.now) (name.now ∷ []))) }
+        ensures frame { IsSameStoreBut name.now (store_in state store.old) (store_in state store.new) }
     {
         match self.chosen_at(store, name)? {
             None => Ok(()),
@@ -123,7 +123,7 @@ impl<'c> CopyTask<'c> {
     // A copy of the item that is seen under the name, where it is chosen.
     fn chosen_at(&self, store: &Store, name: &Name) -> Mem<Option<Item>>
         requires { IsOver self.now.source (length store.now.layers.items) }
-        ensures { IfOk result (λ found. option_map (λ item. (name.now, item)) found ≡ chosen_at_of (store_of state store.now).layers self.now name.now) }
+        ensures { IfOk result (λ found. option_map (λ item. (name.now, item)) found ≡ chosen_at_of (store_in state store.now).layers self.now name.now) }
     {
         match store.look(self.source, name) {
             None => Ok(None),
@@ -156,13 +156,12 @@ impl<'c> CopyTask<'c> {
     fn copy_item(&self, store: &mut Store, name: &Name, item: Item) -> Mem<bool>
         requires dest { IsOver self.now.dest (length store.old.layers.items) }
         requires templates { IsOver self.now.templates (length store.old.layers.items) }
-        ensures left { OnOk result (store_of state store.new ≡ after_copy (store_of state store.old) self.now (name.now, item)) }
-        ensures taken { IfOk result (λ is_taken. is_refused (store_of state store.old).layers
-            (copy_write_of (store_of state store.old).layers self.now (name.now, item)) ≡ not is_taken) }
-        ensures frame { IsSameStoreBut name.now (store_of state store.old) (store_of state store.new) }
+        ensures left { OnOk result (store_in state store.new ≡ after_copy (store_in state store.old) self.now (name.now, item)) }
+        ensures taken { IfOk result (λ is_taken. is_refused (store_in state store.old).layers
+            (copy_write_of (store_in state store.old).layers self.now (name.now, item)) ≡ not is_taken) }
+        ensures frame { IsSameStoreBut name.now (store_in state store.old) (store_in state store.new) }
     {
-        let mut batch = Batch::with_capacity(self.alloc, 1)?;
-        batch.push(self.copy_write(store, name, item)?)?;
+        let mut batch = self.copy_batch(store, name, item)?;
         match store.commit(&mut batch) {
             Ok(()) => Ok(true),
             Err(StoreError::Refused) => Ok(false),
@@ -170,10 +169,20 @@ impl<'c> CopyTask<'c> {
         }
     }
 
+    // The write that puts the item into the destination, alone. The item isn't copied where it lands.
+    fn copy_batch(&self, store: &Store, name: &Name, item: Item) -> Mem<Batch<'c>>
+        requires { IsOver self.now.templates (length store.now.layers.items) }
+        ensures { IfOk result (λ batch. batch ≡ copy_write_of (store_in state store.now).layers self.now (name.now, item) ∷ []) }
+    {
+        let mut batch = Batch::with_capacity(self.alloc, 1)?;
+        batch.push(self.copy_write(store, name, item)?)?;
+        Ok(batch)
+    }
+
     // The write that puts the item into the destination.
     fn copy_write(&self, store: &Store, name: &Name, item: Item) -> Mem<Write<'c>>
         requires { IsOver self.now.templates (length store.now.layers.items) }
-        ensures { IfOk result (λ w. w ≡ copy_write_of (store_of state store.now).layers self.now (name.now, item)) }
+        ensures { IfOk result (λ w. w ≡ copy_write_of (store_in state store.now).layers self.now (name.now, item)) }
     {
         Ok(Write {
             plan: self.dest,
@@ -187,7 +196,7 @@ impl<'c> CopyTask<'c> {
     // The kind by which the copy of the item is tested: what its template says, else what it says itself.
     fn kind_copied(&self, store: &Store, item: &Item) -> Option<Kind>
         requires { IsOver self.now.templates (length store.now.layers.items) }
-        ensures { result ≡ kind_copied_of (store_of state store.now).layers self.now.templates item.now }
+        ensures { result ≡ kind_copied_of (store_in state store.now).layers self.now.templates item.now }
     {
         match kind(self.template(store, item)) {
             Some(kind) => Some(kind),
@@ -198,7 +207,7 @@ impl<'c> CopyTask<'c> {
     // The template of an item.
     fn template<'s>(&self, store: &'s Store, item: &Item) -> Option<&'s Item>
         requires { IsOver self.now.templates (length store.now.layers.items) }
-        ensures { option_copied result ≡ template_of (look_of (store_of state store.now).layers self.now.templates) item.now }
+        ensures { option_copied result ≡ template_of (look_of (store_in state store.now).layers self.now.templates) item.now }
     {
         let name = item.field(b"template")?;
         store.seek(self.templates, name)

@@ -1,13 +1,13 @@
 // What `show` lists: owners, and databases.
-ghost use Rattle.std.specs.Prelude.{◌≡◌, ◌∷◌, ◌++◌, [], List, ℕ, IfOk, OnOk, length};
+ghost use Rattle.std.specs.Prelude.{◌≡◌, ◌∷◌, ◌++◌, [], IfOk, OnOk, length};
 ghost use Rattle.std.specs.FinMap as map;
 ghost use Rattle.std.specs.List.{flat_map};
 ghost use Rattle.dc_text.specs.Ascii.{newline};
 ghost use Rattle.dc_text.specs.Lines.{text_of};
 ghost use Rattle.dc_text.specs.Maps.{set_of};
 ghost use Rattle.dc_conf.specs.Plans.{IsOver};
-ghost use Rattle.dc_store.specs.Views.{store_of};
-ghost use Rattle.dc_tools.specs.Listing.{owners_of, owners_text_of, databases_text_of};
+ghost use Rattle.dc_store.specs.Views.{store_in};
+ghost use Rattle.dc_tools.specs.Listing.{owners_of, with_all, owners_text_of, databases_text_of};
 
 use dc_conf::Conf;
 use dc_conf::plans::Plan;
@@ -20,7 +20,7 @@ use std::alloc::Global;
 /// Each owner of an item that is seen in the plan, once, in byte order, in a line of its own (debconf-show(1), `--listowners`).
 pub fn owners_text(store: &Store, plan: &Plan) -> Mem<Text>
     requires { IsOver plan.now (length store.now.layers.items) }
-    ensures { IfOk result (λ text. text ≡ owners_text_of (store_of state store.now).layers plan.now) }
+    ensures { IfOk result (λ text. text ≡ owners_text_of (store_in state store.now).layers plan.now) }
 {
     let alloc = *store.layers.allocator();
     let names = store.names(plan)?;
@@ -31,27 +31,51 @@ pub fn owners_text(store: &Store, plan: &Plan) -> Mem<Text>
 // The owners of the items that are seen under the names.
 fn owners_among(alloc: Global, store: &Store, plan: &Plan, names: &[Name]) -> Mem<TextMap<()>>
     requires { IsOver plan.now (length store.now.layers.items) }
-    ensures { IfOk result (λ owners. owners ≡ set_of (flat_map (owners_of (store_of state store.now).layers plan.now) names.now)) }
+    ensures { IfOk result (λ owners. owners ≡ set_of (flat_map (owners_of (store_in state store.now).layers plan.now) names.now)) }
 {
     let mut owners = TextMap::new(alloc);
     for name in names {
-        if let Some(item) = store.look(plan, name) {
-            add_owners(alloc, &mut owners, item)?;
-        }
+        add_owners_at(alloc, &mut owners, store, plan, name)?;
     }
     Ok(owners)
 }
 
-// Adds the owners of the item. One that is there already isn't copied.
+// Adds the owners of the item that is seen under the name.
+fn add_owners_at(
+    alloc: Global,
+    owners: &mut TextMap<()>,
+    store: &Store,
+    plan: &Plan,
+    name: &Name,
+) -> Mem<()>
+    requires { IsOver plan.now (length store.now.layers.items) }
+    ensures { OnOk result (owners.new ≡ with_all owners.old (owners_of (store_in state store.now).layers plan.now name.now)) }
+{
+    match store.look(plan, name) {
+        None => Ok(()),
+        Some(item) => add_owners(alloc, owners, item),
+    }
+}
+
+// Adds the owners of the item.
 fn add_owners(alloc: Global, owners: &mut TextMap<()>, item: &Item) -> Mem<()>
-    ensures { OnOk result ((texts : List (List ℕ)) → owners.old ≡ set_of texts → owners.new ≡ set_of (texts ++ map.keys item.now.owners)) }
+    ensures { OnOk result (owners.new ≡ with_all owners.old (map.keys item.now.owners)) }
 {
     for owner in item.owners() {
-        if !owners.contains(owner) {
-            owners.insert(Text::from_bytes(alloc, owner)?, ())?;
-        }
+        add_owner(alloc, owners, owner)?;
     }
     Ok(())
+}
+
+// Adds an owner. One that is there already isn't copied.
+#[tactic(auto, using(crate::proofs::ListLemmas::insert_there))]
+fn add_owner(alloc: Global, owners: &mut TextMap<()>, owner: &[u8]) -> Mem<()>
+    ensures { OnOk result (owners.new ≡ map.insert owners.old owner.now tt) }
+{
+    if owners.contains(owner) {
+        return Ok(());
+    }
+    owners.insert(Text::from_bytes(alloc, owner)?, ())
 }
 
 // The members of a set, each in a line of its own.

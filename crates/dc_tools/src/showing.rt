@@ -3,7 +3,7 @@ ghost use Rattle.std.specs.Prelude.{◌≡◌, ◌∷◌, ◌++◌, [], IfOk, On
 ghost use Rattle.std.specs.Option.{option_copied};
 ghost use Rattle.dc_text.specs.Ascii.{newline};
 ghost use Rattle.dc_question.specs.Asked.{asked, HasPlans, seen};
-ghost use Rattle.dc_question.specs.Questions.{template as template_of};
+ghost use Rattle.dc_question.specs.Questions.{question as question_of, template as template_of};
 ghost use Rattle.dc_question.specs.Readings.{kind_by, value_of};
 ghost use Rattle.dc_tools.specs.Showing.{is_password as is_password_of, mark as mark_of, shown_value, shown_answer, item_line, show_text_of};
 
@@ -32,20 +32,35 @@ fn append_question(text: &mut Text, questions: &Questions, name: &Name) -> Mem<(
     requires { HasPlans questions.now }
     ensures { OnOk result (text.new ≡ text.old ++ seen (asked state questions.now) show_text_of (name.now ∷ [])) }
 {
-    match questions.store.look(questions.context.config, name) {
+    match question(questions, name) {
         None => Ok(()),
         Some(item) => {
             let template = template(questions, item);
             append_line(
                 questions.alloc,
                 text,
-                questions.context.lang.bytes(),
+                language(questions),
                 name,
                 item,
                 template,
             )
         }
     }
+}
+
+// The user's language.
+fn language<'q>(questions: &'q Questions) -> &'q [u8]
+    ensures { result.now ≡ questions.now.context.lang }
+{
+    questions.context.lang.bytes()
+}
+
+// The item of a question.
+fn question<'q>(questions: &'q Questions, name: &Name) -> Option<&'q Item>
+    requires { HasPlans questions.now }
+    ensures { option_copied result ≡ seen (asked state questions.now) question_of name.now }
+{
+    questions.store.look(questions.context.config, name)
 }
 
 // The template of an item.
