@@ -1,8 +1,8 @@
 -- What a copy leaves.
-use Rattle.std.proofs.Common.{◌≡◌, ◌≤◌, ℕ, zero, suc, get_or, drop, Bool, true, false, not, List, [], ◌∷◌, ◌++◌, Option, Some, None, is_some, refl, sym, ap, subst, ◌∙◌, inr, arith, append_assoc}
+use Rattle.std.proofs.Common.{◌≡◌, ◌≤◌, ℕ, ◌-◌, zero, suc, get_or, take, drop, Bool, true, false, not, List, [], ◌∷◌, ◌++◌, Option, Some, None, is_some, refl, sym, ap, subst, ◌∙◌, inr, arith, append_assoc}
 use Rattle.std.specs.Prelude.{◌<◌, length, slice_index_or, option_map, option_and_then, unwrap_or, if◌then◌else◌}
 use Rattle.std.specs.List.{All, Contains, filter_map, cons_option}
-use Rattle.std.proofs.lemmas.List.{append-nil}
+use Rattle.std.proofs.lemmas.List.{append-nil, take_all, length-drop}
 use Rattle.std.proofs.lemmas.List.Elements.{All-nil, All-cons}
 use Rattle.dc_conf.specs.Plans.{are_disjoint, places}
 use Rattle.dc_item.specs.Item.{ItemParts, no_parts}
@@ -143,7 +143,7 @@ next store new copy n ns apart e =
 -- ---- the names that are left
 
 -- what is left and told once the first of the names is copied
-pub turn : (store new : StoreState) (copy : Copying) (rs : List (List ℕ)) (x : List ℕ) (refused more : List (List ℕ)) (final : StoreState) (told : List (List ℕ))
+turn_by : (store new : StoreState) (copy : Copying) (rs : List (List ℕ)) (x : List ℕ) (refused more : List (List ℕ)) (final : StoreState) (told : List (List ℕ))
     → are_disjoint copy.source copy.dest ≡ true → 1 ≤ length rs → x ≡ get_or rs 0 x
     → new ≡ after_copies store copy (filter_map (chosen_at store.layers copy) (x ∷ []))
     → more ≡ refused ++ refused_names store copy (filter_map (chosen_at store.layers copy) (x ∷ []))
@@ -151,8 +151,8 @@ pub turn : (store new : StoreState) (copy : Copying) (rs : List (List ℕ)) (x :
     → refused ++ refused_names store copy (filter_map (chosen_at store.layers copy) rs) ≡ told
     → (after_copies new copy (filter_map (chosen_at new.layers copy) (drop 1 rs)) ≡ final)
     × (more ++ refused_names new copy (filter_map (chosen_at new.layers copy) (drop 1 rs)) ≡ told)
-turn store new copy [] x refused more final told apart some is did adds left tells = absurd (omega (arith, some))
-turn store new copy (r ∷ rs) x refused more final told apart some is did adds left tells =
+turn_by store new copy [] x refused more final told apart some is did adds left tells = absurd (omega (arith, some))
+turn_by store new copy (r ∷ rs) x refused more final told apart some is did adds left tells =
     let here = next store new copy r rs apart (did ∙ ap (λ y. after_copies store copy (filter_map (chosen_at store.layers copy) (y ∷ []))) is) in
     let later = refused_names new copy (filter_map (chosen_at new.layers copy) rs) in (
       here.left ∙ left,
@@ -161,11 +161,33 @@ turn store new copy (r ∷ rs) x refused more final told apart some is did adds 
           ∙ ap (λ l. refused ++ l) here.told ∙ tells,
     )
 
+-- the names but the first, as a pattern on slices gives them
+rest_is : (rs : List (List ℕ)) → take (length rs - 1) (drop 1 rs) ≡ drop 1 rs
+rest_is rs = take_all (length rs - 1) (drop 1 rs) (omega (arith, length-drop 1 rs))
+
+-- the same of those
+pub turn : (store new : StoreState) (copy : Copying) (rs : List (List ℕ)) (x : List ℕ) (refused more : List (List ℕ)) (final : StoreState) (told : List (List ℕ))
+    → are_disjoint copy.source copy.dest ≡ true → 1 ≤ length rs → x ≡ get_or rs 0 x
+    → new ≡ after_copies store copy (filter_map (chosen_at store.layers copy) (x ∷ []))
+    → more ≡ refused ++ refused_names store copy (filter_map (chosen_at store.layers copy) (x ∷ []))
+    → after_copies store copy (filter_map (chosen_at store.layers copy) rs) ≡ final
+    → refused ++ refused_names store copy (filter_map (chosen_at store.layers copy) rs) ≡ told
+    → (after_copies new copy (filter_map (chosen_at new.layers copy) (take (length rs - 1) (drop 1 rs))) ≡ final)
+    × (more ++ refused_names new copy (filter_map (chosen_at new.layers copy) (take (length rs - 1) (drop 1 rs))) ≡ told)
+turn store new copy rs x refused more final told apart some is did adds left tells =
+    let both = turn_by store new copy rs x refused more final told apart some is did adds left tells in (
+      ap (λ ns. after_copies new copy (filter_map (chosen_at new.layers copy) ns)) (rest_is rs) ∙ both.0,
+      ap (λ ns. more ++ refused_names new copy (filter_map (chosen_at new.layers copy) ns)) (rest_is rs) ∙ both.1,
+    )
+
 -- the first of the names is one of them
 pub first_among : (rs : List (List ℕ)) (x : List ℕ) → 1 ≤ length rs → x ≡ get_or rs 0 x → Contains rs x
 first_among rs x some is = (0, omega (arith, some), sym is)
 
+among_by : (rs : List (List ℕ)) (name : List ℕ) → Contains (drop 1 rs) name → Contains rs name
+among_by [] name in' = in'
+among_by (r ∷ rs) name in' = (suc in'.0, omega (arith, in'.1), in'.2)
+
 -- and so are the rest
-pub rest_among : (rs : List (List ℕ)) (name : List ℕ) → Contains (drop 1 rs) name → Contains rs name
-rest_among [] name in' = in'
-rest_among (r ∷ rs) name in' = (suc in'.0, omega (arith, in'.1), in'.2)
+pub rest_among : (rs : List (List ℕ)) (name : List ℕ) → Contains (take (length rs - 1) (drop 1 rs)) name → Contains rs name
+rest_among rs name in' = among_by rs name (subst (λ ns. Contains ns name) (rest_is rs) in')
