@@ -2,6 +2,7 @@
 #![tactic(auto)]
 
 pub mod copying;
+pub mod laws;
 pub mod listing;
 pub mod showing;
 #[cfg(test)]
