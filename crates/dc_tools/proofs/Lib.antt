@@ -1,3 +1,4 @@
+pub mod CopyLaws
 pub mod CopyLemmas
 pub mod ListLemmas
 pub mod ShowLemmas
