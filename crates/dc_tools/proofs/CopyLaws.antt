@@ -1,6 +1,6 @@
 -- What is seen of a copy.
-use Rattle.std.proofs.Common.{◌≡◌, ◌≢◌, ℕ, Bool, true, false, cond, List, [], ◌∷◌, ◌++◌, Option, Some, None, map as each, refl, sym, ap, ◌∙◌, inl, inr, ⊎_elim}
-use Rattle.std.specs.Prelude.{◌&&◌, option_map, option_and_then, if◌then◌else◌, codes}
+use Rattle.std.proofs.Common.{◌≡◌, ◌≢◌, ℕ, zero, suc, not, is_some, Bool, true, false, cond, List, [], ◌∷◌, ◌++◌, Option, Some, None, map as each, refl, sym, ap, ◌∙◌, inl, inr, ⊎_elim}
+use Rattle.std.specs.Prelude.{◌&&◌, ◌||◌, slice_get, unwrap_or, option_map, option_and_then, if◌then◌else◌, codes}
 use Rattle.std.specs.List.{AllByRecursion, filter_map, cons_option}
 use Rattle.std.specs.FinMap as map
 use Rattle.std.proofs.lemmas.List.Elements.{All-nil, All-cons}
@@ -8,7 +8,7 @@ use Rattle.dc_text.specs.Bytes.{is_nil}
 use Rattle.dc_text.specs.Lines.{text_of}
 use Rattle.dc_text.specs.Maps.{AreDistinct as AllDiffer}
 use Rattle.dc_conf.specs.declared.plans.Plan.{Plan}
-use Rattle.dc_conf.specs.Plans.{are_disjoint}
+use Rattle.dc_conf.specs.Plans.{are_disjoint, places}
 use Rattle.dc_item.specs.After.{after_at, parts_eq, drops_owners}
 use Rattle.dc_item.specs.Item.{ItemParts, no_parts}
 use Rattle.dc_item.specs.declared.op.Op.TheVariants.{Put}
@@ -16,14 +16,24 @@ use Rattle.dc_item.specs.declared.op.After.{After}
 use Rattle.dc_item.specs.declared.op.After.TheVariants.{Same, Changed, Gone}
 use Rattle.dc_item.proofs.AfterLemmas.{parts_eq-Decides}
 use Rattle.dc_item.proofs.PrintedLines.{keys_apart}
-use Rattle.dc_layer.specs.State.{LayerState}
-use Rattle.dc_store.specs.Batches.{Write, AreDistinct, is_refused}
+use Rattle.dc_layer.specs.Folders.{has_place_for}
+use Rattle.dc_layer.specs.Rules.{accepts, rules_of}
+use Rattle.dc_layer.specs.State.{LayerState, is_writable, admits}
+use Rattle.dc_store.specs.Holders.{has_at, look_of}
+use Rattle.dc_store.specs.StoreLaws.{AreSameBut}
+use Rattle.dc_store.specs.Writes.{is_writable_at, takes_at, writable_holder, copy_target, by_case, write_of}
+use Rattle.dc_store.proofs.Frames.{plan_keeps}
+use Rattle.dc_store.proofs.Searches.{home_step}
+use Rattle.std.specs.Option.{option_map_or}
+use Rattle.dc_template.specs.declared.kinds.Kind.{Kind}
+use Rattle.dc_conf.specs.declared.plans.Base.TheVariants.{Leaf}
+use Rattle.dc_store.specs.Batches.{Write, AreDistinct, is_refused, write_done}
 use Rattle.dc_store.specs.Plans.{StoreState, look, look_below, seen_after, names}
 use Rattle.dc_store.proofs.TakenLemmas.{row_stays, row_seen}
 use Rattle.dc_question.specs.Questions.{QuestionContext}
 use Rattle.dc_question.specs.Readings.{template_of}
 use Rattle.dc_question.proofs.ApartLemmas.{apart_too}
-use Rattle.dc_tools.specs.Copying.{Copying, IsCopied, is_chosen, chosen_at, chosen, copy_write, after_copy, after_copies, refused_names}
+use Rattle.dc_tools.specs.Copying.{Copying, IsCopied, IsOpen, is_chosen, chosen_at, chosen, copy_write, after_copy, after_copies, refused_names}
 use Rattle.dc_tools.specs.Showing.{item_line, line_of, show_text_of}
 
 -- ---- what a put leaves
@@ -181,3 +191,64 @@ copies_shown copy old new lang h alone apart =
     (chosen old.layers copy) refl
     (λ n. ap (λ (s : StoreState). look s.layers copy.templates n) h.left ∙ templates_stay copy (chosen old.layers copy) old n apart)
     (copies_there copy old new h alone) (chosen_seen copy old.layers (names old.layers copy.source)))
+
+-- ---- a destination that takes each item
+
+some_by : (ls : List LayerState) (n : List ℕ) (held up : Option ℕ) (made : After) → (is_some held || is_some up) ≡ true → (made ≡ Gone → ⊥) → is_some (by_case ls held up n made) ≡ true
+some_by ls n held up Same h stays = refl
+some_by ls n held up Gone h stays = absurd (stays refl)
+some_by ls n (Some p) up (Changed item) h stays = refl
+some_by ls n None (Some p) (Changed item) h stays = refl
+some_by ls n None None (Changed item) h stays = absurd (cc)
+
+open_by : (n : List ℕ) (k : Option Kind) (o : Option LayerState) → option_map_or (λ layer. is_writable layer && admits layer n k) o false ≡ true → option_map_or is_writable o false ≡ true
+open_by n k None h = h
+open_by n k (Some layer) h = first (is_writable layer) (admits layer n k) h where
+  first : (a b : Bool) → (a && b) ≡ true → a ≡ true
+  first true b h = refl
+  first false b h = h
+
+-- either the layer has the item, or it gets it
+home_by : (ls : List LayerState) (p : ℕ) (n : List ℕ) (k : Option Kind) (b : Bool) → has_at ls n p ≡ b → takes_at ls n k p ≡ true
+    → (is_some (writable_holder ls (p ∷ []) n) || is_some (copy_target ls (p ∷ []) n k)) ≡ true
+home_by ls p n k true has takes =
+    ap (λ o. is_some o || is_some (copy_target ls (p ∷ []) n k))
+    (ap (λ b. option_and_then (λ q. if is_writable_at ls q then Some q else None) (cond b (Some p) None)) has
+    ∙ ap (λ b. if b then Some p else None) (open_by n k (slice_get ls p) takes))
+home_by ls p n k false has takes =
+    ap (λ o. is_some o || is_some (copy_target ls (p ∷ []) n k))
+    (ap (λ b. option_and_then (λ q. if is_writable_at ls q then Some q else None) (cond b (Some p) None)) has)
+    ∙ ap is_some (home_step ls p [] n k ∙ ap (λ b. cond b None (cond (takes_at ls n k p) (Some p) (copy_target ls [] n k))) has ∙ ap (λ b. cond b (Some p) (copy_target ls [] n k)) takes)
+
+put_taken : (ls : List LayerState) (p : ℕ) (n : List ℕ) (k : Option Kind) (item : ItemParts) → takes_at ls n k p ≡ true → is_some (write_of ls (p ∷ []) n k (Put item)) ≡ true
+put_taken ls p n k item takes =
+    some_by ls n (writable_holder ls (p ∷ []) n) (copy_target ls (p ∷ []) n k) (after_at (Put item) (look_of ls (p ∷ []) n)) (home_by ls p n k (has_at ls n p) refl takes)
+    (put_stays item (look_of ls (p ∷ []) n))
+
+-- what a layer takes stays
+takes_same : (n : List ℕ) (xs ys : List LayerState) → AreSameBut n xs ys → (m : List ℕ) (k : Option Kind) (p : ℕ) → takes_at ys m k p ≡ takes_at xs m k p
+takes_same n [] [] s m k p = refl
+takes_same n [] (y ∷ ys) s m k p = absurd s
+takes_same n (x ∷ xs) [] s m k p = absurd s
+takes_same n (x ∷ xs) (y ∷ ys) s m k zero =
+    (λ i. (option_map_or (λ spec. not spec.readonly) (s.0.spec i) false && not (s.0.left_out i))
+    && option_map_or (λ spec. has_place_for (s.0.sort i) spec.extension m && accepts (rules_of spec) m k) (s.0.spec i) false)
+takes_same n (x ∷ xs) (y ∷ ys) s m k (suc p) = takes_same n xs ys s.1 m k p
+
+takes_by : (store : StoreState) (w : Write) (o : Option StoreState) → write_done store w ≡ o → (m : List ℕ) (k : Option Kind) (p : ℕ)
+    → takes_at (unwrap_or o store).layers m k p ≡ takes_at store.layers m k p
+takes_by store w None e m k p = refl
+takes_by store w (Some new) e m k p = takes_same w.name store.layers new.layers (plan_keeps store new w.plan w.name w.kind w.op e) m k p
+
+none_refused : (copy : Copying) (p : ℕ) (es : List (List ℕ × ItemParts)) (store : StoreState) → copy.dest.base ≡ Leaf p
+    → ((n : List ℕ) (k : Option Kind) → takes_at store.layers n k p ≡ true) → refused_names store copy es ≡ []
+none_refused copy p [] store at takes = refl
+none_refused copy p (e ∷ es) store at takes =
+    let w = copy_write store.layers copy e in
+    let taken : is_refused store.layers w ≡ false
+    = ap not (ap (λ b. is_some (write_of store.layers (places b) w.name w.kind w.op)) at ∙ put_taken store.layers p w.name w.kind e.1 (takes w.name w.kind)) in
+    ap (λ b. (if b then e.0 ∷ [] else []) ++ refused_names (after_copy store copy e) copy es) taken
+    ∙ none_refused copy p es (after_copy store copy e) at (λ n k. takes_by store w (write_done store w) refl n k p ∙ takes n k)
+
+pub open_refuses_none : (copy : Copying) (old new : StoreState) (refused : List (List ℕ)) → IsCopied copy old new refused → IsOpen old.layers copy.dest → refused ≡ []
+open_refuses_none copy old new refused h open' = h.told ∙ none_refused copy open'.place (chosen old.layers copy) old open'.alone open'.takes

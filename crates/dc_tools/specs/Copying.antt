@@ -3,6 +3,7 @@ use Rattle.std.specs.Prelude.{◌≡◌, ℕ, Bool, true, ◌&&◌, List, [], �
 use Rattle.std.specs.Option.{option_or, option_map_or}
 use Rattle.std.specs.List.{filter_map, list_any}
 use Rattle.std.specs.FinMap as map
+use Rattle.dc_conf.specs.declared.plans.Base.TheVariants.{Leaf}
 use Rattle.dc_conf.specs.declared.plans.Plan.{Plan}
 use Rattle.dc_item.specs.Item.{ItemParts}
 use Rattle.dc_item.specs.declared.op.Op.TheVariants.{Put}
@@ -11,6 +12,7 @@ use Rattle.dc_layer.specs.Patterns.{Sought, is_found}
 use Rattle.dc_layer.specs.State.{LayerState}
 use Rattle.dc_store.specs.Batches.{Write, is_refused, write_done}
 use Rattle.dc_store.specs.Plans.{StoreState, look, names}
+use Rattle.dc_store.specs.Writes.{takes_at}
 use Rattle.dc_question.specs.Readings.{template_of, kind_by}
 
 -- a copy: its source and its destination, where the templates stand, and the patterns for names and for owners
@@ -75,3 +77,10 @@ refused_names store copy (entry ∷ entries) = refused_name store copy entry ++ 
 pub record IsCopied (copy : Copying) (old new : StoreState) (refused : List (List ℕ)) : Type 0 where
   pub left : new ≡ after_copies old copy (chosen old.layers copy)
   pub told : refused ≡ refused_names old copy (chosen old.layers copy)
+
+-- the plan is one layer, without a backup, that takes each item
+pub record IsOpen (layers : List LayerState) (plan : Plan) : Type 0 where
+  pub place : ℕ
+  pub alone : plan.base ≡ Leaf place
+  pub unbacked : plan.backup ≡ None
+  pub takes : (name : List ℕ) (kind : Option Kind) → takes_at layers name kind place ≡ true

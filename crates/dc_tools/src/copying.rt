@@ -38,7 +38,13 @@ impl<'c> Model for CopyTask<'c> {
 
     ghost Value = { Copying };
 
-    ghost view = { λ c. record { source = c.source.now; dest = c.dest.now; templates = c.templates.now; by_name = option_copied c.by_name; by_owner = option_copied c.by_owner } };
+    ghost view = { λ c. record {
+      source = c.source.now;
+      dest = c.dest.now;
+      templates = c.templates.now;
+      by_name = option_copied c.by_name;
+      by_owner = option_copied c.by_owner;
+    } };
 }
 
 /// Puts the items of the source into the destination, in byte order of their names, and answers the names of those that the destination

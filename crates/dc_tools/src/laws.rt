@@ -6,7 +6,7 @@ ghost use Rattle.dc_item.specs.Item.{ItemParts, with_field};
 ghost use Rattle.dc_question.specs.Readings.{kind_by};
 ghost use Rattle.dc_template.specs.declared.kinds.Kind.TheVariants.{Password};
 ghost use Rattle.dc_store.specs.Plans.{StoreState, look};
-ghost use Rattle.dc_tools.specs.Copying.{Copying, IsCopied, chosen};
+ghost use Rattle.dc_tools.specs.Copying.{Copying, IsCopied, IsOpen, chosen};
 ghost use Rattle.dc_tools.specs.Showing.{item_line, show_text_of};
 ghost use Rattle.dc_tools.specs.ToolExamples.{Lines, Databases, Chosen};
 
@@ -23,9 +23,11 @@ pub fn lines_hide_passwords()
         → item_line lang name (with_field item (codes "value") value) template ≡ item_line lang name item template }
 {}
 
-/// Where no item is refused, each that was copied is seen in the destination, and is shown as it is in the source. The destination keeps no
-/// backup, and no templates stand in it.
+/// A destination that takes each item refuses none. Where no item is refused, each that was copied is seen in the destination, and is shown
+/// as it is in the source. The destination keeps no backup, and no templates stand in it.
 pub fn copies_are_shown_as_their_sources()
+    ensures none { (copy : Copying) (old new : StoreState) (refused : List (List ℕ)) → IsCopied copy old new refused
+        → IsOpen old.layers copy.dest → refused ≡ [] }
     ensures there { (copy : Copying) (old new : StoreState) → IsCopied copy old new [] → copy.dest.backup ≡ None
         → AllByRecursion (λ e. look new.layers copy.dest e.0 ≡ Some e.1) (chosen old.layers copy) }
     ensures shown { (copy : Copying) (old new : StoreState) (lang : List ℕ) → IsCopied copy old new [] → copy.dest.backup ≡ None

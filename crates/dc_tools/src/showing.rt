@@ -108,7 +108,8 @@ fn append_answer(
     item: &Item,
     template: Option<&Item>,
 ) -> Mem<()>
-    ensures { OnOk result (text.new ≡ text.old ++ shown_answer (kind_by (option_copied template.entry)) (value_of lang.now item.now (option_copied template.entry))) }
+    ensures { OnOk result (text.new ≡ text.old
+        ++ shown_answer (kind_by (option_copied template.entry)) (value_of lang.now item.now (option_copied template.entry))) }
 {
     if is_password(kind(template)) {
         return text.append(b" (password omitted)");
