@@ -1,11 +1,14 @@
 // The tools, over layers in memory.
+ghost use Rattle.std.specs.Prelude.{◌≡◌, length, true};
+ghost use Rattle.dc_conf.specs.Plans.{IsOver, are_disjoint};
+
 use crate::{copy_items, databases_text, owners_text, show_text};
 use dc_conf::{Base, LayerSort, LayerSpec, Plan, read_conf};
 use dc_item::read_records;
 use dc_layer::{FileLayer, Layer, Pattern};
 use dc_question::Questions;
 use dc_store::Store;
-use dc_text::{List, Name, Text};
+use dc_text::{Name, Text};
 use std::alloc::Global;
 use std::process::Abort;
 
@@ -37,42 +40,56 @@ const QUESTIONS: &[u8] =
 const TEMPLATES: &[u8] =
     b"Name: p/a\nType: string\nOwners: p/a\n\nName: p/secret\nType: password\nOwners: p/secret\n\nName: q/a\nType: string\nDefault: one\nOwners: q/a\n";
 
-fn leaf(place: usize) -> Plan {
-    Plan {
-        base: Base::Leaf(place),
-        backup: None,
-        debug: false,
-    }
-}
-
-fn store(rt: &impl Abort, alloc: Global) -> Store {
+// The questions, their templates, and a layer that rejects some names.
+fn store(rt: &impl Abort, alloc: Global) -> Store
+    ensures { length result.layers.items ≡ 3 }
+{
+    let questions = layer(rt, alloc, b"^$", QUESTIONS);
+    let templates = layer(rt, alloc, b"^$", TEMPLATES);
+    let rejecting = layer(rt, alloc, b"^p/s", b"");
     let mut layers: Vec<Box<dyn Layer>> = Vec::new(alloc);
-    layers
-        .push(layer(rt, alloc, b"^$", QUESTIONS))
-        .expect(rt, "memory");
-    layers
-        .push(layer(rt, alloc, b"^$", TEMPLATES))
-        .expect(rt, "memory");
-    layers
-        .push(layer(rt, alloc, b"^p/s", b""))
-        .expect(rt, "memory");
+    layers.push(questions).expect(rt, "memory");
+    layers.push(templates).expect(rt, "memory");
+    layers.push(rejecting).expect(rt, "memory");
     Store::new(alloc, layers)
 }
 
-// What `show` writes of the owner of questions of the layer.
-fn shown(rt: &impl Abort, alloc: Global, store: &mut Store, place: usize, owner: &str) -> Text {
+// What `show` writes of the owner of questions of the plan.
+fn shown(
+    rt: &impl Abort,
+    alloc: Global,
+    store: &mut Store,
+    plan: &Plan,
+    templates: &Plan,
+    owner: &str,
+) -> Text
+    requires plan { IsOver plan.now (length store.old.layers.items) }
+    requires templates { IsOver templates.now (length store.old.layers.items) }
+{
     let owner = Name::read(alloc, owner.as_bytes()).expect(rt, "a name");
-    let plan = leaf(place);
-    let templates = leaf(1);
     let lang = Text::new(alloc);
-    let owned = store.owned(&plan, &owner).expect(rt, "memory");
-    let questions = Questions::new(alloc, store, &plan, &templates, &lang);
+    let owned = store.owned(plan, &owner).expect(rt, "memory");
+    let questions = Questions::new(alloc, store, plan, templates, &lang);
     show_text(&questions, &owned).expect(rt, "memory")
 }
 
+fn shown_at_first(rt: &impl Abort, alloc: Global, owner: &str) -> Text {
+    let mut store = store(rt, alloc);
+    let plan = Plan {
+        base: Base::Leaf(0),
+        backup: None,
+        debug: false,
+    };
+    let templates = Plan {
+        base: Base::Leaf(1),
+        backup: None,
+        debug: false,
+    };
+    shown(rt, alloc, &mut store, &plan, &templates, owner)
+}
+
 #[test]
-fn questions_and_owners_are_shown(rt: HostRuntime) {
-    let mut store = store(&rt, rt.alloc());
+fn questions_are_shown(rt: HostRuntime) {
     for (owner, text) in [
         (
             "p",
@@ -81,14 +98,39 @@ fn questions_and_owners_are_shown(rt: HostRuntime) {
         ("q", "* p/empty:\n  q/a: one\n"),
         ("r", ""),
     ] {
-        let shown = shown(&rt, rt.alloc(), &mut store, 0, owner);
+        let shown = shown_at_first(&rt, rt.alloc(), owner);
         assert_eq!(rt; shown.bytes(), text.as_bytes());
     }
-    let owners = owners_text(&store, &leaf(0)).expect(&rt, "memory");
-    assert_eq!(rt; owners.bytes(), b"p\nq\n".as_slice());
 }
 
-// The names that are refused of those that are copied with the patterns, and what stands then.
+// Copies, and answers the names that are refused, each with a mark behind it.
+fn refused(
+    rt: &impl Abort,
+    alloc: Global,
+    store: &mut Store,
+    source: &Plan,
+    dest: &Plan,
+    templates: &Plan,
+    names: Option<&Pattern>,
+    owners: Option<&Pattern>,
+) -> Text
+    requires source { IsOver source.now (length store.old.layers.items) }
+    requires dest { IsOver dest.now (length store.old.layers.items) }
+    requires templates { IsOver templates.now (length store.old.layers.items) }
+    requires apart { are_disjoint source.now dest.now ≡ true }
+    ensures dest { IsOver dest.now (length store.new.layers.items) }
+    ensures templates { IsOver templates.now (length store.new.layers.items) }
+{
+    let refused = copy_items(store, source, dest, templates, names, owners).expect(rt, "memory");
+    let mut text = Text::new(alloc);
+    for name in refused.as_slice() {
+        text.append(name.bytes()).expect(rt, "memory");
+        text.push(b'!').expect(rt, "memory");
+    }
+    text
+}
+
+// The names that are refused of those that are copied, the owners that stand in the destination then, and what is shown of one.
 fn copied(
     rt: &impl Abort,
     alloc: Global,
@@ -96,15 +138,27 @@ fn copied(
     owners: Option<&Pattern>,
 ) -> Text {
     let mut store = store(rt, alloc);
-    let refused = copy_items(&mut store, &leaf(0), &leaf(2), &leaf(1), names, owners).expect(
-        rt, "memory",
+    let source = Plan {
+        base: Base::Leaf(0),
+        backup: None,
+        debug: false,
+    };
+    let templates = Plan {
+        base: Base::Leaf(1),
+        backup: None,
+        debug: false,
+    };
+    let dest = Plan {
+        base: Base::Leaf(2),
+        backup: None,
+        debug: false,
+    };
+    let mut text = refused(
+        rt, alloc, &mut store, &source, &dest, &templates, names, owners,
     );
-    let mut text = owners_text(&store, &leaf(2)).expect(rt, "memory");
-    for name in refused.as_slice() {
-        text.append(name.bytes()).expect(rt, "memory");
-        text.push(b'!').expect(rt, "memory");
-    }
-    let copies = shown(rt, alloc, &mut store, 2, "q");
+    let listed = owners_text(&store, &dest).expect(rt, "memory");
+    text.append(listed.bytes()).expect(rt, "memory");
+    let copies = shown(rt, alloc, &mut store, &dest, &templates, "q");
     text.append(copies.bytes()).expect(rt, "memory");
     text
 }
@@ -114,7 +168,7 @@ fn items_are_copied(rt: HostRuntime) {
     let q = Pattern::build(rt.alloc(), b"^q", false).expect(&rt, "a pattern");
     let upper = Pattern::build(rt.alloc(), b"^Q", false).expect(&rt, "a pattern");
     for (names, owners, text) in [
-        (None, None, "p\nq\np/secret!* p/empty:\n  q/a: one\n"),
+        (None, None, "p/secret!p\nq\n* p/empty:\n  q/a: one\n"),
         (Some(&q), None, "q\n  q/a: one\n"),
         (None, Some(&q), "p\nq\n* p/empty:\n  q/a: one\n"),
         (Some(&q), Some(&q), "q\n  q/a: one\n"),
