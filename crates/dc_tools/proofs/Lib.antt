@@ -1,0 +1,4 @@
+pub mod CopyLaws
+pub mod CopyLemmas
+pub mod ListLemmas
+pub mod ShowLemmas

@@ -1,0 +1,4 @@
+pub mod Copying
+pub mod Listing
+pub mod Showing
+pub mod ToolExamples
