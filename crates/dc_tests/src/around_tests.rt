@@ -69,25 +69,25 @@ fn serve_counting<L: Link, M: LineMachine>(
     (served, around.count)
 }
 
-// A plan of one database.
-fn plan(place: usize) -> Plan {
-    Plan {
-        base: Base::Leaf(place),
-        backup: None,
-        debug: false,
-    }
-}
-
 #[test]
 fn a_machine_stands_around_a_session(rt: HostRuntime) {
     let alloc = rt.alloc();
     let mut layers: Vec<Box<dyn Layer>> = Vec::new(alloc);
-    for _ in 0..2 {
-        let blank: Box<dyn Layer> = Box::new(alloc, layer(&rt, alloc)).expect(&rt, "memory");
-        layers.push(blank).expect(&rt, "memory");
-    }
+    let first: Box<dyn Layer> = Box::new(alloc, layer(&rt, alloc)).expect(&rt, "memory");
+    layers.push(first).expect(&rt, "memory");
+    let second: Box<dyn Layer> = Box::new(alloc, layer(&rt, alloc)).expect(&rt, "memory");
+    layers.push(second).expect(&rt, "memory");
     let mut store = Store::new(alloc, layers);
-    let (config, templates) = (plan(0), plan(1));
+    let config = Plan {
+        base: Base::Leaf(0),
+        backup: None,
+        debug: false,
+    };
+    let templates = Plan {
+        base: Base::Leaf(1),
+        backup: None,
+        debug: false,
+    };
     let lang = text(&rt, alloc, "");
     let owner = Name::read(alloc, b"me").ok().expect(&rt, "a name");
     let questions = Questions::new(alloc, &mut store, &config, &templates, &lang);
