@@ -2,6 +2,7 @@
 use Rattle.std.proofs.Common.{◌≡◌, ◌⊎◌, ◌≤◌, ◌<◌, ◌+◌, ℕ, List, [], ◌∷◌, ◌++◌, length, take, drop, Option, refl, sym, ◌∙◌, ap, subst, inl, inr, arith}
 use Rattle.std.proofs.lemmas.Bool.{cases_lt}
 use Rattle.std.proofs.lemmas.List.{append-nil, append_assoc, take-take, take-append-drop}
+use Rattle.std.specs.Prelude.{Some, codes}
 use Rattle.std.specs.Cmp.Lexicographic.{other_text}
 use Rattle.dc_proto.specs.Priorities.{priority_of}
 use Rattle.dc_proto.specs.declared.priority.Priority.{Priority}
@@ -10,7 +11,15 @@ use Rattle.dc_frontend.specs.declared.frontend.Frontend.{Frontend}
 use Rattle.dc_cli.specs.Tools.{NamesOwner, NamesFiles, Given, words_of, all_words, values_of, Says, IsCommand, NamesRun, NamesTool, Names, IsToolWords, BeginsToolWords, AreRefusedAt}
 use Rattle.dc_cli.specs.declared.run_options.RunOption.TheVariants.{Owner, Frontend as ForFrontend, Priority as ForPriority}
 use Rattle.dc_cli.specs.declared.tool.Tool.{Tool}
-use Rattle.dc_cli.specs.declared.tool.Tool.TheVariants.{Communicate, LoadTemplate, Run}
+use Rattle.dc_cli.specs.declared.tool.Tool.TheVariants.{Communicate, LoadTemplate, Run, Show, CopyDb}
+use Rattle.dc_cli.specs.DatabaseWords.{NamesShow, placed_from, values_behind}
+use Rattle.dc_cli.specs.DatabaseReading.{shown_of}
+use Rattle.dc_cli.specs.declared.show_words.ShowSeen.{ShowSeen}
+use Rattle.dc_cli.specs.declared.tool.PlacedWord.{PlacedWord}
+use Rattle.dc_cli.specs.declared.tool.Shown.{Shown}
+use Rattle.dc_cli.proofs.CopyLemmas.{one_copy}
+use Rattle.dc_cli.proofs.FrontLemmas.{one_given}
+use Rattle.dc_cli.proofs.ShowLemmas.{show_read}
 use Rattle.dc_cli.proofs.OptionLemmas.{option_apart}
 use Rattle.dc_cli.proofs.RunLemmas.{options_behind}
 use Rattle.dc_cli.proofs.ToolLemmas.{word_of}
@@ -58,11 +67,24 @@ one_run words owner other frontend other_frontend priority other_priority comman
     one_said priority_of (values_of ForPriority b.given) priority other_priority (subst (λ g. Says priority_of (values_of ForPriority g) priority) given a.priority_is) b.priority_is in
     cc
 
+one_show : (words : List (List ℕ)) (database another : Option PlacedWord) (shown other : Shown) → NamesShow words database shown → NamesShow words another other
+    → Show database shown ≡ Show another other
+one_show words database another shown other a b =
+    let first = show_read words database shown a in
+    let second = show_read words another other b in
+    let given : database ≡ another = one_given (values_behind (codes "--db=") (placed_from 1 words)) database another first.once second.once in
+    let both : Some first.seen ≡ Some second.seen = sym first.seen_is ∙ second.seen_is in
+    let seen : first.seen ≡ second.seen = cc in
+    let asked : shown ≡ other = first.shown_is ∙ ap (λ (s : ShowSeen). shown_of words s.database s.asked) seen ∙ sym second.shown_is in
+    cc
+
 one_tool_by : (word : List ℕ) (words : List (List ℕ)) (tool other : Tool) → NamesTool word words tool → NamesTool word words other → tool ≡ other
 one_tool_by word words (Communicate owner) (Communicate other) a b = ap Communicate (one_owner words owner other a.1 b.1)
 one_tool_by word words (LoadTemplate owner paths) (LoadTemplate other others) a b = one_loading words owner other paths others a.1 b.1
 one_tool_by word words (Run owner frontend priority command) (Run other other_frontend other_priority another) a b =
     one_run words owner other frontend other_frontend priority other_priority command another a.1 b.1
+one_tool_by word words (Show database shown) (Show another other) a b = one_show words database another shown other a.1 b.1
+one_tool_by word words (CopyDb copy) (CopyDb other) a b = ap CopyDb (one_copy words copy other a.1 b.1)
 one_tool_by word words tool other a b = absurd (other_text (word_of tool) (word_of other) refl (sym a.0 ∙ b.0))
 
 pub one_tool : (words : List (List ℕ)) (tool other : Tool) → Names words tool → Names words other → tool ≡ other

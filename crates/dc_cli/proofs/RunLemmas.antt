@@ -19,7 +19,7 @@ use Rattle.dc_cli.specs.declared.tool.Tool.TheVariants.{Run}
 use Rattle.dc_cli.specs.declared.tool.ToolError.{ToolError}
 use Rattle.dc_cli.specs.declared.tool.ToolError.TheVariants.{OutOfMemory}
 use Rattle.dc_cli.proofs.OptionLemmas.{short_same, long_same, long_value, short_or_long, short_dash, long_dash, dash_apart, option_apart, one_option, all_words-append, given_next, given_more, are_given, owner_named, frontend_said, priority_said, say_owner, say_given, say_name, say_more, given_none, given_some}
-use Rattle.dc_cli.proofs.ToolLemmas.{rest_all, word_of}
+use Rattle.dc_cli.proofs.ToolLemmas.{rest_all, by_first, word_of}
 
 -- ---- all words behind `run`, and those behind some options
 
@@ -284,11 +284,6 @@ pub record HasRead (words rest : List (List ℕ)) (options : RunOptions) : Type 
 
 pub read_name : (words rest : List (List ℕ)) (options : RunOptions) → HasRead words rest options → is_name (unwrap_or (option_copied options.owner) (codes "unknown")) ≡ true
 read_name words rest options read = say_name read.given options read.say
-
--- the rest by its first word
-by_first : (rest : List (List ℕ)) (word : List ℕ) → 1 ≤ length rest → word ≡ get_or rest 0 word → rest ≡ word ∷ take (length rest - 1) (drop 1 rest)
-by_first [] word long is = absurd (omega arith)
-by_first (first ∷ rest) word long is = let all : take (length (first ∷ rest) - 1) (drop 1 (first ∷ rest)) ≡ rest = rest_all (first ∷ rest) in cc
 
 -- the rest is a command
 pub runs : (words rest : List (List ℕ)) (options : RunOptions) (word : List ℕ) (result : Result Tool ToolError) → HasRead words rest options → 1 ≤ length rest → word ≡ get_or rest 0 word

@@ -8,7 +8,7 @@ use Rattle.std.specs.Cmp.Lexicographic.{same_text, other_text}
 use Rattle.dc_text.specs.Names.{is_name}
 use Rattle.dc_cli.specs.Tools.{IsToolWords, NamesOwner, NamesFiles, Names, AreRefusedAt, IsToolAnswer}
 use Rattle.dc_cli.specs.declared.tool.Tool.{Tool}
-use Rattle.dc_cli.specs.declared.tool.Tool.TheVariants.{Communicate, LoadTemplate, Run}
+use Rattle.dc_cli.specs.declared.tool.Tool.TheVariants.{Communicate, LoadTemplate, Run, Show, CopyDb}
 use Rattle.dc_cli.specs.declared.tool.ToolError.{ToolError}
 use Rattle.dc_cli.specs.declared.tool.ToolError.TheVariants.{OutOfMemory}
 
@@ -17,6 +17,8 @@ abbrev pub word_of : Tool → List ℕ
 word_of (Communicate owner) = codes "communicate"
 word_of (LoadTemplate owner paths) = codes "loadtemplate"
 word_of (Run owner frontend priority command) = codes "run"
+word_of (Show database shown) = codes "show"
+word_of (CopyDb copy) = codes "copydb"
 
 -- ---- what each tool takes
 
@@ -36,10 +38,13 @@ files_by words other named = absurd (other_text (codes "loadtemplate") (word_of 
 files_of : (words : List (List ℕ)) → IsToolWords (codes "loadtemplate" ∷ words) → (owner : List ℕ) × (paths : List (List ℕ)) × NamesFiles words owner paths
 files_of words is = files_by words is.0 is.1
 
-no_tool_by : (word : List ℕ) (words : List (List ℕ)) (tool : Tool) → word ≢ codes "communicate" → word ≢ codes "loadtemplate" → word ≢ codes "run" → Names (word ∷ words) tool → ⊥
-no_tool_by word words (Communicate owner) one other third named = one named.0
-no_tool_by word words (LoadTemplate owner paths) one other third named = other named.0
-no_tool_by word words (Run owner frontend priority command) one other third named = third named.0
+-- a word that is the name of none
+no_tool_by : (word : List ℕ) (words : List (List ℕ)) (tool : Tool) → ((other : Tool) → word ≢ word_of other) → Names (word ∷ words) tool → ⊥
+no_tool_by word words (Communicate owner) none named = none (Communicate owner) named.0
+no_tool_by word words (LoadTemplate owner paths) none named = none (LoadTemplate owner paths) named.0
+no_tool_by word words (Run owner frontend priority command) none named = none (Run owner frontend priority command) named.0
+no_tool_by word words (Show database shown) none named = none (Show database shown) named.0
+no_tool_by word words (CopyDb copy) none named = none (CopyDb copy) named.0
 
 some_words : (word : List ℕ) (words : List (List ℕ)) → word ∷ words ≢ []
 some_words word words same = cc
@@ -57,6 +62,11 @@ load_for word path paths is = (LoadTemplate word (path ∷ paths), (refl, (refl,
 
 pub rest_all : (words : List (List ℕ)) → take (length words - 1) (drop 1 words) ≡ drop 1 words
 rest_all words = take_all (length words - 1) (drop 1 words) (omega (arith, length-drop 1 words))
+
+-- words by the first of them
+pub by_first : (rest : List (List ℕ)) (word : List ℕ) → 1 ≤ length rest → word ≡ get_or rest 0 word → rest ≡ word ∷ take (length rest - 1) (drop 1 rest)
+by_first [] word long is = absurd (omega arith)
+by_first (first ∷ rest) word long is = let all : take (length (first ∷ rest) - 1) (drop 1 (first ∷ rest)) ≡ rest = rest_all (first ∷ rest) in cc
 
 -- what a test of the rest tells of all words
 rest_long : (words : List (List ℕ)) → length (take (length words - 1) (drop 1 words)) ≡ length words - 1
@@ -83,19 +93,24 @@ other_than xs ys e = other_text xs ys (sym e)
 
 -- no tool has this name
 pub word_refused : (words : List (List ℕ)) (word : List ℕ) → 1 ≤ length words → word ≡ get_or words 0 word
-    → bytes_eq word (codes "communicate") ≡ false → bytes_eq word (codes "loadtemplate") ≡ false → bytes_eq word (codes "run") ≡ false → AreRefusedAt words 0
-word_refused [] word long is one other third = absurd (omega arith)
-word_refused (first ∷ words) word long is one other third =
-    let none : (more : List (List ℕ)) (tool : Tool) → Names (first ∷ more) tool → ⊥ = λ more tool.
-    no_tool_by first more tool (not_this (codes "communicate") one) (not_this (codes "loadtemplate") other) (not_this (codes "run") third) in
-    record {
-      refused = λ h. none words h.0 h.1;
-      within = omega arith;
-      begins = (codes "communicate" ∷ [], communicate_alone);
-      ends = inr (λ b. none b.0 b.1.0 b.1.1);
-    } where
-      not_this : (name : List ℕ) → bytes_eq word name ≡ false → first ≢ name
-      not_this name e = subst (λ w. w ≢ name) is (other_than word name e)
+    → bytes_eq word (codes "communicate") ≡ false → bytes_eq word (codes "loadtemplate") ≡ false → bytes_eq word (codes "run") ≡ false
+    → bytes_eq word (codes "show") ≡ false → bytes_eq word (codes "copydb") ≡ false → AreRefusedAt words 0
+word_refused [] word long is one two three four five = absurd (omega arith)
+word_refused (first ∷ words) word long is one two three four five = record {
+  refused = λ h. no_tool_by first words h.0 none h.1;
+  within = omega arith;
+  begins = (codes "communicate" ∷ [], communicate_alone);
+  ends = inr (λ b. no_tool_by first b.0 b.1.0 none b.1.1);
+} where
+  not_this : (name : List ℕ) → bytes_eq word name ≡ false → first ≢ name
+  not_this name e = subst (λ w. w ≢ name) is (other_than word name e)
+
+  none : (tool : Tool) → first ≢ word_of tool
+  none (Communicate owner) = not_this (codes "communicate") one
+  none (LoadTemplate owner paths) = not_this (codes "loadtemplate") two
+  none (Run owner frontend priority command) = not_this (codes "run") three
+  none (Show database shown) = not_this (codes "show") four
+  none (CopyDb copy) = not_this (codes "copydb") five
 
 -- ---- the words behind `communicate`
 

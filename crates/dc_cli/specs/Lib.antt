@@ -1,2 +1,4 @@
+pub mod DatabaseReading
+pub mod DatabaseWords
 pub mod RunReading
 pub mod Tools

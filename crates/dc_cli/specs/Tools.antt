@@ -6,10 +6,11 @@ use Rattle.dc_proto.specs.Priorities.{priority_of}
 use Rattle.dc_proto.specs.declared.priority.Priority.{Priority}
 use Rattle.dc_frontend.specs.Frontends.{frontend_of}
 use Rattle.dc_frontend.specs.declared.frontend.Frontend.{Frontend}
+use Rattle.dc_cli.specs.DatabaseWords.{NamesShow, NamesCopy}
 use Rattle.dc_cli.specs.declared.run_options.RunOption.{RunOption}
 use Rattle.dc_cli.specs.declared.run_options.RunOption.TheVariants.{Owner, Frontend as ForFrontend, Priority as ForPriority}
 use Rattle.dc_cli.specs.declared.tool.Tool.{Tool}
-use Rattle.dc_cli.specs.declared.tool.Tool.TheVariants.{Communicate, LoadTemplate, Run}
+use Rattle.dc_cli.specs.declared.tool.Tool.TheVariants.{Communicate, LoadTemplate, Run, Show, CopyDb}
 use Rattle.dc_cli.specs.declared.tool.ToolError.{ToolError}
 use Rattle.dc_cli.specs.declared.tool.ToolError.TheVariants.{Refused, OutOfMemory}
 
@@ -103,10 +104,14 @@ abbrev pub NamesTool : List ℕ → List (List ℕ) → Tool → Type 0
 NamesTool word words (Communicate owner) = (word ≡ codes "communicate") × NamesOwner words owner
 NamesTool word words (LoadTemplate owner paths) = (word ≡ codes "loadtemplate") × NamesFiles words owner paths
 NamesTool word words (Run owner frontend priority command) = (word ≡ codes "run") × NamesRun words owner frontend priority command
+NamesTool word words (Show database shown) = (word ≡ codes "show") × NamesShow words database shown
+NamesTool word words (CopyDb copy) = (word ≡ codes "copydb") × NamesCopy words copy
 
 -- communicate [OWNER]
 -- loadtemplate OWNER FILE ...
 -- run [-o OWNER] [-f NAME] [-p PRIORITY] COMMAND [ARGUMENT ...]
+-- show ..
+-- copydb SOURCE DEST ..
 abbrev pub Names : List (List ℕ) → Tool → Type 0
 Names [] tool = ⊥
 Names (word ∷ words) tool = NamesTool word words tool
@@ -133,8 +138,10 @@ IsToolAnswer words (Ok tool) = Names words tool
 IsToolAnswer words (Err (Refused word)) = AreRefusedAt words word
 IsToolAnswer words (Err OutOfMemory) = IsToolWords words
 
--- the owner for whom the tool works
+-- the owner for whom the tool works; one that works for no owner has the one that is taken where none is given
 abbrev pub owner_of : Tool → List ℕ
 owner_of (Communicate owner) = owner
 owner_of (LoadTemplate owner paths) = owner
 owner_of (Run owner frontend priority command) = owner
+owner_of (Show database shown) = codes "unknown"
+owner_of (CopyDb copy) = codes "unknown"

@@ -4,8 +4,10 @@ ghost use Rattle.std.specs.Str.{bytes_eq};
 ghost use Rattle.dc_text.specs.Names.{is_name as is_name_of};
 ghost use Rattle.dc_cli.specs.Tools.{IsToolAnswer};
 
+use crate::copy_words::read_copy;
 use crate::copying::{copies, read_owner};
 use crate::run_words::read_run;
+use crate::show_words::read_show;
 use crate::tool::{Tool, ToolError};
 use dc_text::names::is_name;
 use dc_text::{List, Text};
@@ -24,6 +26,10 @@ pub fn read_tool(alloc: Global, words: &List<Text>) -> Result<Tool, ToolError>
                 read_load_template(alloc, rest)
             } else if is_word(tool, b"run") {
                 read_run(alloc, rest)
+            } else if is_word(tool, b"show") {
+                read_show(alloc, rest)
+            } else if is_word(tool, b"copydb") {
+                read_copy(alloc, rest)
             } else {
                 Err(ToolError::Refused { word: 0 })
             }

@@ -1,4 +1,7 @@
 // The tools.
+ghost use Rattle.std.specs.Prelude.{◌≡◌};
+ghost use Rattle.dc_cli.specs.DatabaseWords.{is_name_field as is_name_field_of};
+
 use dc_frontend::Frontend;
 use dc_proto::Priority;
 use dc_text::{List, Name, OutOfMemory, Text};
@@ -25,6 +28,52 @@ pub enum Tool {
         /// The command, and its arguments behind it.
         command: List<Text>,
     },
+    /// `show [--db=DATABASE] ..` prints what a database holds (debconf-show(1)).
+    Show {
+        /// The database that is asked for, in place of the configured one.
+        database: Option<PlacedWord>,
+        shown: Shown,
+    },
+    /// `copydb SOURCE DEST ..` copies items from one database to another (debconf-copydb(1)).
+    CopyDb(CopyWords),
+}
+
+/// A word, or the value in it, and the place of the word among the program's, from 0.
+#[derive(Drop)]
+pub struct PlacedWord {
+    pub word: Text,
+    pub place: usize,
+}
+
+/// What `show` prints.
+#[derive(Drop)]
+pub enum Shown {
+    /// The questions of these owners.
+    Questions(List<Name>),
+    /// Those who own an item.
+    Owners,
+    /// The databases of the configuration.
+    Databases,
+}
+
+/// What the words of `copydb` say.
+#[derive(Drop)]
+pub struct CopyWords {
+    pub source: PlacedWord,
+    pub dest: PlacedWord,
+    /// The pattern that is found in the names of the items that are copied.
+    pub by_name: Option<PlacedWord>,
+    /// The pattern that is found in one of their owners.
+    pub by_owner: Option<PlacedWord>,
+    /// What is added to the configuration.
+    pub config: List<ConfigLine>,
+}
+
+/// A field of a configuration, and its value.
+#[derive(Drop)]
+pub struct ConfigLine {
+    pub field: Text,
+    pub value: Text,
 }
 
 /// Why no tool was read.
@@ -44,4 +93,11 @@ impl From<OutOfMemory> for ToolError {
     fn from(_: OutOfMemory) -> Self {
         ToolError::OutOfMemory
     }
+}
+
+/// Whether the field names a database, in letters of either case (debconf.conf(5), `Name`).
+pub fn is_name_field(field: &[u8]) -> bool
+    ensures { result ≡ is_name_field_of field.now }
+{
+    field.eq_ignore_ascii_case(b"name")
 }

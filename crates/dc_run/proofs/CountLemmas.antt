@@ -1,6 +1,6 @@
 -- The counts of the links and of the program by the end of a run.
 use Rattle.std.proofs.Common.{◌≡◌, ◌⊎◌, inl, inr, ℕ, Bool, true, false, List, refl, sym, subst, ap, ◌∙◌, arith}
-use Rattle.std.specs.Prelude.{Err, Option}
+use Rattle.std.specs.Prelude.{Err, Option, Some, None}
 use Rattle.dc_words.specs.declared.stream.Line.{Line}
 use Rattle.dc_outside.specs.Counts.{Counts, Rose, FaultRose}
 use Rattle.dc_outside.specs.declared.link.LinkError.{LinkError}
@@ -28,7 +28,7 @@ use Rattle.dc_session.specs.declared.stepped.StepError.{StepError}
 use Rattle.dc_session.specs.declared.stepped.StepError.TheVariants as step
 use Rattle.dc_session.proofs.TerminalLaws.{CountsBreak, AsksNobody, breaks_count, course_counts, course_nobody, never_fails}
 use Rattle.dc_cli.specs.declared.tool.Tool.{Tool}
-use Rattle.dc_cli.specs.declared.tool.Tool.TheVariants.{Communicate, LoadTemplate, Run}
+use Rattle.dc_cli.specs.declared.tool.Tool.TheVariants.{Communicate, LoadTemplate, Run, Show, CopyDb}
 use Rattle.dc_run.specs.declared.outcome.End.{End}
 use Rattle.dc_run.specs.declared.outcome.End.TheVariants as end
 use Rattle.dc_run.specs.declared.outcome.Outcome.{Outcome}
@@ -40,7 +40,11 @@ use Rattle.dc_run.specs.declared.starting.Roots.{Roots}
 use Rattle.dc_run.specs.Ends.{tool_end_of, end_of_conf, end_of_pattern, end_of_load, end_unwaited, Both, Stays, MayRise, LinksCount, ProgramCounts}
 use Rattle.dc_run.specs.Finishing.{Finishes}
 use Rattle.dc_run.specs.Headline.{HasRunTool}
-use Rattle.dc_run.specs.Jobs.{HasCommunicated, Uses}
+use Rattle.dc_run.specs.Jobs.{HasCommunicated, Prints, Copies, CopiesBy, copying, Uses}
+use Rattle.dc_run.specs.declared.outcome.PatternAt.{PatternAt}
+use Rattle.dc_run.specs.declared.outcome.PatternAt.TheVariants.{Database, Word}
+use Rattle.dc_run.specs.declared.starting.CopyRoots.{CopyRoots}
+use Rattle.dc_tools.specs.Copying.{Copying}
 use Rattle.dc_run.specs.Saves.{Save}
 use Rattle.dc_run.specs.Running.{IsNotStarted, IsStarted, end_unstarted, Awaits}
 use Rattle.dc_run.specs.Starting.{EndsBefore, begun}
@@ -63,7 +67,7 @@ module _ (links : Links) where
   at_conf (conf.Refused line kind) = all_stay
   at_conf conf.OutOfMemory = none_rose
 
-  at_pattern : (place : ℕ) (error : PatternError) → LinksCount (end_of_pattern place error) links links
+  at_pattern : (place : PatternAt) (error : PatternError) → LinksCount (end_of_pattern place error) links links
   at_pattern place pattern.Bad = all_stay
   at_pattern place pattern.TooLarge = all_stay
   at_pattern place pattern.OutOfMemory = none_rose
@@ -74,19 +78,21 @@ module _ (links : Links) where
   at_load load.OutOfMemory = none_rose
 
   -- no link counts anything before the tool
-  pub before_links : (path : List ℕ) (old : FilesState) (new : Stock) (how : End) → EndsBefore path old new how → LinksCount how links links
-  before_links path old new how (inl none) = rw none.end_is none_rose
-  before_links path old new how (inr (inl unread)) = rw unread.end_is all_stay
-  before_links path old new how (inr (inr (inl refused))) = rw refused.end_is (at_conf refused.error)
-  before_links path old new how (inr (inr (inr (inl at)))) = rw at.end_is (at_pattern at.refused.place at.refused.error)
-  before_links path old new how (inr (inr (inr (inr at)))) = rw at.end_is (at_load at.error)
+  pub before_links : (used : Tool) (path : List ℕ) (old : FilesState) (new : Stock) (how : End) → EndsBefore used path old new how → LinksCount how links links
+  before_links used path old new how (inl none) = rw none.end_is none_rose
+  before_links used path old new how (inr (inl unread)) = rw unread.end_is all_stay
+  before_links used path old new how (inr (inr (inl refused))) = rw refused.end_is (at_conf refused.error)
+  before_links used path old new how (inr (inr (inr (inl wrong)))) = rw wrong.end_is all_stay
+  before_links used path old new how (inr (inr (inr (inr (inl at))))) = rw at.end_is (at_pattern (Word at.word.place) at.error)
+  before_links used path old new how (inr (inr (inr (inr (inr (inl at)))))) = rw at.end_is (at_pattern (Database at.refused.place) at.refused.error)
+  before_links used path old new how (inr (inr (inr (inr (inr (inr at)))))) = rw at.end_is (at_load at.error)
 
 module _ (failures : ℕ) where
   program_conf : (error : ConfError) → ProgramCounts (end_of_conf error) failures failures
   program_conf (conf.Refused line kind) = inl refl
   program_conf conf.OutOfMemory = inl refl
 
-  program_pattern : (place : ℕ) (error : PatternError) → ProgramCounts (end_of_pattern place error) failures failures
+  program_pattern : (place : PatternAt) (error : PatternError) → ProgramCounts (end_of_pattern place error) failures failures
   program_pattern place pattern.Bad = inl refl
   program_pattern place pattern.TooLarge = inl refl
   program_pattern place pattern.OutOfMemory = inl refl
@@ -97,18 +103,21 @@ module _ (failures : ℕ) where
   program_load load.OutOfMemory = inl refl
 
   -- and no start or wait was done
-  pub before_program : (path : List ℕ) (old : FilesState) (new : Stock) (how : End) → EndsBefore path old new how → ProgramCounts how failures failures
-  before_program path old new how (inl none) = rw none.end_is (inl refl)
-  before_program path old new how (inr (inl unread)) = rw unread.end_is (inl refl)
-  before_program path old new how (inr (inr (inl refused))) = rw refused.end_is (program_conf refused.error)
-  before_program path old new how (inr (inr (inr (inl at)))) = rw at.end_is (program_pattern at.refused.place at.refused.error)
-  before_program path old new how (inr (inr (inr (inr at)))) = rw at.end_is (program_load at.error)
+  pub before_program : (used : Tool) (path : List ℕ) (old : FilesState) (new : Stock) (how : End) → EndsBefore used path old new how → ProgramCounts how failures failures
+  before_program used path old new how (inl none) = rw none.end_is (inl refl)
+  before_program used path old new how (inr (inl unread)) = rw unread.end_is (inl refl)
+  before_program used path old new how (inr (inr (inl refused))) = rw refused.end_is (program_conf refused.error)
+  before_program used path old new how (inr (inr (inr (inl wrong)))) = rw wrong.end_is (inl refl)
+  before_program used path old new how (inr (inr (inr (inr (inl at))))) = rw at.end_is (program_pattern (Word at.word.place) at.error)
+  before_program used path old new how (inr (inr (inr (inr (inr (inl at)))))) = rw at.end_is (program_pattern (Database at.refused.place) at.refused.error)
+  before_program used path old new how (inr (inr (inr (inr (inr (inr at)))))) = rw at.end_is (program_load at.error)
 
 -- ---- a link that was served
 
 -- what it counted, by the end of the tool
 abbrev ServedCounts : ToolEnd → Counts → Counts → Type 0
 ServedCounts tool.LinkFault before now = FaultRose before now
+ServedCounts tool.PrintFault before now = FaultRose before now
 ServedCounts tool.OutOfMemory before now = MayRise before now
 ServedCounts ended before now = Stays before now
 
@@ -126,6 +135,7 @@ module _ (before now : Counts) where
   may_rise : (ended : ToolEnd) → ServedCounts ended before now → MayRise before now
   may_rise tool.Done same = inl same
   may_rise tool.LinkFault rose = inr (inl rose)
+  may_rise tool.PrintFault rose = inr (inl rose)
   may_rise tool.TermFault same = inl same
   may_rise tool.ChildFault same = inl same
   may_rise tool.TooLong same = inl same
@@ -174,6 +184,7 @@ module _ (start new : SessionState) (turns : List (Transition SessionState)) (re
 -- what both links counted, by the end of the tool
 abbrev ToolLinks : ToolEnd → Links → Links → Type 0
 ToolLinks tool.LinkFault before now = Both FaultRose Stays before now ⊎ Both Stays FaultRose before now
+ToolLinks tool.PrintFault before now = Both FaultRose Stays before now
 ToolLinks tool.TermFault before now = Both FaultRose Stays before now
 ToolLinks tool.OutOfMemory before now = Both MayRise MayRise before now
 ToolLinks ended before now = Both Stays Stays before now
@@ -186,6 +197,7 @@ module _ (before now : Links) (child : now.child ≡ before.child) where
   own_links : (ended : ToolEnd) → (ended ≡ tool.TermFault → ⊥) → ServedCounts ended before.io.counts now.io.counts → ToolLinks ended before now
   own_links tool.Done other same = record { on_io = same; on_child = unserved }
   own_links tool.LinkFault other rose = inl (record { on_io = rose; on_child = unserved })
+  own_links tool.PrintFault other rose = record { on_io = rose; on_child = unserved }
   own_links tool.TermFault other same = absurd (other refl)
   own_links tool.ChildFault other same = record { on_io = same; on_child = unserved }
   own_links tool.TooLong other same = record { on_io = same; on_child = unserved }
@@ -219,6 +231,7 @@ silent_links (tool.FilesFault path) state rest new links ends = all_stay links
 silent_links tool.OutOfMemory state rest new links ends = none_rose links
 silent_links tool.LinkFault state rest new links ends = absurd ends
 silent_links tool.TooLong state rest new links ends = absurd ends
+silent_links tool.PrintFault state rest new links ends = absurd ends
 silent_links tool.TermFault state rest new links ends = absurd ends
 silent_links tool.ChildFault state rest new links ends = absurd ends
 
@@ -271,8 +284,36 @@ unstarted_links command start before now code answer left is = rw is.ended_is (b
   by_error Failed failed = record { on_io = io; on_child = ap (λ (l : LinkState). l.counts) failed.state }
   by_error OutOfMemory refused = record { on_io = inl io; on_child = inr (inr refused.rose) }
 
+-- a text was printed
+printed_links : (text : List ℕ) (ended : ToolEnd) (before now : Links) → Prints text before.io now.io ended → now.child ≡ before.child → ToolLinks ended before now
+printed_links text tool.Done before now sent child = record { on_io = ap (λ (l : LinkState). l.counts) sent; on_child = ap (λ (l : LinkState). l.counts) child }
+printed_links text tool.PrintFault before now cut child = record { on_io = cut.rose; on_child = ap (λ (l : LinkState). l.counts) child }
+printed_links text tool.OutOfMemory before now (inl refused) child = record { on_io = inr (inr refused.rose); on_child = inl (ap (λ (l : LinkState). l.counts) child) }
+printed_links text tool.OutOfMemory before now (inr same) child = record { on_io = inl (ap (λ (l : LinkState). l.counts) same); on_child = inl (ap (λ (l : LinkState). l.counts) child) }
+printed_links text tool.LinkFault before now none child = absurd none
+printed_links text tool.TermFault before now none child = absurd none
+printed_links text tool.ChildFault before now none child = absurd none
+printed_links text tool.TooLong before now none child = absurd none
+printed_links text (tool.FilesFault path) before now none child = absurd none
+
+-- items were copied
+copied_links : (copy : Copying) (old new : List LayerState) (ended : ToolEnd) (said : List ℕ) (status : ℕ) (links : Links) → Copies copy old new ended said status → ToolLinks ended links links
+copied_links copy old new tool.Done said status links copies = all_stay links
+copied_links copy old new tool.OutOfMemory said status links copies = none_rose links
+copied_links copy old new tool.PrintFault said status links none = absurd none
+copied_links copy old new tool.LinkFault said status links none = absurd none
+copied_links copy old new tool.TermFault said status links none = absurd none
+copied_links copy old new tool.ChildFault said status links none = absurd none
+copied_links copy old new tool.TooLong said status links none = absurd none
+copied_links copy old new (tool.FilesFault path) said status links none = absurd none
+
+copy_links : (found : Option CopyRoots) (start : SessionState) (before now : Links) (code : ℕ) (answer : ToolAnswer) (said : List ℕ) (left : Resources) → CopiesBy found start before now code answer said left → ToolLinks answer.ended before now
+copy_links None start before now code answer said left none = absurd none
+copy_links (Some copy) start before now code answer said left is =
+    rw is.links_are (copied_links (copying start copy) start.store.layers left.layers answer.ended said answer.status before is.copies)
+
 tool_links : (used : Tool) (state : RunState) (roots : Roots) (settings : Settings) (now : Links) (answer : ToolAnswer) (said : List ℕ) (left : Resources)
-    → Uses used (begun used state roots settings) state.world.links now state.code answer said left → ToolLinks answer.ended state.world.links now
+    → Uses used roots (begun used state roots settings) state.world.links now state.code answer said left → ToolLinks answer.ended state.world.links now
 tool_links (Communicate owner) state roots settings now answer said left uses =
     communicated_links (begun (Communicate owner) state roots settings) state.world.links now state.code answer left refl uses.0 uses.1
 tool_links (LoadTemplate owner paths) state roots settings now answer said left uses =
@@ -281,6 +322,9 @@ tool_links (Run owner frontend priority command) state roots settings now answer
   | inl none ↦ unstarted_links command (begun (Run owner frontend priority command) state roots settings) state.world.links now state.code answer left none
   | inr started ↦ started_links command (begun (Run owner frontend priority command) state roots settings) state.world.links now state.code answer left refl started
 ]
+tool_links (Show database shown) state roots settings now answer said left uses = printed_links _ answer.ended state.world.links now uses.0.prints uses.0.child_is
+tool_links (CopyDb copy) state roots settings now answer said left uses =
+    copy_links roots.copy (begun (CopyDb copy) state roots settings) state.world.links now state.code answer said left uses
 
 -- ---- the end of the run
 
@@ -296,6 +340,7 @@ module _ (layers used : List LayerState) (files new : FilesState) (before now : 
   run_links tool.LinkFault how (inr (inl unsaved)) links = rw unsaved.end_is links
   run_links tool.LinkFault how (inr (inr none)) (inl own) = rw none.end_is (record { on_io = inr (inl own.on_io); on_child = inl own.on_child })
   run_links tool.LinkFault how (inr (inr none)) (inr child) = rw none.end_is (record { on_io = inl child.on_io; on_child = inr (inl child.on_child) })
+  run_links tool.PrintFault how broken links = rw broken.end_is (inl links)
   run_links tool.TermFault how broken links = rw broken.end_is links
   run_links tool.ChildFault how broken links = rw broken.end_is links
   run_links tool.OutOfMemory how broken links = rw broken.end_is links
@@ -365,6 +410,7 @@ silent_start (tool.FilesFault path) state rest new count ends = refl
 silent_start tool.OutOfMemory state rest new count ends = refl
 silent_start tool.LinkFault state rest new count ends = absurd ends
 silent_start tool.TooLong state rest new count ends = absurd ends
+silent_start tool.PrintFault state rest new count ends = absurd ends
 silent_start tool.TermFault state rest new count ends = absurd ends
 silent_start tool.ChildFault state rest new count ends = absurd ends
 
@@ -372,15 +418,44 @@ unstarted_program : (command : List (List ℕ)) (error : LinkError) (before now 
 unstarted_program command Failed before now failed = failed.rose.failures
 unstarted_program command OutOfMemory before now refused = ap (λ (l : LinkState). l.program.failures) refused.state
 
-tool_program : (used : Tool) (start : SessionState) (before now : Links) (code : ℕ) (answer : ToolAnswer) (said : List ℕ) (left : Resources)
-    → Uses used start before now code answer said left → StartCounts answer.ended before.child.program.failures now.child.program.failures
-tool_program (Communicate owner) start before now code answer said left uses = rw uses.0.ended_is (served_start uses.0.ended _ _ (ap (λ (c : LinkState). c.program.failures) uses.1))
-tool_program (LoadTemplate owner paths) start before now code answer said left uses =
+printed_start : (text : List ℕ) (ended : ToolEnd) (old new : LinkState) (count : ℕ) → Prints text old new ended → StartCounts ended count count
+printed_start text tool.Done old new count prints = refl
+printed_start text tool.PrintFault old new count prints = refl
+printed_start text tool.OutOfMemory old new count prints = refl
+printed_start text tool.LinkFault old new count none = absurd none
+printed_start text tool.TermFault old new count none = absurd none
+printed_start text tool.ChildFault old new count none = absurd none
+printed_start text tool.TooLong old new count none = absurd none
+printed_start text (tool.FilesFault path) old new count none = absurd none
+
+copied_start : (copy : Copying) (old new : List LayerState) (ended : ToolEnd) (said : List ℕ) (status count : ℕ) → Copies copy old new ended said status → StartCounts ended count count
+copied_start copy old new tool.Done said status count copies = refl
+copied_start copy old new tool.OutOfMemory said status count copies = refl
+copied_start copy old new tool.PrintFault said status count none = absurd none
+copied_start copy old new tool.LinkFault said status count none = absurd none
+copied_start copy old new tool.TermFault said status count none = absurd none
+copied_start copy old new tool.ChildFault said status count none = absurd none
+copied_start copy old new tool.TooLong said status count none = absurd none
+copied_start copy old new (tool.FilesFault path) said status count none = absurd none
+
+copy_program : (found : Option CopyRoots) (start : SessionState) (before now : Links) (code : ℕ) (answer : ToolAnswer) (said : List ℕ) (left : Resources) → CopiesBy found start before now code answer said left
+    → StartCounts answer.ended before.child.program.failures now.child.program.failures
+copy_program None start before now code answer said left none = absurd none
+copy_program (Some copy) start before now code answer said left is =
+    rw is.links_are (copied_start (copying start copy) start.store.layers left.layers answer.ended said answer.status before.child.program.failures is.copies)
+
+tool_program : (used : Tool) (roots : Roots) (start : SessionState) (before now : Links) (code : ℕ) (answer : ToolAnswer) (said : List ℕ) (left : Resources)
+    → Uses used roots start before now code answer said left → StartCounts answer.ended before.child.program.failures now.child.program.failures
+tool_program (Communicate owner) roots start before now code answer said left uses = rw uses.0.ended_is (served_start uses.0.ended _ _ (ap (λ (c : LinkState). c.program.failures) uses.1))
+tool_program (LoadTemplate owner paths) roots start before now code answer said left uses =
     rw uses.links_are (silent_start answer.ended _ uses.loaded.rest uses.state before.child.program.failures uses.loaded.ends)
-tool_program (Run owner frontend priority command) start before now code answer said left uses = elim uses.0 [
+tool_program (Run owner frontend priority command) roots start before now code answer said left uses = elim uses.0 [
   | inl none ↦ rw none.ended_is (unstarted_program command none.error before.child now.child none.starts)
   | inr started ↦ rw started.ended_is (served_start started.ended before.child.program.failures now.child.program.failures (ap (λ (p : Program). p.failures) started.served.program ∙ started.starts.began.failures))
 ]
+tool_program (Show database shown) roots start before now code answer said left uses =
+    subst (λ (c : LinkState). StartCounts answer.ended before.child.program.failures c.program.failures) (sym uses.0.child_is) (printed_start _ answer.ended before.io now.io before.child.program.failures uses.0.prints)
+tool_program (CopyDb copy) roots start before now code answer said left uses = copy_program roots.copy start before now code answer said left uses
 
 module _ (layers used : List LayerState) (files new : FilesState) (before now : ℕ) where
   run_program : (ended : ToolEnd) (how : End) → Finishes layers used ended files new how → StartCounts ended before now → ProgramCounts how before now
@@ -393,6 +468,7 @@ module _ (layers used : List LayerState) (files new : FilesState) (before now : 
   run_program tool.LinkFault how (inl saved) same = rw saved.end_is (inl same)
   run_program tool.LinkFault how (inr (inl unsaved)) same = rw unsaved.end_is (inl same)
   run_program tool.LinkFault how (inr (inr none)) same = rw none.end_is (inl same)
+  run_program tool.PrintFault how broken same = rw broken.end_is (inl same)
   run_program tool.TermFault how broken same = rw broken.end_is (inl same)
   run_program tool.ChildFault how broken rose = rw broken.end_is rose
   run_program tool.OutOfMemory how broken same = rw broken.end_is (inl same)
@@ -430,7 +506,7 @@ awaited_program false before mid now how ended status left none counts = rw none
 
 module _ (used : Tool) (settings : Settings) (old new : World) (outcome : Outcome) where
   pub links_counted : (saves : List Save) → HasRunTool used settings old new outcome saves → LinksCount outcome.end old.links new.links
-  links_counted saves (inl before) = subst (λ (l : Links). LinksCount outcome.end old.links l) (sym before.1.links_are) (before_links old.links settings.conf_path old.stock.files new.stock outcome.end before.0)
+  links_counted saves (inl before) = subst (λ (l : Links). LinksCount outcome.end old.links l) (sym before.1.links_are) (before_links old.links used settings.conf_path old.stock.files new.stock outcome.end before.0)
   links_counted saves (inr worked) =
       let run = as_used used settings old new outcome saves worked in
       awaited_links old.links run.links new.links run.io_is run.answer.is_started run.how outcome.end run.answer.status run.status run.awaits
@@ -439,9 +515,9 @@ module _ (used : Tool) (settings : Settings) (old new : World) (outcome : Outcom
 
   pub program_counted : (saves : List Save) → HasRunTool used settings old new outcome saves → ProgramCounts outcome.end old.links.child.program.failures new.links.child.program.failures
   program_counted saves (inl before) = subst (λ (l : Links). ProgramCounts outcome.end old.links.child.program.failures l.child.program.failures) (sym before.1.links_are)
-      (before_program old.links.child.program.failures settings.conf_path old.stock.files new.stock outcome.end before.0)
+      (before_program old.links.child.program.failures used settings.conf_path old.stock.files new.stock outcome.end before.0)
   program_counted saves (inr worked) =
       let run = as_used used settings old new outcome saves worked in
       awaited_program run.answer.is_started old.links.child.program.failures run.links.child new.links.child run.how outcome.end run.answer.status run.status run.awaits
       (run_program run.left.layers new.stock.used run.left.files new.stock.files old.links.child.program.failures run.links.child.program.failures run.answer.ended run.how run.finishes
-      (tool_program used (begun used (before_rounds (record old { stock = run.mid })) run.roots settings) old.links run.links 0 run.answer run.told run.left run.uses))
+      (tool_program used run.roots (begun used (before_rounds (record old { stock = run.mid })) run.roots settings) old.links run.links 0 run.answer run.told run.left run.uses))

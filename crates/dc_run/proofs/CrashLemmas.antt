@@ -21,10 +21,9 @@ use Rattle.dc_conf.proofs.ResolvedLemmas.{places_apart as places_kept_apart, sor
 use Rattle.dc_item.specs.Item.{ItemParts}
 use Rattle.dc_item.specs.declared.op.Op.TheVariants.{SetFlag}
 use Rattle.dc_layer.specs.State.{Table, LayerState}
-use Rattle.dc_layer.specs.declared.image.Image.{Image}
 use Rattle.dc_question.specs.Changes.{question_write, done_or}
 use Rattle.dc_question.specs.Questions.{QuestionContext, question, read}
-use Rattle.dc_store.specs.Plans.{StoreState}
+use Rattle.dc_store.specs.Plans.{names, StoreState}
 use Rattle.dc_store.specs.Batches.{Write, commit, names_of}
 use Rattle.dc_store.specs.StoreLaws.{AreSameButAll}
 use Rattle.dc_teletype.specs.declared.teletype.Asked.TheVariants.{Answers}
@@ -68,21 +67,22 @@ use Rattle.dc_session.proofs.FrameLaws.{row_keeps, others_stay}
 use Rattle.dc_run.specs.Ends.{IsEnded, tool_end_of, comes_to_save, end_by, end_unwaited}
 use Rattle.dc_run.specs.Running.{Awaits}
 use Rattle.dc_run.specs.Finishing.{images_of}
-use Rattle.dc_run.specs.Jobs.{Uses}
+use Rattle.dc_run.specs.Jobs.{CopiesBy, Uses}
+use Rattle.dc_run.specs.declared.starting.CopyRoots.{CopyRoots}
+use Rattle.dc_run.specs.declared.starting.Roots.{Roots}
 use Rattle.dc_run.specs.Kills.{AllDone}
 use Rattle.dc_run.specs.Saves.{Save, AreSaves, Commits}
-use Rattle.dc_run.specs.Starting.{IsConfiguration, EndsBefore, begun, databases_of, roots}
+use Rattle.dc_run.specs.Starting.{conf_text, IsConfiguration, EndsBefore, databases_of, roots}
+use Rattle.dc_cli.specs.Tools.{Names}
 use Rattle.dc_run.specs.TemplateLoading.{FileTurn, IsFileTurn, IsFileCourse, state_after as file_state, EndsAt}
-use Rattle.dc_run.specs.World.{Links, Stock, World}
+use Rattle.dc_run.specs.World.{Links, Stock}
 use Rattle.dc_run.specs.declared.outcome.End.{End}
 use Rattle.dc_run.specs.declared.outcome.End.TheVariants as end
-use Rattle.dc_run.specs.declared.outcome.Outcome.{Outcome}
 use Rattle.dc_run.specs.declared.outcome.ToolAnswer.{ToolAnswer}
 use Rattle.dc_run.specs.declared.outcome.ToolEnd.{ToolEnd}
 use Rattle.dc_run.specs.declared.outcome.ToolEnd.TheVariants as tool
-use Rattle.dc_run.specs.declared.settings.Settings.{Settings}
 use Rattle.dc_cli.specs.declared.tool.Tool.{Tool}
-use Rattle.dc_cli.specs.declared.tool.Tool.TheVariants.{Communicate, LoadTemplate, Run}
+use Rattle.dc_cli.specs.declared.tool.Tool.TheVariants.{Communicate, LoadTemplate, Run, Show, CopyDb}
 use Rattle.dc_run.proofs.RunLemmas.{ends_so}
 use Rattle.dc_run.specs.Crashes.{AreOfConfiguration, KeepsEachPath}
 
@@ -132,15 +132,17 @@ all_read (spec ∷ specs) (layer ∷ old) (made ∷ new) files files_new before 
     (all_read specs old new is.1 files_new is.2 now result) (λ last. ap (λ (t : FilesView). t.disk) last.1) is.6
     ∙ load_reads files is.1 spec is.0 is.4
 
-pub before_reads : (path : List ℕ) (old : FilesState) (new : Stock) (how : End) → EndsBefore path old new how → new.files.view.disk ≡ old.view.disk
-before_reads path old new how (inl memory) = elim memory.begun [
+pub before_reads : (used : Tool) (path : List ℕ) (old : FilesState) (new : Stock) (how : End) → EndsBefore used path old new how → new.files.view.disk ≡ old.view.disk
+before_reads used path old new how (inl memory) = elim memory.begun [
   | inl none ↦ ap (λ (t : FilesView). t.disk) none.files_are
   | inr read ↦ ap (λ (t : FilesView). t.disk) read.files_are
 ]
-before_reads path old new how (inr (inl unread)) = ap (λ (t : FilesView). t.disk) unread.files_are
-before_reads path old new how (inr (inr (inl refused))) = ap (λ (t : FilesView). t.disk) refused.read.files_are
-before_reads path old new how (inr (inr (inr (inl unset)))) = ap (λ (t : FilesView). t.disk) unset.read.files_are
-before_reads path old new how (inr (inr (inr (inr unloaded)))) = all_read _ _ _ _ _ _ _ _ unloaded.loaded.loads
+before_reads used path old new how (inr (inl unread)) = ap (λ (t : FilesView). t.disk) unread.files_are
+before_reads used path old new how (inr (inr (inl refused))) = ap (λ (t : FilesView). t.disk) refused.read.files_are
+before_reads used path old new how (inr (inr (inr (inl wrong)))) = ap (λ (t : FilesView). t.disk) wrong.read.files_are
+before_reads used path old new how (inr (inr (inr (inr (inl unbuilt))))) = ap (λ (t : FilesView). t.disk) unbuilt.read.files_are
+before_reads used path old new how (inr (inr (inr (inr (inr (inl unset)))))) = ap (λ (t : FilesView). t.disk) unset.read.files_are
+before_reads used path old new how (inr (inr (inr (inr (inr (inr unloaded)))))) = all_read _ _ _ _ _ _ _ _ unloaded.loaded.loads
 
 -- ---- each layer stays one of its database
 
@@ -348,6 +350,7 @@ end_reads tool.OutOfMemory state rest new ends = elim ends.3 [
 ]
 end_reads tool.LinkFault state rest new ends = absurd ends
 end_reads tool.TooLong state rest new ends = absurd ends
+end_reads tool.PrintFault state rest new ends = absurd ends
 end_reads tool.TermFault state rest new ends = absurd ends
 end_reads tool.ChildFault state rest new ends = absurd ends
 
@@ -369,6 +372,7 @@ end_keeps (tool.FilesFault path) is state rest new ends = absurd is
 end_keeps tool.OutOfMemory is state rest new ends = absurd is
 end_keeps tool.LinkFault is state rest new ends = absurd ends
 end_keeps tool.TooLong is state rest new ends = absurd ends
+end_keeps tool.PrintFault is state rest new ends = absurd is
 end_keeps tool.TermFault is state rest new ends = absurd is
 end_keeps tool.ChildFault is state rest new ends = absurd is
 
@@ -392,18 +396,28 @@ served_keeps start old new before given left ended ended_is served =
           ∙ course_keeps start ran.transitions ran.course;
     }
 
-pub tool_keeps : (used : Tool) (start : SessionState) (old new : Links) (before : ℕ) (given : ToolAnswer) (told : List ℕ) (left : Resources) → Uses used start old new before given told left → KeepsAll start given.ended left.layers left.files
-tool_keeps (Communicate owner) start old new before given told left uses = served_keeps start old.io new.io before given left uses.0.ended uses.0.ended_is uses.0.served
-tool_keeps (LoadTemplate owner paths) start old new before given told left uses =
+copy_keeps : (found : Option CopyRoots) (start : SessionState) (old new : Links) (before : ℕ) (given : ToolAnswer) (told : List ℕ) (left : Resources) → CopiesBy found start old new before given told left
+    → KeepsAll start given.ended left.layers left.files
+copy_keeps None start old new before given told left none = absurd none
+copy_keeps (Some copy) start old new before given told left is =
+    record { disk = ap (λ (l : Resources). l.files.view.disk) is.left_is; specs = λ ended. same_specs (names start.store.layers start.at.config) start.store.layers left.layers is.others }
+
+pub tool_keeps : (used : Tool) (roots : Roots) (start : SessionState) (old new : Links) (before : ℕ) (given : ToolAnswer) (told : List ℕ) (left : Resources) → Uses used roots start old new before given told left
+    → KeepsAll start given.ended left.layers left.files
+tool_keeps (Communicate owner) roots start old new before given told left uses = served_keeps start old.io new.io before given left uses.0.ended uses.0.ended_is uses.0.served
+tool_keeps (LoadTemplate owner paths) roots start old new before given told left uses =
     let loads = uses.loaded in
     record {
       disk = ap (λ (l : Resources). l.files.view.disk) uses.left_is ∙ end_reads given.ended (file_state start loads.turns) loads.rest uses.state loads.ends ∙ files_read start loads.turns loads.course;
       specs = λ is. ap (λ (l : Resources). specs_in l.layers) uses.left_is ∙ end_keeps given.ended is (file_state start loads.turns) loads.rest uses.state loads.ends ∙ files_keep start loads.turns loads.course;
     }
-tool_keeps (Run owner frontend priority command) start old new before given told left uses = elim uses.0 [
+tool_keeps (Run owner frontend priority command) roots start old new before given told left uses = elim uses.0 [
   | inl none ↦ record { disk = ap (λ (l : Resources). l.files.view.disk) none.left_is; specs = λ is. ap (λ (l : Resources). specs_in l.layers) none.left_is }
   | inr started ↦ served_keeps start started.mid new.child before given left started.ended started.ended_is started.served
 ]
+tool_keeps (Show database shown) roots start old new before given told left uses =
+    record { disk = ap (λ (l : Resources). l.files.view.disk) uses.0.left_is; specs = λ is. ap (λ (l : Resources). specs_in l.layers) uses.0.left_is }
+tool_keeps (CopyDb copy) roots start old new before given told left uses = copy_keeps roots.copy start old new before given told left uses
 
 -- ---- the save of a round
 
@@ -411,6 +425,7 @@ pub ended_then : (ended : ToolEnd) → comes_to_save ended ≡ true → IsEnded 
 ended_then tool.Done is = tt
 ended_then tool.LinkFault is = tt
 ended_then tool.TooLong is = tt
+ended_then tool.PrintFault is = cc
 ended_then tool.TermFault is = cc
 ended_then tool.ChildFault is = cc
 ended_then tool.OutOfMemory is = cc
@@ -421,6 +436,7 @@ saved_then ended (Ok done) is = refl
 saved_then tool.Done (Err (save.Failed path)) is = cc
 saved_then tool.LinkFault (Err (save.Failed path)) is = cc
 saved_then tool.TooLong (Err (save.Failed path)) is = cc
+saved_then tool.PrintFault (Err (save.Failed path)) is = cc
 saved_then tool.TermFault (Err (save.Failed path)) is = cc
 saved_then tool.ChildFault (Err (save.Failed path)) is = cc
 saved_then tool.OutOfMemory (Err (save.Failed path)) is = cc
@@ -428,6 +444,7 @@ saved_then (tool.FilesFault fault) (Err (save.Failed path)) is = cc
 saved_then tool.Done (Err save.OutOfMemory) is = cc
 saved_then tool.LinkFault (Err save.OutOfMemory) is = cc
 saved_then tool.TooLong (Err save.OutOfMemory) is = cc
+saved_then tool.PrintFault (Err save.OutOfMemory) is = cc
 saved_then tool.TermFault (Err save.OutOfMemory) is = cc
 saved_then tool.ChildFault (Err save.OutOfMemory) is = cc
 saved_then tool.OutOfMemory (Err save.OutOfMemory) is = cc
@@ -468,14 +485,17 @@ done_before false mid now how ended status left none is = sym none.end_is ∙ is
 
 -- ---- the layers that are saved are of the configuration
 
-module _ (disk : Option Disk) (path : List ℕ) (conf : Configuration) (is : IsConfiguration disk path conf) (layers : List LayerState) (specs : specs_in layers ≡ set_for (databases_of conf)) where
-  pub of_configuration : AreOfConfiguration disk path layers
+module _ (words : List (List ℕ)) (used : Tool) (named : Names words used) (disk : Option Disk) (path : List ℕ) (conf : Configuration) (is : IsConfiguration used disk path conf) (layers : List LayerState)
+    (specs : specs_in layers ≡ set_for (databases_of used conf)) where
+  pub of_configuration : AreOfConfiguration words disk path layers
   of_configuration = record {
+    used = used;
+    named = named;
     conf = conf;
     conf_is = is;
-    are_of = layers_of layers (databases_of conf) (set_up_for layers (databases_of conf) specs);
-    apart = places_apart (databases_of conf) (images_of layers) (fit_kept conf (roots conf) (sound_answer is.text conf is.reads))
-        (places_kept_apart conf (roots conf) (sound_answer is.text conf is.reads)) (layers_of layers (databases_of conf) (set_up_for layers (databases_of conf) specs));
+    are_of = layers_of layers (databases_of used conf) (set_up_for layers (databases_of used conf) specs);
+    apart = places_apart (databases_of used conf) (images_of layers) (fit_kept conf (roots used conf) (sound_answer (conf_text used is.text) conf is.reads))
+        (places_kept_apart conf (roots used conf) (sound_answer (conf_text used is.text) conf is.reads)) (layers_of layers (databases_of used conf) (set_up_for layers (databases_of used conf) specs));
   }
 
 -- ---- one save

@@ -21,6 +21,7 @@ module _ (layers used : List LayerState) (files new : FilesState) where
   save_ends tool.Done at (Err save.OutOfMemory) saves counts are = inr (inr (record { end_is = refl; ran_out = saves; counts = counts; used_are = are }))
   save_ends tool.LinkFault at (Err save.OutOfMemory) saves counts are = inr (inr (record { end_is = refl; ran_out = saves; counts = counts; used_are = are }))
   save_ends tool.TooLong at (Err save.OutOfMemory) saves counts are = inr (inr (record { end_is = refl; ran_out = saves; counts = counts; used_are = are }))
+  save_ends tool.PrintFault at (Err save.OutOfMemory) saves counts are = absurd at
   save_ends tool.TermFault at (Err save.OutOfMemory) saves counts are = absurd at
   save_ends tool.ChildFault at (Err save.OutOfMemory) saves counts are = absurd at
   save_ends tool.OutOfMemory at (Err save.OutOfMemory) saves counts are = absurd at
@@ -32,6 +33,7 @@ module _ (layers used : List LayerState) (files new : FilesState) where
   finished tool.Done at result saves counts are = save_ends tool.Done at result saves counts are
   finished tool.LinkFault at result saves counts are = save_ends tool.LinkFault at result saves counts are
   finished tool.TooLong at result saves counts are = save_ends tool.TooLong at result saves counts are
+  finished tool.PrintFault at result saves counts are = absurd at
   finished tool.TermFault at result saves counts are = absurd at
   finished tool.ChildFault at result saves counts are = absurd at
   finished tool.OutOfMemory at result saves counts are = absurd at

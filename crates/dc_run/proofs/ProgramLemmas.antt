@@ -1,11 +1,10 @@
 -- What follows from what the program did.
-use Rattle.std.proofs.Common.{◌≡◌, ◌⊎◌, inl, inr, List, ℕ, sym, ap, subst}
+use Rattle.std.proofs.Common.{inl, inr, List, ℕ, sym, ap, subst}
 use Rattle.dc_run.specs.Ends.{LinksCount, ProgramCounts}
 use Rattle.dc_run.specs.Headline.{HasRunWords, IsRun}
 use Rattle.dc_run.specs.Saves.{Save}
 use Rattle.dc_run.specs.World.{Links, World}
 use Rattle.dc_run.specs.declared.outcome.End.{End}
-use Rattle.dc_run.specs.declared.outcome.End.TheVariants as end
 use Rattle.dc_run.specs.declared.outcome.Outcome.{Outcome}
 use Rattle.dc_run.specs.declared.settings.Settings.{Settings}
 use Rattle.dc_run.proofs.CountLemmas.{links_counted, program_counted}

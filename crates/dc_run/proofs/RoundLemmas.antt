@@ -2,31 +2,22 @@
 use Rattle.std.proofs.Common.{◌≡◌, ◌≢◌, ℕ, Bool, true, false, List, [], ◌∷◌, ◌++◌, refl, sym, ap, subst, ◌∙◌, max, arith, map as each}
 use Rattle.std.specs.Prelude.{Result, Ok, Err, MatchResult}
 use Rattle.std.proofs.lemmas.List.{append-nil}
-use Rattle.dc_layer.specs.State.{LayerState, saved}
+use Rattle.dc_layer.specs.State.{saved}
 use Rattle.dc_save.specs.Saving.{Saves, SaveCounts}
 use Rattle.dc_save.specs.declared.saving.SaveError.{SaveError}
-use Rattle.dc_outside.specs.State.{FilesState, LinkState}
 use Rattle.dc_run.specs.declared.outcome.End.{End}
 use Rattle.dc_run.specs.declared.outcome.End.TheVariants.{Done}
-use Rattle.dc_run.specs.declared.outcome.Outcome.{Outcome}
-use Rattle.dc_run.specs.declared.outcome.ToolAnswer.{ToolAnswer}
 use Rattle.dc_run.specs.declared.outcome.ToolEnd.{ToolEnd}
 use Rattle.dc_run.specs.declared.outcome.ToolEnd.TheVariants as tool
 use Rattle.dc_run.specs.declared.settings.Settings.{Settings}
 use Rattle.dc_run.specs.declared.starting.Roots.{Roots}
 use Rattle.dc_cli.specs.declared.tool.Tool.{Tool}
-use Rattle.dc_run.specs.EndLines.{end_line, HasSaid}
 use Rattle.dc_run.specs.Ends.{status_of, end_by, comes_to_save}
 use Rattle.dc_run.specs.Finishing.{Finishes}
-use Rattle.dc_run.specs.Headline.{HasWorked}
-use Rattle.dc_run.specs.OneRound.{HasUsed}
-use Rattle.dc_run.specs.Rounds.{Job, Whole, Round, HasDone, Works, IsRound, AreRounds, HaveRounds, HasDoneJobs, FindsJobs, DoesFound, IsOneRound, is_saved_at, report, status_by, jobs_done, state_after, end_after, status_in, saves_of}
-use Rattle.dc_run.specs.Running.{Awaits}
-use Rattle.dc_run.specs.Saves.{Save, HasSaved, HasNotSaved, Commits, kept_by}
-use Rattle.dc_run.specs.Starting.{HasStarted}
-use Rattle.dc_run.specs.World.{Stock, World, RunState, before_rounds}
+use Rattle.dc_run.specs.Rounds.{Job, Whole, Round, AreRounds, HaveRounds, HasDoneJobs, FindsJobs, DoesFound, IsOneRound, status_by, jobs_done, state_after, end_after, status_in, saves_of}
+use Rattle.dc_run.specs.Saves.{Save, HasSaved, Commits, kept_by}
+use Rattle.dc_run.specs.World.{Stock, RunState}
 use Rattle.dc_run.proofs.FinishLemmas.{finished}
-use Rattle.dc_run.proofs.Saying.{said_then}
 
 pub most_none : (n : ℕ) → max n 0 ≡ n
 most_none n = omega arith
@@ -62,6 +53,7 @@ module _ (left new : Stock) (last : List Save) (how : End) where
   finishes tool.Done has = by_save tool.Done tt has
   finishes tool.LinkFault has = by_save tool.LinkFault tt has
   finishes tool.TooLong has = by_save tool.TooLong tt has
+  finishes tool.PrintFault has = record { end_is = has.end_is; files_are = ap (λ (s : Stock). s.files) has.stays; used_are = ap (λ (s : Stock). s.used) has.stays }
   finishes tool.TermFault has = record { end_is = has.end_is; files_are = ap (λ (s : Stock). s.files) has.stays; used_are = ap (λ (s : Stock). s.used) has.stays }
   finishes tool.ChildFault has = record { end_is = has.end_is; files_are = ap (λ (s : Stock). s.files) has.stays; used_are = ap (λ (s : Stock). s.used) has.stays }
   finishes tool.OutOfMemory has = record { end_is = has.end_is; files_are = ap (λ (s : Stock). s.files) has.stays; used_are = ap (λ (s : Stock). s.used) has.stays }

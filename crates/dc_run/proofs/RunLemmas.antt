@@ -14,7 +14,10 @@ use Rattle.dc_session.specs.declared.stepped.StepError.{StepError}
 use Rattle.dc_session.specs.declared.stepped.StepError.TheVariants as step
 use Rattle.dc_cli.specs.Tools.{AreRefusedAt, IsToolWords, Names, NamesTool, IsCommand, owner_of}
 use Rattle.dc_cli.specs.declared.tool.Tool.{Tool}
-use Rattle.dc_cli.specs.declared.tool.Tool.TheVariants.{Communicate, LoadTemplate, Run}
+use Rattle.dc_cli.specs.declared.tool.Tool.TheVariants.{Communicate, LoadTemplate, Run, Show, CopyDb}
+use Rattle.dc_cli.specs.declared.tool.CopyWords.{CopyWords}
+use Rattle.dc_cli.specs.declared.tool.PlacedWord.{PlacedWord}
+use Rattle.dc_cli.specs.declared.tool.Shown.{Shown}
 use Rattle.dc_run.specs.declared.outcome.End.{End}
 use Rattle.dc_run.specs.declared.outcome.End.TheVariants as end
 use Rattle.dc_run.specs.declared.outcome.Outcome.{Outcome}
@@ -24,11 +27,12 @@ use Rattle.dc_run.specs.declared.starting.Roots.{Roots}
 use Rattle.dc_run.specs.EndLines.{end_line, HasSaid}
 use Rattle.dc_run.specs.Ends.{status_of, tool_end_of, comes_to_save}
 use Rattle.dc_run.specs.Headline.{HasRunTool, HasRunWords}
-use Rattle.dc_run.specs.Jobs.{HasCommunicated}
+use Rattle.dc_run.specs.Jobs.{HasCommunicated, CopiesBy, shown_text}
+use Rattle.dc_run.specs.declared.starting.CopyRoots.{CopyRoots}
 use Rattle.dc_run.specs.Rounds.{Whole, Round, HasDone}
 use Rattle.dc_teletype.specs.TerminalLines.{TypeAhead}
 use Rattle.dc_run.specs.Saves.{Save, Commits}
-use Rattle.dc_run.specs.Inside.{HasCommand, HasLoadedOver, HasServedProgram}
+use Rattle.dc_run.specs.Inside.{HasCommand, HasLoadedOver, HasServedProgram, HasPrinted, CopiesOver, context_by}
 use Rattle.dc_run.specs.Running.{HasRunProgram, Awaits}
 use Rattle.dc_run.specs.Starting.{EndsBefore, HasStarted, begun, chosen, chosen_frontend, chosen_priority, resources_for, session_at}
 use Rattle.dc_run.specs.World.{Links, Stock, World, RunState, before_rounds, links_of, run_state, stock_of}
@@ -129,6 +133,40 @@ module _ (roots : Roots) (settings : Settings) (io child err new_err : LinkState
     code_is = refl;
   }
 
+module _ (roots : Roots) (settings : Settings) (io new child err : LinkState) (files : FilesState) (layers left_layers : List LayerState) (ahead : TypeAhead) (before : ℕ) (answer : ToolAnswer) where
+  -- what is asked for was printed
+  pub was_shown : (database : Option PlacedWord) (shown : Shown) → left_layers ≡ layers → HasPrinted (shown_text shown roots.conf layers (context_by roots settings.lang)) io new before answer
+      → HasDone (Show database shown) roots settings (run_state io child err files layers ahead before) (run_state new child err files left_layers ahead answer.last_code) answer []
+  was_shown database shown same printed = record {
+    told = [];
+    left = resources_in (begun (Show database shown) (run_state io child err files layers ahead before) roots settings);
+    uses = (record { prints = printed.prints; child_is = refl; left_is = refl; code_is = printed.code_is; status_is = printed.status_is; waits = printed.waits }, refl);
+    stock_is = λ i. stock_of files (same i);
+    said = none_said err;
+    ahead_is = refl;
+    saves_are = refl;
+    code_is = refl;
+  }
+
+module _ (roots : Roots) (settings : Settings) (io child err new_err : LinkState) (files : FilesState) (layers left_layers : List LayerState) (ahead : TypeAhead) (before : ℕ) (answer : ToolAnswer) where
+  -- items were copied
+  pub was_copied : (copy : CopyWords) → CopiesOver roots layers left_layers err new_err before answer
+      → HasDone (CopyDb copy) roots settings (run_state io child err files layers ahead before) (run_state io child new_err files left_layers ahead answer.last_code) answer []
+  was_copied copy over =
+      let start : SessionState = begun (CopyDb copy) (run_state io child err files layers ahead before) roots settings in
+      let is = over.2 in
+      record {
+        told = is.said;
+        left = record (resources_in start) { layers = left_layers };
+        uses = subst (λ (found : Option CopyRoots). CopiesBy found start (links_of io child) (links_of io child) before answer is.said (record (resources_in start) { layers = left_layers })) (sym over.1)
+            (record { copies = is.copies; others = is.others; left_is = refl; links_are = refl; code_is = is.code_is; waits = is.waits });
+        stock_is = refl;
+        said = is.telling;
+        ahead_is = refl;
+        saves_are = refl;
+        code_is = refl;
+      }
+
 -- the program was started and served
 pub started_so : (command : List (List ℕ)) (start : SessionState) (old new : Links) (before : ℕ) (answer : ToolAnswer) (left : Resources) (mid : LinkState)
     → Starts {T = Unit {0}} command old.child mid (Ok tt) → HasServedProgram start mid new.child before answer left → new.io ≡ left.terminal.link → HasRunProgram command start old new before answer left
@@ -145,6 +183,8 @@ command_of : (word : List ℕ) (words : List (List ℕ)) (used : Tool) → Names
 command_of word words (Communicate owner) named = tt
 command_of word words (LoadTemplate owner paths) named = tt
 command_of word words (Run owner frontend priority command) named = some_words command named.1.command_is
+command_of word words (Show database shown) named = tt
+command_of word words (CopyDb copy) named = tt
 
 -- the command that words name has a word
 pub has_command : (words : List (List ℕ)) (used : Tool) → Names words used → HasCommand used
@@ -154,12 +194,12 @@ has_command (word ∷ words) used named = command_of word words used named
 -- ---- a run
 
 module _ (used : Tool) (settings : Settings) (old new : World) (outcome : Outcome) (how : End) where
-  pub ended_before : EndsBefore settings.conf_path old.stock.files new.stock how → new.links ≡ old.links → HasSaid (end_line how) old.err new.err → outcome ≡ record { status = status_of how 0; end = how; last_code = 0 }
+  pub ended_before : EndsBefore used settings.conf_path old.stock.files new.stock how → new.links ≡ old.links → HasSaid (end_line how) old.err new.err → outcome ≡ record { status = status_of how 0; end = how; last_code = 0 }
       → HasRunTool used settings old new outcome []
   ended_before before same said is =
       subst (λ (o : Outcome). HasRunTool used settings old new o []) (sym is) (inl (before, record { links_are = same; said = said; code_is = refl; status_is = refl }, refl))
 
-  pub ended_after : (mid : Stock) (roots : Roots) (ahead : TypeAhead) (left : RunState) (answer : ToolAnswer) (saved : End) (status : ℕ) → ahead ≡ nothing_typed → HasStarted settings.conf_path old.stock.files mid roots
+  pub ended_after : (mid : Stock) (roots : Roots) (ahead : TypeAhead) (left : RunState) (answer : ToolAnswer) (saved : End) (status : ℕ) → ahead ≡ nothing_typed → HasStarted used settings.conf_path old.stock.files mid roots
       → HasDone used roots settings (run_state old.links.io old.links.child old.err mid.files mid.used ahead 0) left answer [] → (commits : (last : List Save) × Commits (comes_to_save answer.ended) answer.ended left.world.stock new.stock last saved)
       → new.links.io ≡ left.world.links.io → Awaits answer.is_started left.world.links.child new.links.child saved how answer.status status → HasSaid (end_line how) left.world.err new.err
       → outcome ≡ record { status = status_of how status; end = how; last_code = answer.last_code } → HasRunTool used settings old new outcome (commits.0 ++ [])

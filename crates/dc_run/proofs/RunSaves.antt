@@ -1,9 +1,9 @@
 -- Nothing changes on the disk in a run but what its saves do, and these save layers of its databases.
-use Rattle.std.proofs.Common.{◌≡◌, ◌⊎◌, inl, inr, ⊎_elim, Bool, true, false, List, [], ◌++◌, ℕ, Option, Some, refl, sym, ap, subst, ◌∙◌}
+use Rattle.std.proofs.Common.{◌≡◌, inl, inr, Bool, true, false, List, [], ◌++◌, ℕ, Option, Some, refl, sym, ap, subst, ◌∙◌}
 use Rattle.std.specs.List.{AllByRecursion}
 use Rattle.dc_outside.specs.Disk.{Disk}
+use Rattle.dc_cli.specs.Tools.{Names}
 use Rattle.dc_cli.specs.declared.tool.Tool.{Tool}
-use Rattle.dc_layer.specs.State.{LayerState}
 use Rattle.dc_outside.specs.State.{FilesState}
 use Rattle.dc_run.specs.Crashes.{AreOfConfiguration, KeepsDatabases}
 use Rattle.dc_run.specs.Ends.{comes_to_save}
@@ -27,9 +27,9 @@ saved_between true ended left new last how has = subst (λ (l : List Save). AreS
 saved_between false ended left new last how has = subst (λ (l : List Save). AreSaves left.files.view.disk l new.files.view.disk) (sym has.saves_are) (ap (λ (s : Stock). s.files.view.disk) has.stays)
 
 -- what is killed is said by the saves
-keeps_by : (path : List ℕ) (old new : FilesState) (how : End) (saves : List Save) → AreSaves old.view.disk saves new.view.disk → AllByRecursion (λ save. AreOfConfiguration old.view.disk path save.layers) saves
-    → (how ≡ end.Done → AllDone saves) → KeepsDatabases path old new how saves
-keeps_by path old new how saves are of done = record {
+keeps_by : (words : List (List ℕ)) (path : List ℕ) (old new : FilesState) (how : End) (saves : List Save) → AreSaves old.view.disk saves new.view.disk → AllByRecursion (λ save. AreOfConfiguration words old.view.disk path save.layers) saves
+    → (how ≡ end.Done → AllDone saves) → KeepsDatabases words path old new how saves
+keeps_by words path old new how saves are of done = record {
   are_saves = are;
   are_of = of;
   killed = λ before after at to durable.
@@ -38,8 +38,8 @@ keeps_by path old new how saves are of done = record {
 }
 
 -- no save was begun, and the disk is as it was
-none_kept : (path : List ℕ) (old new : FilesState) (how : End) (saves : List Save) → saves ≡ [] → new.view.disk ≡ old.view.disk → KeepsDatabases path old new how saves
-none_kept path old new how saves none same = subst (KeepsDatabases path old new how) (sym none) (keeps_by path old new how [] same tt (λ done. tt))
+none_kept : (words : List (List ℕ)) (path : List ℕ) (old new : FilesState) (how : End) (saves : List Save) → saves ≡ [] → new.view.disk ≡ old.view.disk → KeepsDatabases words path old new how saves
+none_kept words path old new how saves none same = subst (KeepsDatabases words path old new how) (sym none) (keeps_by words path old new how [] same tt (λ done. tt))
 
 -- ---- the tool's one round
 
@@ -61,7 +61,7 @@ module _ (used : Tool) (settings : Settings) (old new : World) (outcome : Outcom
 
   keeps : KeepsAll (begun used start worked.roots settings) one.round.answer.ended one.round.left.world.stock.used one.round.left.world.stock.files
   keeps = subst (λ (s : Stock). KeepsAll (begun used start worked.roots settings) one.round.answer.ended s.used s.files) (sym works.stock_is)
-      (tool_keeps used (begun used start worked.roots settings) worked.mid.links one.round.left.world.links 0 one.round.answer works.told works.left works.uses)
+      (tool_keeps used worked.roots (begun used start worked.roots settings) worked.mid.links one.round.left.world.links 0 one.round.answer works.told works.left works.uses)
 
   stock_is : new.stock ≡ one.round.new.world.stock
   stock_is = ap (λ (w : World). w.stock) (worked.rest_is ∙ ap (λ (s : RunState). record s.world { err = new.err }) one.new_is)
@@ -74,34 +74,39 @@ module _ (used : Tool) (settings : Settings) (old new : World) (outcome : Outcom
       (subst (λ (d : Option Disk). AreSaves d one.round.last one.round.new.world.stock.files.view.disk) keeps.disk
       (saved_between (comes_to_save one.round.answer.ended) one.round.answer.ended one.round.left.world.stock one.round.new.world.stock one.round.last one.round.finish commits))))
 
-  specs : comes_to_save one.round.answer.ended ≡ true → specs_in one.round.left.world.stock.used ≡ set_for (databases_of worked.started.conf)
-  specs is = keeps.specs (ended_then one.round.answer.ended is) ∙ loads_keep _ _ _ _ _ _ _ _ worked.started.loaded.loads ∙ set_up_specs (databases_of worked.started.conf)
-
-  saves_of_databases : AllByRecursion (λ save. AreOfConfiguration old.stock.files.view.disk settings.conf_path save.layers) saves
-  saves_of_databases = subst (AllByRecursion (λ (save : Save). AreOfConfiguration old.stock.files.view.disk settings.conf_path save.layers)) (sym saves_are)
-      (each_save one.round.left.world.stock one.round.new.world.stock one.round.last one.round.finish one.round.answer.ended (AreOfConfiguration old.stock.files.view.disk settings.conf_path) (comes_to_save one.round.answer.ended) commits
-      (λ is. of_configuration old.stock.files.view.disk settings.conf_path worked.started.conf worked.started.loaded.conf_is one.round.left.world.stock.used (specs is)))
+  specs : comes_to_save one.round.answer.ended ≡ true → specs_in one.round.left.world.stock.used ≡ set_for (databases_of used worked.roots.conf)
+  specs is = keeps.specs (ended_then one.round.answer.ended is) ∙ loads_keep _ _ _ _ _ _ _ _ worked.started.loaded.loads ∙ set_up_specs (databases_of used worked.roots.conf)
 
   saves_done : outcome.end ≡ end.Done → AllDone saves
   saves_done done = subst AllDone (sym saves_are)
       (all_saved_then one.round.left.world.stock one.round.new.world.stock one.round.last one.round.finish one.round.answer.ended (comes_to_save one.round.answer.ended) commits
       (done_before one.round.answer.is_started one.round.left.world.links.child one.round.new.world.links.child one.round.finish one.round.how one.round.answer.status one.round.status one.is.awaits (sym one.how_is ∙ done)))
 
-  worked_keeps : KeepsDatabases settings.conf_path old.stock.files new.stock.files outcome.end saves
-  worked_keeps = keeps_by settings.conf_path old.stock.files new.stock.files outcome.end saves run_saves saves_of_databases saves_done
+  module _ (words : List (List ℕ)) (named : Names words used) where
+    saves_of_databases : AllByRecursion (λ save. AreOfConfiguration words old.stock.files.view.disk settings.conf_path save.layers) saves
+    saves_of_databases = subst (AllByRecursion (λ (save : Save). AreOfConfiguration words old.stock.files.view.disk settings.conf_path save.layers)) (sym saves_are)
+        (each_save one.round.left.world.stock one.round.new.world.stock one.round.last one.round.finish one.round.answer.ended (AreOfConfiguration words old.stock.files.view.disk settings.conf_path) (comes_to_save one.round.answer.ended) commits
+        (λ is. of_configuration words used named old.stock.files.view.disk settings.conf_path worked.roots.conf worked.started.loaded.conf_is.conf_is.conf_is one.round.left.world.stock.used (specs is)))
+
+    worked_keeps : KeepsDatabases words settings.conf_path old.stock.files new.stock.files outcome.end saves
+    worked_keeps = keeps_by words settings.conf_path old.stock.files new.stock.files outcome.end saves run_saves saves_of_databases saves_done
 
 -- ---- the whole run
 
 -- a run of a tool
-pub run_keeps : (used : Tool) (settings : Settings) (old new : World) (outcome : Outcome) (saves : List Save) → HasRunTool used settings old new outcome saves → KeepsDatabases settings.conf_path old.stock.files new.stock.files outcome.end saves
-run_keeps used settings old new outcome saves (inl ends) = none_kept settings.conf_path old.stock.files new.stock.files outcome.end saves ends.2 (before_reads settings.conf_path old.stock.files new.stock outcome.end ends.0)
-run_keeps used settings old new outcome saves (inr worked) = worked_keeps used settings old new outcome saves worked
+run_keeps : (words : List (List ℕ)) (used : Tool) → Names words used → (settings : Settings) (old new : World) (outcome : Outcome) (saves : List Save) → HasRunTool used settings old new outcome saves
+    → KeepsDatabases words settings.conf_path old.stock.files new.stock.files outcome.end saves
+run_keeps words used named settings old new outcome saves (inl ends) =
+    none_kept words settings.conf_path old.stock.files new.stock.files outcome.end saves ends.2 (before_reads used settings.conf_path old.stock.files new.stock outcome.end ends.0)
+run_keeps words used named settings old new outcome saves (inr worked) = worked_keeps used settings old new outcome saves worked words named
 
 -- a run with these words
-pub words_keep : (words : List (List ℕ)) (settings : Settings) (old new : World) (outcome : Outcome) (saves : List Save) → HasRunWords words settings old new outcome saves → KeepsDatabases settings.conf_path old.stock.files new.stock.files outcome.end saves
-words_keep words settings old new outcome saves (inl refused) = none_kept settings.conf_path old.stock.files new.stock.files outcome.end saves refused.1 (ap (λ (s : Stock). s.files.view.disk) refused.0.untouched)
-words_keep words settings old new outcome saves (inr ran) = run_keeps ran.0 settings old new outcome saves ran.2
+pub words_keep : (words : List (List ℕ)) (settings : Settings) (old new : World) (outcome : Outcome) (saves : List Save) → HasRunWords words settings old new outcome saves → KeepsDatabases words settings.conf_path old.stock.files new.stock.files outcome.end saves
+words_keep words settings old new outcome saves (inl refused) = none_kept words settings.conf_path old.stock.files new.stock.files outcome.end saves refused.1 (ap (λ (s : Stock). s.files.view.disk) refused.0.untouched)
+words_keep words settings old new outcome saves (inr ran) = run_keeps words ran.0 ran.1 settings old new outcome saves ran.2
 
 -- the saves alone changed the disk
 pub tool_saves : (used : Tool) (settings : Settings) (old new : World) (outcome : Outcome) (saves : List Save) → HasRunTool used settings old new outcome saves → AreSaves old.stock.files.view.disk saves new.stock.files.view.disk
-tool_saves used settings old new outcome saves ran = (run_keeps used settings old new outcome saves ran).are_saves
+tool_saves used settings old new outcome saves (inl ends) =
+    subst (λ (l : List Save). AreSaves old.stock.files.view.disk l new.stock.files.view.disk) (sym ends.2) (before_reads used settings.conf_path old.stock.files new.stock outcome.end ends.0)
+tool_saves used settings old new outcome saves (inr worked) = run_saves used settings old new outcome saves worked

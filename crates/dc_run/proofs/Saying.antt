@@ -1,8 +1,10 @@
 -- What is said in pieces, one after another.
-use Rattle.std.proofs.Common.{◌≡◌, ◌⊎◌, inl, inr, ℕ, ◌≤◌, List, [], ◌∷◌, ◌++◌, refl, ap, sym, subst, ◌∙◌, append_assoc, arith, Option, Result, Ok, Err}
+use Rattle.std.proofs.Common.{◌≡◌, ◌⊎◌, inl, inr, ℕ, ◌≤◌, List, [], ◌∷◌, ◌++◌, refl, ap, sym, subst, ◌∙◌, append_assoc, arith, drop, take, ◌-◌, get_or, length, Option, Result, Ok, Err}
+use Rattle.std.specs.Prelude.{codes}
+use Rattle.dc_text.specs.Ascii.{newline}
 use Rattle.std.specs.List.{flat_map}
 use Rattle.std.proofs.lemmas.Grind.{flat_map-append}
-use Rattle.std.proofs.lemmas.List.{append-nil}
+use Rattle.std.proofs.lemmas.List.{append-nil, take_all}
 use Rattle.dc_outside.proofs.Saying.{sent-append}
 use Rattle.dc_outside.specs.declared.link.LinkError.{LinkError}
 use Rattle.dc_outside.specs.declared.link.LinkError.TheVariants.{Failed, OutOfMemory}
@@ -14,6 +16,7 @@ use Rattle.dc_outside.specs.State.{LinkState}
 use Rattle.dc_outside.specs.Talk.{then_pieces, got, sent}
 use Rattle.dc_serve.proofs.Talks.{then_pieces-nil, then_pieces-then_pieces, got-append}
 use Rattle.dc_run.specs.EndLines.{HasRisen, IsSentInParts, HasSaid}
+use Rattle.dc_run.specs.Jobs.{refusal_lines}
 
 rose_same : (count : ℕ) → count ≤ count
 rose_same count = omega arith
@@ -109,3 +112,13 @@ five_said a b c d e l0 l1 l2 l3 l4 l5 first second third fourth fifth = three_sa
 -- three texts, the last of them with an end that stands apart
 pub three_said_joined : (a b c end : List ℕ) (l0 l1 l2 l3 : LinkState) → HasSaid a l0 l1 → HasSaid b l1 l2 → HasSaid (c ++ end) l2 l3 → HasSaid (a ++ b ++ c ++ end) l0 l3
 three_said_joined a b c end l0 l1 l2 l3 first second third = subst (λ (l : List ℕ). HasSaid l l0 l3) (sym (append_assoc (a ++ b) c end)) (three_said a b (c ++ end) l0 l1 l2 l3 first second third)
+
+-- the first of some items that were refused, and the others
+pub refused_said : (names rest : List (List ℕ)) (name : List ℕ) (old told ended new : LinkState) → 1 ≤ length names → name ≡ get_or names 0 name → rest ≡ take (length names - 1) (drop 1 names)
+    → HasSaid name old told → HasSaid (codes " can't be changed\n") told ended → HasSaid (refusal_lines rest) ended new → HasSaid (refusal_lines names) old new
+refused_said [] rest name old told ended new some is left first second later = absurd (omega arith)
+refused_said (one ∷ names) rest name old told ended new some is left first second later =
+    let line : HasSaid (name ++ codes " can't be changed\n") old ended = said_then name (codes " can't be changed\n") old told ended first second in
+    let all : HasSaid ((name ++ codes " can't be changed\n") ++ refusal_lines rest) old new = said_then (name ++ codes " can't be changed\n") (refusal_lines rest) old ended new line later in
+    subst (λ (t : List ℕ). HasSaid t old new)
+    ((λ i. (is i ++ codes " can't be changed\n") ++ refusal_lines ((left ∙ take_all (length (one ∷ names) - 1) names (omega arith)) i)) ∙ ap (λ (t : List ℕ). t ++ refusal_lines names) (sym (append_assoc one (codes " can't be changed") (newline ∷ [])))) all

@@ -1,5 +1,5 @@
 -- No command tells anything on standard error, so a session leaves it as it was.
-use Rattle.std.proofs.Common.{◌≡◌, inl, inr, List, [], ◌∷◌, ℕ, Option, Ok, Err, refl, ap, ◌∙◌}
+use Rattle.std.proofs.Common.{◌≡◌, inl, inr, List, [], ◌∷◌, ℕ, Option, Some, None, refl, ap, ◌∙◌}
 use Rattle.dc_words.specs.declared.stream.Line.{Line}
 use Rattle.dc_words.specs.declared.stream.Line.TheVariants.{Whole, TooLong}
 use Rattle.dc_outside.specs.State.{LinkState}
@@ -10,7 +10,6 @@ use Rattle.dc_proto.specs.declared.command.Heard.{Heard}
 use Rattle.dc_proto.specs.declared.command.Heard.TheVariants.{Nothing, Known, Refused}
 use Rattle.dc_serve.specs.Execution.{Transition, state_after, IsExecution}
 use Rattle.dc_serve.specs.LinkRun.{Answered}
-use Rattle.dc_serve.specs.declared.machine.Response.{Response}
 use Rattle.dc_serve.specs.declared.outcome.LinkEnd.{LinkEnd}
 use Rattle.dc_serve.specs.declared.outcome.LinkEnd.TheVariants as link
 use Rattle.dc_session.specs.Machine.{Handles, Aborts, Steps, StepsHeard, BreaksOff, BreaksIdle, BreaksHeard}
@@ -20,8 +19,10 @@ use Rattle.dc_session.specs.declared.stepped.StepError.{StepError}
 use Rattle.dc_session.specs.declared.stepped.StepError.TheVariants as step
 use Rattle.dc_session.specs.declared.stepped.Stepped.{Stepped}
 use Rattle.dc_cli.specs.declared.tool.Tool.{Tool}
-use Rattle.dc_cli.specs.declared.tool.Tool.TheVariants.{Communicate, LoadTemplate, Run}
-use Rattle.dc_run.specs.Jobs.{Uses}
+use Rattle.dc_cli.specs.declared.tool.Tool.TheVariants.{Communicate, LoadTemplate, Run, Show, CopyDb}
+use Rattle.dc_run.specs.Jobs.{CopiesBy, Uses}
+use Rattle.dc_run.specs.declared.starting.CopyRoots.{CopyRoots}
+use Rattle.dc_run.specs.declared.starting.Roots.{Roots}
 use Rattle.dc_run.specs.TemplateLoading.{FileTurn, IsFileCourse, EndsAt, state_after as file_state}
 use Rattle.dc_run.specs.World.{Links}
 use Rattle.dc_run.specs.declared.outcome.ToolAnswer.{ToolAnswer}
@@ -95,17 +96,24 @@ ends_silent tool.OutOfMemory state rest new ends = elim ends.3 [
 ]
 ends_silent tool.LinkFault state rest new ends = absurd ends
 ends_silent tool.TooLong state rest new ends = absurd ends
+ends_silent tool.PrintFault state rest new ends = absurd ends
 ends_silent tool.TermFault state rest new ends = absurd ends
 ends_silent tool.ChildFault state rest new ends = absurd ends
 
 -- ---- a tool
 
+copy_silent : (found : Option CopyRoots) (start : SessionState) (old new : Links) (before : ℕ) (given : ToolAnswer) (told : List ℕ) (left : Resources) → CopiesBy found start old new before given told left → left.err ≡ start.err
+copy_silent None start old new before given told left none = absurd none
+copy_silent (Some copy) start old new before given told left is = ap (λ (l : Resources). l.err) is.left_is
+
 -- its session tells nothing
-pub tool_silent : (used : Tool) (start : SessionState) (old new : Links) (before : ℕ) (given : ToolAnswer) (told : List ℕ) (left : Resources) → Uses used start old new before given told left → left.err ≡ start.err
-tool_silent (Communicate owner) start old new before given told left uses = served_silent start left old.io new.io uses.0.ended before given.last_code uses.0.served
-tool_silent (LoadTemplate owner paths) start old new before given told left uses =
+pub tool_silent : (used : Tool) (roots : Roots) (start : SessionState) (old new : Links) (before : ℕ) (given : ToolAnswer) (told : List ℕ) (left : Resources) → Uses used roots start old new before given told left → left.err ≡ start.err
+tool_silent (Communicate owner) roots start old new before given told left uses = served_silent start left old.io new.io uses.0.ended before given.last_code uses.0.served
+tool_silent (LoadTemplate owner paths) roots start old new before given told left uses =
     ap (λ (l : Resources). l.err) uses.left_is ∙ ends_silent given.ended (file_state start uses.loaded.turns) uses.loaded.rest uses.state uses.loaded.ends ∙ files_silent start uses.loaded.turns uses.loaded.course
-tool_silent (Run owner frontend priority command) start old new before given told left uses = elim uses.0 [
+tool_silent (Run owner frontend priority command) roots start old new before given told left uses = elim uses.0 [
   | inl none ↦ ap (λ (l : Resources). l.err) none.left_is
   | inr started ↦ served_silent start left started.mid new.child started.ended before given.last_code started.served
 ]
+tool_silent (Show database shown) roots start old new before given told left uses = ap (λ (l : Resources). l.err) uses.0.left_is
+tool_silent (CopyDb copy) roots start old new before given told left uses = copy_silent roots.copy start old new before given told left uses

@@ -1,100 +1,27 @@
--- What a configuration without faults keeps: at most sixteen databases, each in one file.
-use Rattle.std.proofs.Common.{◌≡◌, ℕ, zero, suc, take, drop, ◌+◌, ◌<◌, ◌≤◌, Bool, true, false, cond, not, List, [], ◌∷◌, ◌++◌, map as each, length, refl, sym, ap, subst, ◌∙◌, arith}
-use Rattle.std.specs.Prelude.{nat_le, Result, Ok, Err, IfOk}
-use Rattle.std.specs.List.{AllByRecursion, filter, list_any}
-use Rattle.std.proofs.lemmas.Bool.Decides.{nat_tests}
-use Rattle.std.proofs.lemmas.List.{length-map, length-append}
-use Rattle.dc_conf.specs.declared.faults.Fault.{Fault}
-use Rattle.dc_conf.specs.declared.faults.ConfKind.TheVariants.{TooMany}
-use Rattle.dc_conf.specs.declared.spec.LayerSort.TheVariants.{File}
-use Rattle.dc_conf.specs.declared.spec.LayerSpec.{LayerSpec}
-use Rattle.dc_conf.specs.Stanzas.{Stanza, stanzas, fields_of, first_line}
-use Rattle.dc_conf.specs.ConfFaults.{fault_if, along, missing, lacks_field, rules_in, unknown_driver, bad_values, is_stack, repeated_name, same_place, lone_faults, database_faults, head_faults, second_pass}
-use Rattle.dc_conf.specs.declared.faults.ConfKind.TheVariants.{NoName, NoDriver, MissingField}
-use Rattle.std.specs.Prelude.{codes}
-use Rattle.dc_conf.specs.Configuration.{Configuration, IsAnswer, IsResolved, configuration, spec_of, reached, holders_of, is_among, plan_of, AreDisjoint}
-use Rattle.dc_conf.specs.declared.plans.ResolveError.{ResolveError}
-use Rattle.dc_conf.specs.declared.plans.Resolved.{Resolved}
-use Rattle.dc_conf.proofs.CleanLemmas.{no_fault}
-use Rattle.dc_conf.proofs.TestLemmas.{nil-append}
-use Rattle.dc_shelf.specs.Shelves.{all_patterns, all_set_up, LoadsAll}
-use Rattle.dc_run.specs.Starting.{IsSomeConfiguration, databases_of, roots, conf_read, IsConfiguration, HasReadConf, HasLoaded}
-use Rattle.dc_outside.specs.State.{FilesState}
-use Rattle.dc_conf.specs.declared.plans.Plan.{Plan}
-use Rattle.dc_conf.specs.Plans.{IsOver, are_disjoint}
-use Rattle.dc_layer.specs.State.{LayerState}
+-- What a run does before its tool.
+use Rattle.std.proofs.Common.{◌≡◌, ℕ, zero, suc, take, drop, ◌++◌, true, List, [], ◌∷◌, map as each, length, Option, Ok, refl, sym, ap, subst, ◌∙◌, inl, inr, arith}
+use Rattle.std.specs.Prelude.{Result}
+use Rattle.std.specs.List.{AllByRecursion}
 use Rattle.dc_outside.specs.Counts.{Counts}
-use Rattle.dc_outside.specs.State.{FilesView}
+use Rattle.dc_outside.specs.Disk.{Disk}
+use Rattle.dc_outside.specs.State.{FilesState, FilesView}
+use Rattle.dc_conf.specs.Configuration.{Configuration}
+use Rattle.dc_conf.specs.Plans.{IsOver, are_disjoint}
+use Rattle.dc_conf.specs.declared.plans.Plan.{Plan}
+use Rattle.dc_conf.specs.declared.plans.Resolved.{Resolved}
+use Rattle.dc_conf.specs.declared.spec.LayerSpec.{LayerSpec}
+use Rattle.dc_layer.specs.Patterns.{Sought}
+use Rattle.dc_layer.specs.State.{LayerState}
 use Rattle.dc_save.specs.declared.loading.LoadError.{LoadError}
-
--- ---- how many there are
-
-not_sixteen : (count : ℕ) → nat_le 16 count ≡ false → count < 16
-not_sixteen count is = grind (arith, nat_tests)
-
--- a database without faults stands behind fewer than sixteen others
-fewer_before : (before : List Stanza) (s : Stanza) → database_faults before s ≡ [] → length before < 16
-fewer_before before s e =
-    let many : List Fault = fault_if (nat_le 16 (length before)) (first_line s) TooMany in
-    let unnamed : List Fault = missing (codes "name") s NoName in
-    let undriven : List Fault = missing (codes "driver") s NoDriver in
-    let lacking : List Fault = fault_if (lacks_field (rules_in s) s) (first_line s) MissingField in
-    let all = nil-append (lone_faults (length before) s ++ repeated_name before s) (same_place before s) e in
-    let lone = nil-append (lone_faults (length before) s) (repeated_name before s) all.0 in
-    let five = nil-append (many ++ unnamed ++ undriven ++ lacking ++ unknown_driver s) (bad_values s) lone.0 in
-    let four = nil-append (many ++ unnamed ++ undriven ++ lacking) (unknown_driver s) five.0 in
-    let three = nil-append (many ++ unnamed ++ undriven) lacking four.0 in
-    let two = nil-append (many ++ unnamed) undriven three.0 in
-    let one = nil-append many unnamed two.0 in
-    not_sixteen (length before) (no_fault (nat_le 16 (length before)) (first_line s) TooMany one.0)
-
-few_along : (before databases : List Stanza) → length before ≤ 16 → along database_faults before databases ≡ [] → length before + length databases ≤ 16
-few_along before [] few none = omega arith
-few_along before (s ∷ databases) few none =
-    let parts = nil-append (database_faults before s) (along database_faults (before ++ s ∷ []) databases) none in
-    let less : length before < 16 = fewer_before before s parts.0 in
-    let count : length (before ++ s ∷ []) ≡ length before + 1 = length-append before (s ∷ []) in
-    let later : length (before ++ s ∷ []) + length databases ≤ 16 = few_along (before ++ s ∷ []) databases (omega arith) parts.1 in
-    omega arith
-
-less_by : {X : Type 0} (b : Bool) (x : X) (kept : List X) (count : ℕ) → length kept ≤ count → length (cond b (x ∷ kept) kept) ≤ count + 1
-less_by true x kept count less = omega arith
-less_by false x kept count less = omega arith
-
--- a filter keeps at most as many
-kept_less : {X : Type 0} (p : X → Bool) (xs : List X) → length (filter p xs) ≤ length xs
-kept_less p [] = omega arith
-kept_less p (x ∷ xs) = let less = less_by (p x) x (filter p xs) (length xs) (kept_less p xs) in omega arith
-
-few_specs : (all : List Stanza) → second_pass all ≡ [] → length (configuration all).specs ≤ 16
-few_specs [] none = omega arith
-few_specs (head ∷ databases) none =
-    let parts = nil-append (head_faults head) (along database_faults [] databases) none in
-    let few : 0 + length databases ≤ 16 = few_along [] databases (omega arith) parts.1 in
-    let kept : length (filter (λ stanza. not (is_stack stanza)) databases) ≤ length databases = kept_less (λ stanza. not (is_stack stanza)) databases in
-    let same : length (each spec_of (filter (λ stanza. not (is_stack stanza)) databases)) ≡ length (filter (λ stanza. not (is_stack stanza)) databases) = length-map (filter (λ stanza. not (is_stack stanza)) databases) spec_of in
-    omega arith
-
--- at most sixteen databases are reached
-pub few_reached : (text : List ℕ) (conf : Configuration) (roots : List (List ℕ)) → IsAnswer text (Ok conf) → length (reached conf roots) ≤ 16
-few_reached text conf roots answer =
-    let few : length (configuration (each fields_of (stanzas text))).specs ≤ 16 = few_specs (each fields_of (stanzas text)) answer.0.1.0 in
-    let all : length conf.specs ≤ 16 = subst (λ (c : Configuration). length c.specs ≤ 16) (sym answer.1) few in
-    let kept : length (reached conf roots) ≤ length conf.specs = kept_less (λ spec. list_any (λ root. is_among (holders_of conf root) spec.name) roots) conf.specs in
-    omega arith
-
--- ---- what resolving the two roots answers
-
-pub plans_resolved : (conf : Configuration) (all : List (List ℕ)) (result : Result Resolved ResolveError) → all ≡ roots conf → IsResolved conf all result
-    → IfOk result (λ resolved. resolved.plans ≡ plan_of conf (databases_of conf) conf.config ∷ plan_of conf (databases_of conf) conf.templates ∷ [])
-plans_resolved conf all (Ok resolved) are answer = answer.2 ∙ ap (λ (names : List (List ℕ)). each (plan_of conf (reached conf names)) names) are
-plans_resolved conf all (Err error) are answer = tt
-
-pub few_resolved : (conf : Configuration) (all : List (List ℕ)) (result : Result Resolved ResolveError) → IsSomeConfiguration conf → IsResolved conf all result → IfOk result (λ resolved. length resolved.specs ≤ 16)
-few_resolved conf all (Ok resolved) some answer = subst (λ (specs : List LayerSpec). length specs ≤ 16) (sym answer.1) (few_reached some.0 conf all some.1)
-few_resolved conf all (Err error) some answer = tt
-
--- ---- what is loaded
+use Rattle.dc_shelf.specs.Shelves.{LoadsAll, all_patterns, all_set_up}
+use Rattle.dc_cli.specs.declared.tool.Tool.{Tool}
+use Rattle.dc_cli.specs.declared.tool.Tool.TheVariants.{Communicate, LoadTemplate, Run, Show, CopyDb}
+use Rattle.dc_run.specs.Inside.{AreApartIn, ArePatternsOf, IsResolvedFor, IsUnbuilt, copy_by}
+use Rattle.dc_run.specs.Starting.{AreApart, EndsBefore, HasLoaded, HasReadConf, HasStarted, IsConfiguration, IsCopyOver, IsFit, are_patterns, conf_read, copy_roots, databases_of, pattern_words, plan_in, roots, source_of}
+use Rattle.dc_run.specs.World.{stock_of}
+use Rattle.dc_run.specs.declared.outcome.End.{End}
+use Rattle.dc_run.specs.declared.starting.CopyRoots.{CopyRoots}
+use Rattle.dc_run.specs.declared.starting.Roots.{Roots}
 
 -- a vector that was changed as a slice
 pub whole_slice : {A : Type 0} (new old : List A) (count : ℕ) → count ≡ length old → length new ≡ length old → take count (new ++ drop (length new) old) ≡ new
@@ -105,31 +32,95 @@ whole_slice (x ∷ new) [] count same long = absurd (omega arith)
 whole_slice (x ∷ new) (y ∷ old) zero same long = absurd (omega arith)
 whole_slice (x ∷ new) (y ∷ old) (suc count) same long = ap (λ (l : List _). x ∷ l) (whole_slice new old count (omega arith) (omega arith))
 
-module _ (path : List ℕ) (conf : Configuration) (old mid files : FilesState) (specs : List LayerSpec) (set made used : List LayerState) (result : Result (Unit {0}) LoadError) where
+-- ---- what is loaded
+
+-- the configuration of a tool whose words are right
+pub fit : (used : Tool) (disk : Option Disk) (path : List ℕ) (conf : Configuration) (resolved : Resolved) → IsConfiguration used disk path conf → IsResolvedFor used conf resolved → are_patterns (pattern_words used) ≡ true → IsFit used disk path conf
+fit used disk path conf resolved conf_is is patterns = record { conf_is = record { conf_is = conf_is; databases = is.right }; patterns = patterns }
+
+module _ (used : Tool) (path : List ℕ) (conf : Configuration) (old mid files : FilesState) (specs : List LayerSpec) (set made : List LayerState) (result : Result (Unit {0}) LoadError) where
   -- the layers of a configuration were loaded
-  pub loaded_by : IsConfiguration old.view.disk path conf → HasReadConf path old mid → specs ≡ databases_of conf → all_patterns specs ≡ true → set ≡ all_set_up specs → LoadsAll specs set made mid.view files.view mid.counts files.counts result → used ≡ made
-      → HasLoaded path conf old (record { files = files; used = used }) result
-  loaded_by conf_is read are built set_is loads used_is =
+  pub loaded_by : IsFit used old.view.disk path conf → HasReadConf path old mid → specs ≡ databases_of used conf → all_patterns specs ≡ true → set ≡ all_set_up specs → LoadsAll specs set made mid.view files.view mid.counts files.counts result
+      → HasLoaded used path conf old (stock_of files made) result
+  loaded_by conf_is read are built set_is loads =
       let after_set : LoadsAll specs (all_set_up specs) made mid.view files.view mid.counts files.counts result = subst (λ (l : List LayerState). LoadsAll specs l made mid.view files.view mid.counts files.counts result) set_is loads in
-      let of_conf : LoadsAll (databases_of conf) (all_set_up (databases_of conf)) made mid.view files.view mid.counts files.counts result = subst (λ (s : List LayerSpec). LoadsAll s (all_set_up s) made mid.view files.view mid.counts files.counts result) are after_set in
-      let from : LoadsAll (databases_of conf) (all_set_up (databases_of conf)) made (conf_read old.view path) files.view mid.counts files.counts result = subst (λ (t : FilesView). LoadsAll (databases_of conf) (all_set_up (databases_of conf)) made t files.view mid.counts files.counts result) read.files_are of_conf in
-      let counted : LoadsAll (databases_of conf) (all_set_up (databases_of conf)) made (conf_read old.view path) files.view old.counts files.counts result = subst (λ (n : Counts). LoadsAll (databases_of conf) (all_set_up (databases_of conf)) made (conf_read old.view path) files.view n files.counts result) read.counts from in
-      record { conf_is = conf_is; patterns = subst (λ (s : List LayerSpec). all_patterns s ≡ true) are built; loads = subst (λ (l : List LayerState). LoadsAll (databases_of conf) (all_set_up (databases_of conf)) l (conf_read old.view path) files.view old.counts files.counts result) (sym used_is) counted }
+      let of_conf : LoadsAll (databases_of used conf) (all_set_up (databases_of used conf)) made mid.view files.view mid.counts files.counts result = subst (λ (s : List LayerSpec). LoadsAll s (all_set_up s) made mid.view files.view mid.counts files.counts result) are after_set in
+      let from : LoadsAll (databases_of used conf) (all_set_up (databases_of used conf)) made (conf_read old.view path) files.view mid.counts files.counts result = subst (λ (t : FilesView). LoadsAll (databases_of used conf) (all_set_up (databases_of used conf)) made t files.view mid.counts files.counts result) read.files_are of_conf in
+      record {
+        conf_is = conf_is;
+        patterns = subst (λ (s : List LayerSpec). all_patterns s ≡ true) are built;
+        loads = subst (λ (n : Counts). LoadsAll (databases_of used conf) (all_set_up (databases_of used conf)) made (conf_read old.view path) files.view n files.counts result) read.counts from;
+      }
 
--- the two plans are those of the roots
-pub both_plans : (conf : Configuration) (plans : List Plan) (config templates : Plan) → plans ≡ plan_of conf (databases_of conf) conf.config ∷ plan_of conf (databases_of conf) conf.templates ∷ [] → plans ≡ config ∷ templates ∷ []
-    → (config ≡ plan_of conf (databases_of conf) conf.config) × (templates ≡ plan_of conf (databases_of conf) conf.templates)
-both_plans conf plans config templates are both =
-    let same : config ∷ templates ∷ [] ≡ plan_of conf (databases_of conf) conf.config ∷ plan_of conf (databases_of conf) conf.templates ∷ [] = sym both ∙ are in
-    (cc, cc)
+-- ---- the ends before the tool
 
-both_over : (plans : List Plan) (config templates : Plan) (count : ℕ) → plans ≡ config ∷ templates ∷ [] → AllByRecursion (λ plan. IsOver plan count) plans → IsOver config count × IsOver templates count
-both_over plans config templates count are over = let both = subst (AllByRecursion (λ plan. IsOver plan count)) are over in (both.0, both.1.0)
+module _ (used : Tool) (path : List ℕ) (conf : Configuration) (old mid : FilesState) (layers : List LayerState) (how : End) where
+  -- a word isn't built
+  pub unbuilt_ends : (resolved : Resolved) → IsConfiguration used old.view.disk path conf → HasReadConf path old mid → IsResolvedFor used conf resolved → IsUnbuilt (pattern_words used) how → EndsBefore used path old (stock_of mid layers) how
+  unbuilt_ends resolved conf_is read is (inl e) = inl (record { end_is = e; begun = inr read })
+  unbuilt_ends resolved conf_is read is (inr at) = inr (inr (inr (inr (inl (record {
+    error = at.error;
+    before = at.before;
+    word = at.word;
+    after = at.after;
+    end_is = at.end_is;
+    conf = conf;
+    conf_is = record { conf_is = conf_is; databases = is.right };
+    words_are = at.words_are;
+    built = at.built;
+    refused = at.refused;
+    read = read;
+  })))))
 
--- they speak of the layers that are used
-pub over_used : (plans : List Plan) (config templates : Plan) (count used : ℕ) → plans ≡ config ∷ templates ∷ [] → AllByRecursion (λ plan. IsOver plan count) plans → used ≡ count → IsOver config used × IsOver templates used
-over_used plans config templates count used are over same = subst (λ (n : ℕ). IsOver config n × IsOver templates n) (sym same) (both_over plans config templates count are over)
+-- ---- what a tool takes from the configuration
 
--- they share no database
-pub both_disjoint : (plans : List Plan) (config templates : Plan) → plans ≡ config ∷ templates ∷ [] → AreDisjoint plans → are_disjoint config templates ≡ true
-both_disjoint plans config templates are apart = subst AreDisjoint are apart
+-- what is copied by the patterns of a tool
+copied : (used : Tool) (conf : Configuration) (by_name by_owner : Option Sought) → ArePatternsOf used by_name by_owner → copy_by used conf by_name by_owner ≡ copy_roots used conf
+copied (Communicate owner) conf by_name by_owner are = refl
+copied (LoadTemplate owner paths) conf by_name by_owner are = refl
+copied (Run owner frontend priority command) conf by_name by_owner are = refl
+copied (Show database shown) conf by_name by_owner are = refl
+copied (CopyDb copy) conf by_name by_owner are = cc
+
+-- the roots of a tool, by these patterns
+pub record AreRootsOf (used : Tool) (conf : Configuration) (by_name by_owner : Option Sought) (taken : Roots) : Type 0 where
+  pub conf_is : taken.conf ≡ conf
+  pub config_is : taken.config ≡ plan_in used conf (source_of used conf)
+  pub templates_is : taken.templates ≡ plan_in used conf conf.templates
+  pub copy_is : taken.copy ≡ copy_by used conf by_name by_owner
+
+pub started : (used : Tool) (path : List ℕ) (conf : Configuration) (old files : FilesState) (layers : List LayerState) (by_name by_owner : Option Sought) (taken : Roots) → ArePatternsOf used by_name by_owner → AreRootsOf used conf by_name by_owner taken
+    → HasLoaded used path conf old (stock_of files layers) (Ok tt) → HasStarted used path old (stock_of files layers) taken
+started used path conf old files layers by_name by_owner taken patterns are loaded =
+    let copy_is : taken.copy ≡ copy_roots used conf = are.copy_is ∙ copied used conf by_name by_owner patterns in
+    record {
+      loaded = subst (λ found. HasLoaded used path found old (stock_of files layers) (Ok tt)) (sym are.conf_is) loaded;
+      config_is = subst (λ found. taken.config ≡ plan_in used found (source_of used found)) (sym are.conf_is) are.config_is;
+      templates_is = subst (λ found. taken.templates ≡ plan_in used found found.templates) (sym are.conf_is) are.templates_is;
+      copy_is = subst (λ found. taken.copy ≡ copy_roots used found) (sym are.conf_is) copy_is;
+    }
+
+abbrev AllOver : Tool → Configuration → ℕ → Type 0
+AllOver used conf count = AllByRecursion (λ plan. IsOver plan count) (each (plan_in used conf) (roots used conf))
+
+all_over : (used : Tool) (conf : Configuration) (resolved : Resolved) (count : ℕ) → IsResolvedFor used conf resolved → count ≡ length resolved.specs → AllOver used conf count
+all_over used conf resolved count is same =
+    subst (λ plans. AllByRecursion (λ plan. IsOver plan count) plans) is.plans_are (subst (λ n. AllByRecursion (λ plan. IsOver plan n) resolved.plans) (sym same) is.over)
+
+same_disjoint : (one other two more : Plan) → one ≡ two → other ≡ more → are_disjoint two more ≡ true → are_disjoint one other ≡ true
+same_disjoint one other two more first second apart = ap (λ plan. are_disjoint plan other) first ∙ ap (λ plan. are_disjoint two plan) second ∙ apart
+
+apart_by : (used : Tool) (conf : Configuration) (by_name by_owner : Option Sought) (taken : Roots) (count : ℕ) → AreRootsOf used conf by_name by_owner taken → AllOver used conf count
+    → AreApartIn used (each (plan_in used conf) (roots used conf)) → AreApart used taken count
+apart_by (Communicate owner) conf by_name by_owner taken count are over apart = same_disjoint _ _ _ _ are.config_is are.templates_is apart
+apart_by (LoadTemplate owner paths) conf by_name by_owner taken count are over apart = same_disjoint _ _ _ _ are.config_is are.templates_is apart
+apart_by (Run owner frontend priority command) conf by_name by_owner taken count are over apart = same_disjoint _ _ _ _ are.config_is are.templates_is apart
+apart_by (Show database shown) conf by_name by_owner taken count are over apart = tt
+apart_by (CopyDb copy) conf by_name by_owner taken count are over apart =
+    subst (λ (made : Option CopyRoots). IsCopyOver made taken.config count) (sym are.copy_is)
+    (over.1.1.0, ap (λ plan. are_disjoint plan (plan_in (CopyDb copy) conf copy.dest.word)) are.config_is ∙ apart)
+
+pub apart_used : (used : Tool) (conf : Configuration) (resolved : Resolved) (by_name by_owner : Option Sought) (taken : Roots) (count : ℕ) → AreRootsOf used conf by_name by_owner taken → IsResolvedFor used conf resolved
+    → count ≡ length resolved.specs → AreApart used taken count
+apart_used used conf resolved by_name by_owner taken count are is same =
+    apart_by used conf by_name by_owner taken count are (all_over used conf resolved count is same) (subst (AreApartIn used) is.plans_are is.apart)

@@ -1,31 +1,22 @@
 -- What is said at once of a run of a tool, which is one round.
-use Rattle.std.proofs.Common.{◌≡◌, ◌≢◌, ℕ, Bool, true, false, List, [], ◌∷◌, ◌++◌, refl, sym, ap, subst, ◌∙◌, max, arith, map as each}
-use Rattle.std.specs.Prelude.{Result, Ok, Err, MatchResult}
-use Rattle.std.proofs.lemmas.List.{append-nil}
-use Rattle.dc_layer.specs.State.{LayerState, saved}
-use Rattle.dc_save.specs.Saving.{Saves, SaveCounts}
-use Rattle.dc_save.specs.declared.saving.SaveError.{SaveError}
-use Rattle.dc_outside.specs.State.{FilesState, LinkState}
+use Rattle.std.proofs.Common.{◌≡◌, ℕ, List, [], ◌++◌, sym, ap, subst, ◌∙◌}
+use Rattle.dc_outside.specs.State.{LinkState}
 use Rattle.dc_run.specs.declared.outcome.End.{End}
-use Rattle.dc_run.specs.declared.outcome.End.TheVariants.{Done}
 use Rattle.dc_run.specs.declared.outcome.Outcome.{Outcome}
 use Rattle.dc_run.specs.declared.outcome.ToolAnswer.{ToolAnswer}
-use Rattle.dc_run.specs.declared.outcome.ToolEnd.{ToolEnd}
-use Rattle.dc_run.specs.declared.outcome.ToolEnd.TheVariants as tool
 use Rattle.dc_run.specs.declared.settings.Settings.{Settings}
 use Rattle.dc_run.specs.declared.starting.Roots.{Roots}
 use Rattle.dc_cli.specs.declared.tool.Tool.{Tool}
 use Rattle.dc_run.specs.EndLines.{end_line, HasSaid}
-use Rattle.dc_run.specs.Ends.{status_of, end_by, comes_to_save}
+use Rattle.dc_run.specs.Ends.{status_of, comes_to_save}
 use Rattle.dc_run.specs.Finishing.{Finishes}
 use Rattle.dc_run.specs.Headline.{HasWorked}
 use Rattle.dc_run.specs.OneRound.{HasUsed}
-use Rattle.dc_run.specs.Rounds.{Job, Whole, Round, HasDone, Works, IsRound, AreRounds, HaveRounds, HasDoneJobs, FindsJobs, DoesFound, IsOneRound, is_saved_at, report, status_by, jobs_done, state_after, end_after, status_in, saves_of}
+use Rattle.dc_run.specs.Rounds.{Job, Whole, Round, HasDone, Works, IsRound, is_saved_at, report}
 use Rattle.dc_run.specs.Running.{Awaits}
-use Rattle.dc_run.specs.Saves.{Save, HasSaved, HasNotSaved, Commits, kept_by}
+use Rattle.dc_run.specs.Saves.{Save, Commits}
 use Rattle.dc_run.specs.Starting.{HasStarted, begun}
 use Rattle.dc_run.specs.World.{Stock, World, RunState, before_rounds}
-use Rattle.dc_run.proofs.FinishLemmas.{finished}
 use Rattle.dc_run.proofs.Saying.{said_then}
 use Rattle.dc_run.proofs.RoundLemmas.{finishes, one_round, jobs_had}
 use Rattle.dc_run.proofs.SilentLemmas.{tool_silent}
@@ -47,7 +38,7 @@ module _ (used : Tool) (settings : Settings) (roots : Roots) (old : World) (mid 
     told : HasSaid [] left.world.err after.world.err
     told = subst (λ (j : Job). HasSaid (report j how status) left.world.err after.world.err) job_is is.told
 
-    pub used_once : (outcome : Outcome) (new : World) → HasStarted settings.conf_path old.stock.files mid roots → outcome.end ≡ how → HasSaid (end_line outcome.end) after.world.err new.err → new ≡ record after.world { err = new.err }
+    pub used_once : (outcome : Outcome) (new : World) → HasStarted used settings.conf_path old.stock.files mid roots → outcome.end ≡ how → HasSaid (end_line outcome.end) after.world.err new.err → new ≡ record after.world { err = new.err }
         → outcome.last_code ≡ after.code → outcome.status ≡ status_of outcome.end status → HasUsed used settings old new outcome
     used_once outcome new started end_is said rest code_is status_is =
         let behind = said_then [] (end_line outcome.end) left.world.err after.world.err new.err told said in
@@ -68,7 +59,7 @@ module _ (used : Tool) (settings : Settings) (roots : Roots) (old : World) (mid 
           awaits = subst (λ (h : End). Awaits given.is_started left.world.links.child new.links.child finish h given.status status) (sym end_is)
               (subst (λ (l : LinkState). Awaits given.is_started left.world.links.child l finish how given.status status) (sym (ap (λ (w : World). w.links.child) rest)) is.awaits);
           said = subst (λ (l : LinkState). HasSaid (works.told ++ end_line outcome.end) l new.err)
-              (tool_silent used (begun used start roots settings) start.world.links left.world.links 0 given works.told works.left works.uses)
+              (tool_silent used roots (begun used start roots settings) start.world.links left.world.links 0 given works.told works.left works.uses)
               (said_then works.told (end_line outcome.end) works.left.err left.world.err new.err works.said behind);
           code_is = code_is ∙ is.code_is ∙ works.code_is;
           status_is = status_is;

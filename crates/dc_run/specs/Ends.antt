@@ -18,6 +18,7 @@ use Rattle.dc_run.specs.declared.outcome.End.{End}
 use Rattle.dc_run.specs.declared.outcome.End.TheVariants as end
 use Rattle.dc_run.specs.declared.outcome.ToolEnd.{ToolEnd}
 use Rattle.dc_run.specs.declared.outcome.ToolEnd.TheVariants as tool
+use Rattle.dc_run.specs.declared.outcome.PatternAt.{PatternAt}
 use Rattle.dc_run.specs.declared.outcome.PatternAt.TheVariants.{Database}
 use Rattle.dc_run.specs.World.{Links}
 use Rattle.dc_shelf.specs.declared.shelf.NotSetUp.{NotSetUp}
@@ -42,14 +43,15 @@ abbrev pub end_of_conf : ConfError → End
 end_of_conf (conf.Refused line kind) = end.ConfRefused line kind
 end_of_conf conf.OutOfMemory = end.OutOfMemory
 
-abbrev pub end_of_pattern : ℕ → PatternError → End
-end_of_pattern place pattern.Bad = end.BadPattern (Database place)
-end_of_pattern place pattern.TooLarge = end.PatternTooLarge (Database place)
-end_of_pattern place pattern.OutOfMemory = end.OutOfMemory
+-- the end of a run of which a pattern isn't built
+abbrev pub end_of_pattern : PatternAt → PatternError → End
+end_of_pattern at pattern.Bad = end.BadPattern at
+end_of_pattern at pattern.TooLarge = end.PatternTooLarge at
+end_of_pattern at pattern.OutOfMemory = end.OutOfMemory
 
 -- the end of a run of which a layer isn't set up
 abbrev pub end_of_patterns : NotSetUp → End
-end_of_patterns refused = end_of_pattern refused.place refused.error
+end_of_patterns refused = end_of_pattern (Database refused.place) refused.error
 
 -- the end of a run of which a layer isn't loaded
 abbrev pub end_of_load : LoadError → End
@@ -70,6 +72,7 @@ tool_end_of (link.Broken step.OutOfMemory) = tool.OutOfMemory
 abbrev pub end_of : ToolEnd → End
 end_of tool.Done = end.Done
 end_of tool.LinkFault = end.LinkFault
+end_of tool.PrintFault = end.LinkFault
 end_of tool.TermFault = end.TermFault
 end_of tool.ChildFault = end.ChildFault
 end_of tool.TooLong = end.TooLong
@@ -93,6 +96,7 @@ abbrev pub comes_to_save : ToolEnd → Bool
 comes_to_save tool.Done = true
 comes_to_save tool.LinkFault = true
 comes_to_save tool.TooLong = true
+comes_to_save tool.PrintFault = false
 comes_to_save tool.TermFault = false
 comes_to_save tool.ChildFault = false
 comes_to_save tool.OutOfMemory = false
@@ -103,6 +107,7 @@ abbrev pub IsEnded : ToolEnd → Type 0
 IsEnded tool.Done = Unit {0}
 IsEnded tool.LinkFault = Unit {0}
 IsEnded tool.TooLong = Unit {0}
+IsEnded tool.PrintFault = ⊥
 IsEnded tool.TermFault = ⊥
 IsEnded tool.ChildFault = ⊥
 IsEnded tool.OutOfMemory = ⊥

@@ -47,6 +47,7 @@ pub record IsBrokenOff (layers used : List LayerState) (files new : FilesState) 
 -- what finishing does after these layers and files of a tool that ended so: the end of the run, the layers that are used, and the files
 abbrev pub Finishes : List LayerState → List LayerState → ToolEnd → FilesState → FilesState → End → Type 0
 Finishes layers used tool.OutOfMemory files new how = IsBrokenOff layers used files new tool.OutOfMemory how
+Finishes layers used tool.PrintFault files new how = IsBrokenOff layers used files new tool.PrintFault how
 Finishes layers used tool.TermFault files new how = IsBrokenOff layers used files new tool.TermFault how
 Finishes layers used tool.ChildFault files new how = IsBrokenOff layers used files new tool.ChildFault how
 Finishes layers used (tool.FilesFault path) files new how = IsBrokenOff layers used files new (tool.FilesFault path) how

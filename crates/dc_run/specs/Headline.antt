@@ -30,7 +30,7 @@ pub record IsSilent (old new : World) (outcome : Outcome) : Type 0 where
 pub record HasWorked (tool : Tool) (settings : Settings) (old new : World) (outcome : Outcome) (saves : List Save) : Type 0 where
   pub mid : World
   pub roots : Roots
-  pub started : HasStarted settings.conf_path old.stock.files mid.stock roots
+  pub started : HasStarted tool settings.conf_path old.stock.files mid.stock roots
   pub mid_is : mid ≡ record old { stock = mid.stock }
   pub left : RunState
   pub status : ℕ
@@ -43,7 +43,7 @@ pub record HasWorked (tool : Tool) (settings : Settings) (old new : World) (outc
 -- a run of a tool under these settings, with the saves that it began
 abbrev pub HasRunTool : Tool → Settings → World → World → Outcome → List Save → Type 0
 HasRunTool tool settings old new outcome saves =
-    (EndsBefore settings.conf_path old.stock.files new.stock outcome.end × IsSilent old new outcome × (saves ≡ [])) ⊎ HasWorked tool settings old new outcome saves
+    (EndsBefore tool settings.conf_path old.stock.files new.stock outcome.end × IsSilent old new outcome × (saves ≡ [])) ⊎ HasWorked tool settings old new outcome saves
 
 -- ---- the program
 
@@ -66,7 +66,7 @@ pub record IsRun (words : List (List ℕ)) (settings : Settings) (old new : Worl
   pub ran : HasRunWords words settings old new outcome saves
   pub links_count : LinksCount outcome.end old.links new.links
   pub program_counts : ProgramCounts outcome.end old.links.child.program.failures new.links.child.program.failures
-  pub keeps : KeepsDatabases settings.conf_path old.stock.files new.stock.files outcome.end saves
+  pub keeps : KeepsDatabases words settings.conf_path old.stock.files new.stock.files outcome.end saves
 
 -- A run of the program over layers of its own, of which none was in use: it ended so, whatever it left in them, and this is its exit status.
 pub record IsProgramRun (words : List (List ℕ)) (settings : Settings) (old : World) (links : Links) (err : LinkState) (files : FilesState) (status : ℕ) : Type 0 where

@@ -1,6 +1,16 @@
 -- What the inner functions of a run promise. No public clause cites these.
-use Rattle.std.specs.Prelude.{◌≡◌, ℕ, Bool, true, false, List, [], ◌∷◌, ◌++◌, ◌<◌, length, Option, Some, None, is_some, Result, Ok, Err, codes, decimal, if◌then◌else◌}
+use Rattle.std.specs.Prelude.{◌≡◌, ◌⊎◌, ℕ, ◌==◌, nat_lt, Bool, true, false, List, [], ◌∷◌, ◌++◌, ◌<◌, ◌≤◌, length, map as each, Option, Some, None, is_some, option_map, Result, Ok, Err, codes, decimal, if◌then◌else◌}
 use Rattle.std.specs.Option.{option_map_or}
+use Rattle.std.specs.List.{AllByRecursion, flat_map}
+use Rattle.dc_conf.specs.Configuration.{AreDisjoint, Configuration}
+use Rattle.dc_conf.specs.Plans.{IsOver, are_disjoint}
+use Rattle.dc_conf.specs.declared.plans.Plan.{Plan}
+use Rattle.dc_conf.specs.declared.plans.Resolved.{Resolved}
+use Rattle.dc_layer.specs.Patterns.{Sought}
+use Rattle.dc_layer.specs.declared.pattern.PatternError.{PatternError}
+use Rattle.dc_store.specs.StoreLaws.{AreSameButAll}
+use Rattle.dc_tools.specs.Copying.{Copying}
+use Rattle.dc_tools.specs.Showing.{owner_text}
 use Rattle.dc_text.specs.Ascii.{newline}
 use Rattle.dc_layer.specs.State.{LayerState}
 use Rattle.dc_question.specs.Questions.{QuestionContext}
@@ -12,7 +22,7 @@ use Rattle.dc_session.specs.SessionState.{SessionState}
 use Rattle.dc_session.specs.declared.asking.Asking.{Asking}
 use Rattle.dc_session.specs.declared.policy.AskPolicy.{AskPolicy}
 use Rattle.dc_session.specs.declared.stepped.StepError.{StepError}
-use Rattle.dc_store.specs.Plans.{stored}
+use Rattle.dc_store.specs.Plans.{names, stored}
 use Rattle.dc_session.specs.declared.template_loading.FileEnd.{FileEnd}
 use Rattle.dc_session.specs.declared.template_loading.FileEnd.TheVariants as file
 use Rattle.dc_run.specs.declared.loading_templates.FilesLoaded.{FilesLoaded}
@@ -20,9 +30,18 @@ use Rattle.dc_run.specs.declared.outcome.ToolAnswer.{ToolAnswer}
 use Rattle.dc_run.specs.declared.outcome.ToolEnd.{ToolEnd}
 use Rattle.dc_run.specs.declared.serving.RunAsking.{RunAsking}
 use Rattle.dc_cli.specs.declared.tool.Tool.{Tool}
-use Rattle.dc_cli.specs.declared.tool.Tool.TheVariants.{Run}
+use Rattle.dc_cli.specs.declared.tool.Tool.TheVariants.{Run, Show, CopyDb}
+use Rattle.dc_cli.specs.declared.tool.PlacedWord.{PlacedWord}
+use Rattle.dc_run.specs.Jobs.{Copies, Prints, copy_status, refusal_lines}
+use Rattle.dc_run.specs.declared.outcome.ToolEnd.TheVariants as tool
+use Rattle.dc_run.specs.Starting.{IsRefusedFor, are_patterns, databases_of, plan_in, roots, sought, wrong_database}
+use Rattle.dc_run.specs.declared.outcome.End.{End}
+use Rattle.dc_run.specs.declared.outcome.End.TheVariants as end
+use Rattle.dc_run.specs.declared.outcome.PatternAt.TheVariants.{Word}
+use Rattle.dc_run.specs.declared.starting.CopyRoots.{CopyRoots}
+use Rattle.dc_run.specs.declared.starting.Roots.{Roots}
 use Rattle.dc_run.specs.EndLines.{HasSaid}
-use Rattle.dc_run.specs.Ends.{tool_end_of}
+use Rattle.dc_run.specs.Ends.{end_of_pattern, tool_end_of}
 use Rattle.dc_run.specs.TemplateLoading.{FileTurn, IsFileTurn, refusal_of, EndsAt, HasLoadedFiles}
 
 -- ---- one template file
@@ -111,3 +130,106 @@ asked_run asking command = Run asking.owner.now asking.frontend asking.priority 
 abbrev pub HasCommand : Tool → Type 0
 HasCommand (Run owner frontend priority command) = 0 < length command
 HasCommand used = Unit {0}
+
+-- ---- the databases of a tool
+
+-- the destination of a copy shares no database with its source, and neither does that of questions with that of templates, where these are used
+abbrev pub AreApartIn : Tool → List Plan → Type 0
+AreApartIn (Show database shown) plans = Unit {0}
+AreApartIn (CopyDb copy) (source ∷ templates ∷ dest ∷ []) = are_disjoint source dest ≡ true
+AreApartIn (CopyDb copy) plans = ⊥
+AreApartIn used plans = AreDisjoint plans
+
+-- the databases that a tool reaches, and the plan of each of its roots
+pub record IsResolvedFor (used : Tool) (conf : Configuration) (resolved : Resolved) : Type 0 where
+  pub specs_are : resolved.specs ≡ databases_of used conf
+  pub plans_are : resolved.plans ≡ each (plan_in used conf) (roots used conf)
+  pub over : AllByRecursion (λ plan. IsOver plan (length resolved.specs)) resolved.plans
+  pub few : length resolved.specs ≤ 16
+  pub right : wrong_database used conf ≡ None
+  pub apart : AreApartIn used resolved.plans
+
+-- a word names a wrong database, or memory ran out
+abbrev pub IsUnresolvedFor : Tool → Configuration → End → Type 0
+IsUnresolvedFor used conf how = (how ≡ end.OutOfMemory) ⊎ ((word : ℕ) × (how ≡ end.Usage word) × (wrong_database used conf ≡ Some word))
+
+-- the end of a run whose root at this place is unknown: one of the configuration itself is none
+abbrev pub unknown_end : Tool → ℕ → End
+unknown_end (CopyDb copy) root = if root == 0 then end.Usage copy.source.place else (if root == 2 then end.Usage copy.dest.place else end.OutOfMemory)
+unknown_end (Show (Some database) shown) root = if root == 0 then end.Usage database.place else end.OutOfMemory
+unknown_end used root = end.OutOfMemory
+
+-- the place of the destination, where its plan shares a database with that of the source
+abbrev pub overlap_in : Tool → List Plan → Option ℕ
+overlap_in (CopyDb copy) (source ∷ templates ∷ dest ∷ []) = if are_disjoint source dest then None else Some copy.dest.place
+overlap_in used plans = None
+
+-- ---- the patterns of a tool
+
+-- one of the words isn't built, and those before it are patterns, or memory ran out
+pub record IsUnbuiltAt (words : List PlacedWord) (how : End) : Type 0 where
+  pub error : PatternError
+  pub before : List PlacedWord
+  pub word : PlacedWord
+  pub after : List PlacedWord
+  pub end_is : how ≡ end_of_pattern (Word word.place) error
+  pub words_are : words ≡ before ++ word ∷ after
+  pub built : are_patterns before ≡ true
+  pub refused : IsRefusedFor word.word error
+
+abbrev pub IsUnbuilt : List PlacedWord → End → Type 0
+IsUnbuilt words how = (how ≡ end.OutOfMemory) ⊎ IsUnbuiltAt words how
+
+-- both words are given, and the one stands before the other
+abbrev pub comes_before : Option PlacedWord → Option PlacedWord → Bool
+comes_before (Some one) (Some other) = nat_lt one.place other.place
+comes_before one other = false
+
+-- the patterns by which a tool copies
+abbrev pub ArePatternsOf : Tool → Option Sought → Option Sought → Type 0
+ArePatternsOf (CopyDb copy) by_name by_owner = (by_name ≡ option_map sought copy.by_name) × (by_owner ≡ option_map sought copy.by_owner)
+ArePatternsOf used by_name by_owner = Unit {0}
+
+-- a copy by these patterns, of a tool that copies
+abbrev pub copy_by : Tool → Configuration → Option Sought → Option Sought → Option CopyRoots
+copy_by (CopyDb copy) conf by_name by_owner = Some (record { dest = plan_in (CopyDb copy) conf copy.dest.word; by_name = by_name; by_owner = by_owner })
+copy_by used conf by_name by_owner = None
+
+-- ---- show and copydb
+
+-- where questions and templates stand for a user of the language
+abbrev pub context_by : Roots → List ℕ → QuestionContext
+context_by roots lang = record { config = roots.config; templates = roots.templates; lang = lang }
+
+-- a line for each question of the owners
+abbrev pub owners_texts : List LayerState → QuestionContext → List (List ℕ) → List ℕ
+owners_texts layers at owners = flat_map (owner_text layers at) owners
+
+-- the text was printed, or that failed, and that is the answer
+pub record HasPrinted (text : List ℕ) (old new : LinkState) (before : ℕ) (answer : ToolAnswer) : Type 0 where
+  pub prints : Prints text old new answer.ended
+  pub code_is : answer.last_code ≡ before
+  pub status_is : answer.status ≡ 0
+  pub waits : answer.is_started ≡ false
+
+-- the copy from the one database into the other
+abbrev pub copying_by : Roots → CopyRoots → Copying
+copying_by roots copy = record { source = roots.config; dest = copy.dest; templates = roots.templates; by_name = copy.by_name; by_owner = copy.by_owner }
+
+-- the items were copied over these layers, and what was refused is told
+pub record HasCopiedOver (copy : Copying) (layers left : List LayerState) (old new : LinkState) (before : ℕ) (answer : ToolAnswer) : Type 0 where
+  pub said : List ℕ
+  pub copies : Copies copy layers left answer.ended said answer.status
+  pub others : AreSameButAll (names layers copy.source) layers left
+  pub telling : HasSaid said old new
+  pub code_is : answer.last_code ≡ before
+  pub waits : answer.is_started ≡ false
+
+abbrev pub CopiesOver : Roots → List LayerState → List LayerState → LinkState → LinkState → ℕ → ToolAnswer → Type 0
+CopiesOver roots layers left old new before answer = (copy : CopyRoots) × (roots.copy ≡ Some copy) × HasCopiedOver (copying_by roots copy) layers left old new before answer
+
+-- the answer of a copy that refused these items, each of which is told, or that ran out of memory
+abbrev pub TellsCopied : {E : Type 0} → Result (List (List ℕ)) E → LinkState → LinkState → ℕ → ToolAnswer → Type 0
+TellsCopied (Ok refused) old new before answer =
+    HasSaid (refusal_lines refused) old new × (answer ≡ record { ended = tool.Done; is_started = false; last_code = before; status = copy_status refused })
+TellsCopied (Err error) old new before answer = (new ≡ old) × (answer ≡ record { ended = tool.OutOfMemory; is_started = false; last_code = before; status = 0 })

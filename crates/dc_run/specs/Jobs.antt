@@ -1,5 +1,17 @@
 -- What each tool does, from the state in which its databases were loaded.
-use Rattle.std.specs.Prelude.{◌≡◌, ℕ, false, List, []}
+use Rattle.std.specs.Prelude.{◌≡◌, ◌⊎◌, ℕ, false, List, [], ◌∷◌, ◌++◌, map as each, Option, Some, None, Ok, Err, codes}
+use Rattle.std.specs.List.{flat_map}
+use Rattle.dc_text.specs.Lines.{text_of}
+use Rattle.dc_conf.specs.Configuration.{Configuration}
+use Rattle.dc_layer.specs.State.{LayerState}
+use Rattle.dc_outside.specs.LinkCalls.{Sends}
+use Rattle.dc_outside.specs.declared.link.LinkError.TheVariants.{Failed, OutOfMemory}
+use Rattle.dc_question.specs.Questions.{QuestionContext}
+use Rattle.dc_store.specs.Plans.{StoreState, names, stored}
+use Rattle.dc_store.specs.StoreLaws.{AreSameButAll}
+use Rattle.dc_tools.specs.Copying.{Copying, IsCopied}
+use Rattle.dc_tools.specs.Listing.{owners_text_of, databases_text_of}
+use Rattle.dc_tools.specs.Showing.{owner_text}
 use Rattle.dc_serve.specs.declared.outcome.LinkEnd.{LinkEnd}
 use Rattle.dc_session.specs.Serving.{IsServed, Resources, resources_in}
 use Rattle.dc_outside.specs.State.{LinkState}
@@ -7,13 +19,19 @@ use Rattle.dc_session.specs.SessionState.{SessionState}
 use Rattle.dc_session.specs.declared.stepped.StepError.{StepError}
 use Rattle.dc_run.specs.declared.outcome.ToolAnswer.{ToolAnswer}
 use Rattle.dc_cli.specs.declared.tool.Tool.{Tool}
-use Rattle.dc_cli.specs.declared.tool.Tool.TheVariants.{Communicate, LoadTemplate, Run}
+use Rattle.dc_cli.specs.declared.tool.Tool.TheVariants.{Communicate, LoadTemplate, Run, Show, CopyDb}
+use Rattle.dc_cli.specs.declared.tool.Shown.{Shown}
+use Rattle.dc_cli.specs.declared.tool.Shown.TheVariants.{Questions, Owners, Databases}
+use Rattle.dc_run.specs.declared.outcome.ToolEnd.{ToolEnd}
+use Rattle.dc_run.specs.declared.outcome.ToolEnd.TheVariants as tool
+use Rattle.dc_run.specs.declared.starting.CopyRoots.{CopyRoots}
+use Rattle.dc_run.specs.declared.starting.Roots.{Roots}
 use Rattle.dc_run.specs.Ends.{tool_end_of}
 use Rattle.dc_run.specs.Running.{HasRunProgram}
 use Rattle.dc_run.specs.TemplateLoading.{HasLoadedFiles}
 use Rattle.dc_run.specs.World.{Links}
 
--- ---- the tools
+-- ---- communicate and loadtemplate
 
 -- the commands that came on the link were served, and the session was finished: its status is the code of the last reply
 pub record HasCommunicated (start : SessionState) (old new : LinkState) (before : ℕ) (answer : ToolAnswer) (left : Resources) : Type 0 where
@@ -32,9 +50,75 @@ pub record HasLoadedTemplates (start : SessionState) (paths : List (List ℕ)) (
   pub links_are : new ≡ old
   pub waits : answer.is_started ≡ false
 
+-- ---- show
+
+-- what is printed of these layers (debconf-show(1)): a line for each question of the owners; or for each owner, or each database
+abbrev pub shown_text : Shown → Configuration → List LayerState → QuestionContext → List ℕ
+shown_text (Questions owners) conf layers at = flat_map (owner_text layers at) owners
+shown_text Owners conf layers at = owners_text_of layers at.config
+shown_text Databases conf layers at = databases_text_of conf
+
+-- a text was printed in one write, or that failed; or there was no memory for it
+abbrev pub Prints : List ℕ → LinkState → LinkState → ToolEnd → Type 0
+Prints text old new tool.Done = Sends {T = Unit {0}} text old new (Ok tt)
+Prints text old new tool.PrintFault = Sends {T = Unit {0}} text old new (Err Failed)
+Prints text old new tool.OutOfMemory = Sends {T = Unit {0}} text old new (Err OutOfMemory) ⊎ (new ≡ old)
+Prints text old new ended = ⊥
+
+-- it was printed what is asked for, and nothing else was done
+pub record HasShown (shown : Shown) (conf : Configuration) (start : SessionState) (old new : Links) (before : ℕ) (answer : ToolAnswer) (left : Resources) : Type 0 where
+  pub prints : Prints (shown_text shown conf start.store.layers start.at) old.io new.io answer.ended
+  pub child_is : new.child ≡ old.child
+  pub left_is : left ≡ resources_in start
+  pub code_is : answer.last_code ≡ before
+  pub status_is : answer.status ≡ 0
+  pub waits : answer.is_started ≡ false
+
+-- ---- copydb
+
+-- the copy into a plan, by these patterns
+abbrev pub copying : SessionState → CopyRoots → Copying
+copying start copy =
+    record { source = start.at.config; dest = copy.dest; templates = start.at.templates; by_name = copy.by_name; by_owner = copy.by_owner }
+
+-- a line for each item that was refused
+abbrev pub refusal_lines : List (List ℕ) → List ℕ
+refusal_lines names = text_of (each (λ name. name ++ codes " can't be changed") names)
+
+-- the status is 1 where an item was refused
+abbrev pub copy_status : List (List ℕ) → ℕ
+copy_status [] = 0
+copy_status (name ∷ names) = 1
+
+-- The items were copied, and it was told which were refused; or memory ran out.
+abbrev pub Copies : Copying → List LayerState → List LayerState → ToolEnd → List ℕ → ℕ → Type 0
+Copies copy old new tool.Done said status =
+    (refused : List (List ℕ)) × (store : StoreState) × IsCopied copy (stored old []) store refused × (new ≡ store.layers)
+    × (said ≡ refusal_lines refused) × (status ≡ copy_status refused)
+Copies copy old new tool.OutOfMemory said status = said ≡ []
+Copies copy old new ended said status = ⊥
+
+-- items were copied, and no other changed; no link was used
+pub record HasCopied (copy : Copying) (start : SessionState) (old new : Links) (before : ℕ) (answer : ToolAnswer) (said : List ℕ) (left : Resources) : Type 0 where
+  pub copies : Copies copy start.store.layers left.layers answer.ended said answer.status
+  pub others : AreSameButAll (names start.store.layers copy.source) start.store.layers left.layers
+  pub left_is : left ≡ record (resources_in start) { layers = left.layers }
+  pub links_are : new ≡ old
+  pub code_is : answer.last_code ≡ before
+  pub waits : answer.is_started ≡ false
+
+-- of a run that has what it copies by
+abbrev pub CopiesBy : Option CopyRoots → SessionState → Links → Links → ℕ → ToolAnswer → List ℕ → Resources → Type 0
+CopiesBy None start old new before answer said left = ⊥
+CopiesBy (Some copy) start old new before answer said left = HasCopied (copying start copy) start old new before answer said left
+
+-- ---- all tools
+
 -- What a tool does from the state in which its databases were loaded, behind a reply of this code: to the links, by its answer, what it tells on
 -- standard error behind its session, and what the session leaves.
-abbrev pub Uses : Tool → SessionState → Links → Links → ℕ → ToolAnswer → List ℕ → Resources → Type 0
-Uses (Communicate owner) start old new before answer said left = HasCommunicated start old.io new.io before answer left × (new.child ≡ old.child) × (said ≡ [])
-Uses (LoadTemplate owner paths) start old new before answer said left = HasLoadedTemplates start paths old new before answer said left
-Uses (Run owner frontend priority command) start old new before answer said left = HasRunProgram command start old new before answer left × (said ≡ [])
+abbrev pub Uses : Tool → Roots → SessionState → Links → Links → ℕ → ToolAnswer → List ℕ → Resources → Type 0
+Uses (Communicate owner) roots start old new before answer said left = HasCommunicated start old.io new.io before answer left × (new.child ≡ old.child) × (said ≡ [])
+Uses (LoadTemplate owner paths) roots start old new before answer said left = HasLoadedTemplates start paths old new before answer said left
+Uses (Run owner frontend priority command) roots start old new before answer said left = HasRunProgram command start old new before answer left × (said ≡ [])
+Uses (Show database shown) roots start old new before answer said left = HasShown shown roots.conf start old new before answer left × (said ≡ [])
+Uses (CopyDb copy) roots start old new before answer said left = CopiesBy roots.copy start old new before answer said left

@@ -1,5 +1,5 @@
 -- What a kill at a moment of a run leaves of the disk, by the saves of the run.
-use Rattle.std.specs.Prelude.{◌≡◌, ◌⊎◌, ℕ, List, [], ◌∷◌, ◌++◌, Option, Some, Result, Ok}
+use Rattle.std.specs.Prelude.{◌≡◌, ◌⊎◌, ℕ, List, [], ◌∷◌, ◌++◌, Option, Some, Ok}
 use Rattle.dc_outside.specs.Disk.{Disk, File, IsDurable, Left, file_at, moment}
 use Rattle.dc_layer.specs.declared.image.Image.{Image}
 use Rattle.dc_save.specs.Saving.{MayAddAny, all_saved}

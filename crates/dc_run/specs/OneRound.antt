@@ -20,12 +20,12 @@ use Rattle.dc_run.specs.World.{Links, Stock, World, before_rounds}
 pub record HasUsed (tool : Tool) (settings : Settings) (old new : World) (outcome : Outcome) : Type 0 where
   pub mid : Stock
   pub roots : Roots
-  pub started : HasStarted settings.conf_path old.stock.files mid roots
+  pub started : HasStarted tool settings.conf_path old.stock.files mid roots
   pub answer : ToolAnswer
   pub told : List ℕ
   pub left : Resources
   pub links : Links
-  pub uses : Uses tool (begun tool (before_rounds (record old { stock = mid })) roots settings) old.links links 0 answer told left
+  pub uses : Uses tool roots (begun tool (before_rounds (record old { stock = mid })) roots settings) old.links links 0 answer told left
   pub how : End
   pub finishes : Finishes left.layers new.stock.used answer.ended left.files new.stock.files how
   pub io_is : new.links.io ≡ links.io

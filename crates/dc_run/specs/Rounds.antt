@@ -32,7 +32,7 @@ FindsJobs used old new (Err how) status = ⊥
 pub record HasDone (used : Tool) (roots : Roots) (settings : Settings) (old new : RunState) (answer : ToolAnswer) (saves : List Save) : Type 0 where
   pub told : List ℕ
   pub left : Resources
-  pub uses : Uses used (begun used old roots settings) old.world.links new.world.links old.code answer told left
+  pub uses : Uses used roots (begun used old roots settings) old.world.links new.world.links old.code answer told left
   pub stock_is : new.world.stock ≡ stock_of left.files left.layers
   pub said : HasSaid told left.err new.world.err
   pub ahead_is : new.ahead ≡ left.terminal.ahead

@@ -1,16 +1,22 @@
--- What a run does before its tool: the configuration is read, a layer for each database that its roots reach is set up, and each is
--- loaded.
-use Rattle.std.specs.Prelude.{◌≡◌, ◌⊎◌, ℕ, List, [], ◌∷◌, true, false, Option, Some, option_and_then, Result, Ok, Err}
-use Rattle.std.specs.Option.{option_or}
+-- What a run does before its tool: the configuration is read, the databases and patterns that its words name are looked at, a layer for each
+-- database that its roots reach is set up, and each is loaded.
+use Rattle.std.specs.Prelude.{◌≡◌, ◌⊎◌, ℕ, Bool, nat_le, List, [], ◌∷◌, ◌++◌, true, false, not, Option, Some, None, option_and_then, option_map, option_to_list, Result, Ok, Err, codes, if◌then◌else◌}
+use Rattle.std.specs.Option.{option_or, option_map_or}
+use Rattle.std.specs.List.{find, flat_map, list_all}
+use Rattle.dc_text.specs.Ascii.{newline}
 use Rattle.dc_outside.specs.Disk.{Disk}
 use Rattle.dc_outside.specs.Counts.{FaultRose, RefusalRose}
 use Rattle.dc_outside.specs.Steps.{after_look}
 use Rattle.dc_outside.specs.State.{FilesView, LinkState}
 use Rattle.dc_outside.specs.declared.files.FilesOp.TheVariants.{Read}
-use Rattle.dc_conf.specs.Configuration.{Configuration, IsAnswer, reached, plan_of}
+use Rattle.dc_conf.specs.Configuration.{Configuration, IsAnswer, is_among, reached, plan_of}
 use Rattle.dc_conf.specs.Plans.{IsOver, are_disjoint}
 use Rattle.dc_conf.specs.declared.faults.ConfError.{ConfError}
+use Rattle.dc_conf.specs.declared.plans.Plan.{Plan}
 use Rattle.dc_conf.specs.declared.spec.LayerSpec.{LayerSpec}
+use Rattle.dc_layer.specs.Patterns.{Sought, is_pattern, is_plain}
+use Rattle.dc_layer.specs.declared.pattern.PatternError.{PatternError}
+use Rattle.dc_layer.specs.declared.pattern.PatternError.TheVariants as pattern
 use Rattle.dc_frontend.specs.Frontends.{frontend_of}
 use Rattle.dc_frontend.specs.declared.frontend.Frontend.{Frontend}
 use Rattle.dc_frontend.specs.declared.frontend.Frontend.TheVariants.{Noninteractive}
@@ -27,43 +33,133 @@ use Rattle.dc_run.specs.declared.outcome.End.{End}
 use Rattle.dc_run.specs.declared.outcome.End.TheVariants as end
 use Rattle.dc_run.specs.declared.settings.Settings.{Settings}
 use Rattle.dc_run.specs.declared.starting.Roots.{Roots}
-use Rattle.dc_run.specs.Ends.{end_of_conf, end_of_patterns, end_of_load}
+use Rattle.dc_run.specs.declared.outcome.PatternAt.TheVariants.{Word}
+use Rattle.dc_run.specs.declared.starting.CopyRoots.{CopyRoots}
+use Rattle.dc_run.specs.Ends.{end_of_conf, end_of_pattern, end_of_patterns, end_of_load}
 use Rattle.dc_run.specs.World.{RunState, Stock}
 use Rattle.dc_cli.specs.Tools.{owner_of}
 use Rattle.dc_cli.specs.declared.tool.Tool.{Tool}
-use Rattle.dc_cli.specs.declared.tool.Tool.TheVariants.{Run}
+use Rattle.dc_cli.specs.declared.tool.Tool.TheVariants.{Run, Show, CopyDb}
+use Rattle.dc_cli.specs.DatabaseWords.{is_name_field}
+use Rattle.dc_cli.specs.declared.tool.ConfigLine.{ConfigLine}
+use Rattle.dc_cli.specs.declared.tool.CopyWords.{CopyWords}
+use Rattle.dc_cli.specs.declared.tool.PlacedWord.{PlacedWord}
 
 -- ---- the configuration
 
+-- a field that the words of `copydb` add to the configuration, in a line of its own; an empty line stands before the name of a database
+abbrev pub added_line : ConfigLine → List ℕ
+added_line line = (if is_name_field line.field then newline ∷ [] else []) ++ line.field ++ codes ": " ++ line.value ++ newline ∷ []
+
+-- the text that a tool reads as its configuration, of what the file holds
+abbrev pub conf_text : Tool → List ℕ → List ℕ
+conf_text (CopyDb copy) text = text ++ newline ∷ flat_map added_line copy.config
+conf_text used text = text
+
 -- the text at the path is this configuration; a file that isn't there is the empty text
-pub record IsConfiguration (disk : Option Disk) (path : List ℕ) (conf : Configuration) : Type 0 where
+pub record IsConfiguration (used : Tool) (disk : Option Disk) (path : List ℕ) (conf : Configuration) : Type 0 where
   pub text : List ℕ
   pub text_is : IsTextAt disk path text
-  pub reads : IsAnswer text (Ok conf)
+  pub reads : IsAnswer (conf_text used text) (Ok conf)
 
--- the databases of questions and of templates
-abbrev pub roots : Configuration → List (List ℕ)
-roots conf = conf.config ∷ conf.templates ∷ []
+-- ---- the databases of a tool
+
+-- the one in which it finds questions, or from which it copies
+abbrev pub source_of : Tool → Configuration → List ℕ
+source_of (Show database shown) conf = option_map_or (λ given. given.word) database conf.config
+source_of (CopyDb copy) conf = copy.source.word
+source_of used conf = conf.config
+
+-- the one into which it copies
+abbrev pub dest_of : Tool → List (List ℕ)
+dest_of (CopyDb copy) = copy.dest.word ∷ []
+dest_of used = []
+
+-- all of them, with the templates
+abbrev pub roots : Tool → Configuration → List (List ℕ)
+roots used conf = source_of used conf ∷ conf.templates ∷ dest_of used
 
 -- the databases that hold their items, in the order of the file
-abbrev pub databases_of : Configuration → List LayerSpec
-databases_of conf = reached conf (roots conf)
+abbrev pub databases_of : Tool → Configuration → List LayerSpec
+databases_of used conf = reached conf (roots used conf)
+
+-- the plan of one of them
+abbrev pub plan_in : Tool → Configuration → List ℕ → Plan
+plan_in used conf name = plan_of conf (databases_of used conf) name
+
+-- ---- the words that name databases
+
+abbrev pub is_known : Configuration → PlacedWord → Bool
+is_known conf database = is_among conf.databases database.word
+
+-- the place of the first of these words that the configuration has no database for
+abbrev pub first_unknown : Configuration → List PlacedWord → Option ℕ
+first_unknown conf words = option_map (λ database. database.place) (find (λ database. not (is_known conf database)) words)
+
+-- the destination shares a database with the source
+abbrev pub overlaps : Tool → Configuration → CopyWords → Bool
+overlaps used conf copy = not (are_disjoint (plan_in used conf copy.source.word) (plan_in used conf copy.dest.word))
+
+-- The place of the first word that names a wrong database: one that the configuration doesn't have, or a destination that shares one with the
+-- source.
+abbrev pub wrong_database : Tool → Configuration → Option ℕ
+wrong_database (Show database shown) conf = first_unknown conf (option_to_list database)
+wrong_database (CopyDb copy) conf =
+    option_or (first_unknown conf (copy.source ∷ copy.dest ∷ [])) (if overlaps (CopyDb copy) conf copy then Some copy.dest.place else None)
+wrong_database used conf = None
+
+-- ---- the words that are patterns
+
+-- two words that may be given, in the order of their places
+abbrev pub in_order : Option PlacedWord → Option PlacedWord → List PlacedWord
+in_order None other = option_to_list other
+in_order (Some one) None = one ∷ []
+in_order (Some one) (Some other) = if nat_le one.place other.place then one ∷ other ∷ [] else other ∷ one ∷ []
+
+abbrev pub pattern_words : Tool → List PlacedWord
+pattern_words (CopyDb copy) = in_order copy.by_name copy.by_owner
+pattern_words used = []
+
+-- a pattern in which case counts
+abbrev pub sought : PlacedWord → Sought
+sought pattern = record { text = pattern.word; ignore_case = false }
+
+-- all of the words are patterns
+abbrev pub are_patterns : List PlacedWord → Bool
+are_patterns words = list_all (λ pattern. is_pattern false pattern.word) words
+
+-- a word is no pattern, or what would be built of it takes too much room
+abbrev pub IsRefusedFor : List ℕ → PatternError → Type 0
+IsRefusedFor word pattern.Bad = is_pattern false word ≡ false
+IsRefusedFor word pattern.TooLarge = (is_plain word ≡ false) × (is_pattern false word ≡ true)
+IsRefusedFor word pattern.OutOfMemory = ⊥
 
 -- the files once the configuration was read
 abbrev pub conf_read : FilesView → List ℕ → FilesView
 conf_read files path = after_look files Read path true
 
--- the plans of questions and of templates are over so many layers, and share none
+-- the plans of questions and of templates are over so many layers
 pub record AreOver (roots : Roots) (count : ℕ) : Type 0 where
   pub config : IsOver roots.config count
   pub templates : IsOver roots.templates count
-  pub disjoint : are_disjoint roots.config roots.templates ≡ true
+
+-- so is the one into which a copy is made, and it shares no layer with the source
+abbrev pub IsCopyOver : Option CopyRoots → Plan → ℕ → Type 0
+IsCopyOver None source count = ⊥
+IsCopyOver (Some copy) source count = IsOver copy.dest count × (are_disjoint source copy.dest ≡ true)
+
+-- Which plans share no layer: those of questions and of templates, where questions are asked or templates loaded, and those of a copy. What is
+-- shown may be the templates themselves.
+abbrev pub AreApart : Tool → Roots → ℕ → Type 0
+AreApart (Show database shown) roots count = Unit {0}
+AreApart (CopyDb copy) roots count = IsCopyOver roots.copy roots.config count
+AreApart used roots count = are_disjoint roots.config roots.templates ≡ true
 
 -- ---- the start of a session
 
 -- the priority that was chosen: the first of the setting's and the configuration's word that is one
 abbrev pub chosen : Settings → Roots → Option Priority
-chosen settings roots = option_or (option_and_then priority_of settings.priority) (option_and_then priority_of roots.priority)
+chosen settings roots = option_or (option_and_then priority_of settings.priority) (option_and_then priority_of roots.conf.priority)
 
 -- where questions and templates stand in the layers, with the user's language
 abbrev pub context_of : Roots → Settings → QuestionContext
@@ -78,7 +174,7 @@ chosen_priority used settings roots = chosen settings roots
 -- configuration's.
 abbrev pub chosen_frontend : Tool → Settings → Roots → Option Frontend
 chosen_frontend (Run owner frontend priority command) settings roots =
-    option_or frontend (option_or (option_and_then frontend_of settings.frontend) (option_and_then frontend_of roots.frontend))
+    option_or frontend (option_or (option_and_then frontend_of settings.frontend) (option_and_then frontend_of roots.conf.frontend))
 chosen_frontend used settings roots = Some Noninteractive
 
 -- the link of a tool's terminal: `run` asks on the program's own link, and no other tool has one
@@ -124,61 +220,99 @@ pub record IsUnread (path : List ℕ) (old new : FilesState) (how : End) : Type 
   pub counts : FaultRose old.counts new.counts
 
 -- the text at the path has this fault, which decides
-pub record IsRefused (path : List ℕ) (old new : FilesState) (how : End) : Type 0 where
+pub record IsRefused (used : Tool) (path : List ℕ) (old new : FilesState) (how : End) : Type 0 where
   pub error : ConfError
   pub end_is : how ≡ end_of_conf error
   pub text : List ℕ
   pub text_is : IsTextAt old.view.disk path text
-  pub refused : IsAnswer text (Err error)
+  pub refused : IsAnswer (conf_text used text) (Err error)
   pub read : HasReadConf path old new
 
+-- a word of the tool names a wrong database
+pub record IsWrongDatabase (used : Tool) (path : List ℕ) (old new : FilesState) (how : End) : Type 0 where
+  pub word : ℕ
+  pub end_is : how ≡ end.Usage word
+  pub conf : Configuration
+  pub conf_is : IsConfiguration used old.view.disk path conf
+  pub wrong : wrong_database used conf ≡ Some word
+  pub read : HasReadConf path old new
+
+-- the text at the path is this configuration, and it has the databases that the tool's words name
+pub record IsChosen (used : Tool) (disk : Option Disk) (path : List ℕ) (conf : Configuration) : Type 0 where
+  pub conf_is : IsConfiguration used disk path conf
+  pub databases : wrong_database used conf ≡ None
+
+-- a word of the tool is refused as a pattern, and those before it are patterns
+pub record IsWrongPattern (used : Tool) (path : List ℕ) (old new : FilesState) (how : End) : Type 0 where
+  pub error : PatternError
+  pub before : List PlacedWord
+  pub word : PlacedWord
+  pub after : List PlacedWord
+  pub end_is : how ≡ end_of_pattern (Word word.place) error
+  pub conf : Configuration
+  pub conf_is : IsChosen used old.view.disk path conf
+  pub words_are : pattern_words used ≡ before ++ word ∷ after
+  pub built : are_patterns before ≡ true
+  pub refused : IsRefusedFor word.word error
+  pub read : HasReadConf path old new
+
+-- the same configuration, and the patterns among the tool's words are patterns
+pub record IsFit (used : Tool) (disk : Option Disk) (path : List ℕ) (conf : Configuration) : Type 0 where
+  pub conf_is : IsChosen used disk path conf
+  pub patterns : are_patterns (pattern_words used) ≡ true
+
 -- the patterns of a database of the configuration are refused
-pub record IsNotSetUp (path : List ℕ) (old new : FilesState) (how : End) : Type 0 where
+pub record IsNotSetUp (used : Tool) (path : List ℕ) (old new : FilesState) (how : End) : Type 0 where
   pub refused : NotSetUp
   pub end_is : how ≡ end_of_patterns refused
   pub conf : Configuration
-  pub conf_is : IsConfiguration old.view.disk path conf
-  pub refused_at : IsRefusedAt (databases_of conf) refused.place refused.error
+  pub conf_is : IsFit used old.view.disk path conf
+  pub refused_at : IsRefusedAt (databases_of used conf) refused.place refused.error
   pub read : HasReadConf path old new
 
 -- All patterns of the databases of the configuration are patterns, and a layer of each was set up. The loads of these, which had this answer,
 -- left the layers and the files so.
-pub record HasLoaded (path : List ℕ) (conf : Configuration) (old : FilesState) (new : Stock) (result : Result (Unit {0}) LoadError) : Type 0 where
-  pub conf_is : IsConfiguration old.view.disk path conf
-  pub patterns : all_patterns (databases_of conf) ≡ true
-  pub loads : LoadsAll (databases_of conf) (all_set_up (databases_of conf)) new.used (conf_read old.view path) new.files.view old.counts new.files.counts result
+pub record HasLoaded (used : Tool) (path : List ℕ) (conf : Configuration) (old : FilesState) (new : Stock) (result : Result (Unit {0}) LoadError) : Type 0 where
+  pub conf_is : IsFit used old.view.disk path conf
+  pub patterns : all_patterns (databases_of used conf) ≡ true
+  pub loads : LoadsAll (databases_of used conf) (all_set_up (databases_of used conf)) new.used (conf_read old.view path) new.files.view old.counts new.files.counts result
 
 -- a load was refused
-pub record IsNotLoaded (path : List ℕ) (old : FilesState) (new : Stock) (how : End) : Type 0 where
+pub record IsNotLoaded (used : Tool) (path : List ℕ) (old : FilesState) (new : Stock) (how : End) : Type 0 where
   pub error : LoadError
   pub end_is : how ≡ end_of_load error
   pub conf : Configuration
-  pub loaded : HasLoaded path conf old new (Err error)
+  pub loaded : HasLoaded used path conf old new (Err error)
 
-abbrev pub EndsBefore : List ℕ → FilesState → Stock → End → Type 0
-EndsBefore path old new how =
-    IsOutOfMemory path old new.files how ⊎ IsUnread path old new.files how ⊎ IsRefused path old new.files how ⊎ IsNotSetUp path old new.files how ⊎ IsNotLoaded path old new how
+abbrev pub EndsBefore : Tool → List ℕ → FilesState → Stock → End → Type 0
+EndsBefore used path old new how =
+    IsOutOfMemory path old new.files how ⊎ IsUnread path old new.files how ⊎ IsRefused used path old new.files how
+    ⊎ IsWrongDatabase used path old new.files how ⊎ IsWrongPattern used path old new.files how
+    ⊎ IsNotSetUp used path old new.files how ⊎ IsNotLoaded used path old new how
 
 -- ---- what is done before the tool, by the answer
 
--- all layers were loaded, and these are the plans of questions and of templates, and the configuration's words for the frontend and the
--- priority
-pub record HasStarted (path : List ℕ) (old : FilesState) (new : Stock) (roots : Roots) : Type 0 where
-  pub conf : Configuration
-  pub loaded : HasLoaded path conf old new (Ok tt)
-  pub config_is : roots.config ≡ plan_of conf (databases_of conf) conf.config
-  pub templates_is : roots.templates ≡ plan_of conf (databases_of conf) conf.templates
-  pub frontend_is : roots.frontend ≡ conf.frontend
-  pub priority_is : roots.priority ≡ conf.priority
+-- what a copy is made into, and the patterns by which it is chosen
+abbrev pub copy_roots : Tool → Configuration → Option CopyRoots
+copy_roots (CopyDb copy) conf =
+    Some (record { dest = plan_in (CopyDb copy) conf copy.dest.word; by_name = option_map sought copy.by_name; by_owner = option_map sought copy.by_owner })
+copy_roots used conf = None
 
-abbrev pub Starts : List ℕ → FilesState → Stock → Result Roots End → Type 0
-Starts path old new (Ok roots) = HasStarted path old new roots
-Starts path old new (Err how) = EndsBefore path old new how
+-- all layers were loaded, and these are the configuration, the plans of the tool's databases, and what it copies by
+pub record HasStarted (used : Tool) (path : List ℕ) (old : FilesState) (new : Stock) (roots : Roots) : Type 0 where
+  pub loaded : HasLoaded used path roots.conf old new (Ok tt)
+  pub config_is : roots.config ≡ plan_in used roots.conf (source_of used roots.conf)
+  pub templates_is : roots.templates ≡ plan_in used roots.conf roots.conf.templates
+  pub copy_is : roots.copy ≡ copy_roots used roots.conf
+
+abbrev pub Starts : Tool → List ℕ → FilesState → Stock → Result Roots End → Type 0
+Starts used path old new (Ok roots) = HasStarted used path old new roots
+Starts used path old new (Err how) = EndsBefore used path old new how
 
 -- what reading the configuration does
-abbrev pub ReadsConf : List ℕ → FilesState → FilesState → Result Configuration End → Type 0
-ReadsConf path old new (Ok conf) = IsConfiguration old.view.disk path conf × HasReadConf path old new
-ReadsConf path old new (Err how) = IsOutOfMemory path old new how ⊎ IsUnread path old new how ⊎ IsRefused path old new how
+abbrev pub ReadsConf : Tool → List ℕ → FilesState → FilesState → Result Configuration End → Type 0
+ReadsConf used path old new (Ok conf) = IsConfiguration used old.view.disk path conf × HasReadConf path old new
+ReadsConf used path old new (Err how) = IsOutOfMemory path old new how ⊎ IsUnread path old new how ⊎ IsRefused used path old new how
 
 -- some text is this configuration
 abbrev pub IsSomeConfiguration : Configuration → Type 0

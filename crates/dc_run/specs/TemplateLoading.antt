@@ -80,6 +80,7 @@ EndsAt tool.OutOfMemory state rest new =
     (path : List ℕ) × (later : List (List ℕ)) × (rest ≡ path ∷ later) × ((new ≡ state) ⊎ IsDoneInPart (LoadTemplateFile path None) state new)
 EndsAt tool.LinkFault state rest new = ⊥
 EndsAt tool.TooLong state rest new = ⊥
+EndsAt tool.PrintFault state rest new = ⊥
 EndsAt tool.TermFault state rest new = ⊥
 EndsAt tool.ChildFault state rest new = ⊥
 

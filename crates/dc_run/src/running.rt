@@ -8,14 +8,16 @@ ghost use Rattle.dc_run.specs.Inside.{HasCommand};
 ghost use Rattle.dc_run.specs.Rounds.{HasDone};
 ghost use Rattle.dc_run.specs.Running.{Awaits};
 ghost use Rattle.dc_run.specs.Saves.{Save};
-ghost use Rattle.dc_run.specs.Starting.{AreOver};
+ghost use Rattle.dc_run.specs.Starting.{AreApart, AreOver};
 ghost use Rattle.dc_run.specs.World.{IsReady, run_state, world};
 
+use crate::copying::copy_database;
 use crate::finishing::finish_used;
 use crate::loading_templates::load_template_files;
 use crate::outcome::{End, Outcome, ToolAnswer, end_unwaited, outcome_at};
 use crate::serving::{RunAsking, communicate, run_program};
 use crate::settings::Settings;
+use crate::showing::show;
 use crate::starting::{Roots, start};
 use crate::telling::tell_end;
 use dc_cli::{Tool, ToolError, read_tool};
@@ -31,8 +33,9 @@ use std::alloc::Global;
 ///
 /// `communicate [OWNER]` serves the commands that come on the link, as debconf-communicate(1) does, and answers each line
 /// before it reads more. `loadtemplate OWNER FILE ...` loads the templates of files, as debconf-loadtemplate(1) does. `run COMMAND` starts a
-/// program behind the link `child` and serves its commands, as debconf(1) does, with the user asked on `io`. Then what changed in the layers
-/// is saved, and the program waited for. An end other than `Done` is told on `err`.
+/// program behind the link `child` and serves its commands, as debconf(1) does, with the user asked on `io`. `show` prints what a database holds,
+/// as debconf-show(1) does, and `copydb` copies items from one database into another, as debconf-copydb(1) does. Then what changed in the
+/// layers is saved, and the program waited for. An end other than `Done` is told on `err`.
 pub fn run_words<L: Link, E: Link, C: Child, F: Files>(
     alloc: Global,
     words: &List<Text>,
@@ -78,7 +81,7 @@ fn run_tool<L: Link, E: Link, C: Child, F: Files>(
         (world (L.link io.new) (C.link child.new) (E.link err.new) (F.files files.new) state shelf.new)
         result saves }
 {
-    match start(alloc, &settings.conf_path, files, shelf) {
+    match start(alloc, tool, &settings.conf_path, files, shelf) {
         Err(end) => end_run(err, end, 0, 0),
         Ok(roots) => {
             let mut teletype = Teletype::new(alloc);
@@ -124,6 +127,7 @@ fn use_tool<L: Link, E: Link, C: Child, F: Files>(
     last_code: u8,
 ) -> ToolAnswer
     requires roots { AreOver roots.now (length used.old.items) }
+    requires apart { AreApart tool.now roots.now (length used.old.items) }
     requires idle { IsIdle (C.link child.old).program.life }
     requires command { HasCommand tool.now }
     ensures does { HasDone tool.now roots.now settings.now
@@ -165,6 +169,10 @@ fn use_tool<L: Link, E: Link, C: Child, F: Files>(
                 last_code,
             )
         }
+        Tool::Show { database: _, shown } => {
+            show(alloc, shown, roots, &settings.lang, io, used, last_code)
+        }
+        Tool::CopyDb(_) => copy_database(alloc, roots, err, used, last_code),
     }
 }
 

@@ -1,5 +1,6 @@
 // The tools that serve commands.
 ghost use Rattle.std.specs.Prelude.{◌≡◌, ◌<◌, List, ℕ, length, map as each, true};
+ghost use Rattle.dc_conf.specs.Plans.{are_disjoint};
 ghost use Rattle.dc_outside.specs.Programs.{IsIdle, IsRunning};
 ghost use Rattle.dc_outside.specs.State.{LinkState};
 ghost use Rattle.dc_run.specs.Jobs.{HasCommunicated};
@@ -47,6 +48,7 @@ pub fn communicate<L: Link, E: Link, F: Files>(
     last_code: u8,
 ) -> ToolAnswer
     requires roots { AreOver roots.now (length used.old.items) }
+    requires disjoint { are_disjoint roots.now.config roots.now.templates ≡ true }
     ensures served { (child : LinkState) → HasCommunicated
         (begun (Communicate owner.now)
         (run_state (L.link io.old) child (E.link err.old) (F.files files.old) (each state used.old.items) teletype.old.ahead last_code)
@@ -95,6 +97,7 @@ pub fn run_program<L: Link, E: Link, C: Child, F: Files>(
     last_code: u8,
 ) -> ToolAnswer
     requires roots { AreOver roots.now (length used.old.items) }
+    requires disjoint { are_disjoint roots.now.config roots.now.templates ≡ true }
     requires idle { IsIdle (C.link child.old).program.life }
     requires some { 0 < length command.now }
     ensures ran { HasRunProgram command.now
@@ -135,6 +138,7 @@ fn serve_program<L: Link, E: Link, C: Child, F: Files>(
     last_code: u8,
 ) -> ToolAnswer
     requires roots { AreOver roots.now (length used.old.items) }
+    requires disjoint { are_disjoint roots.now.config roots.now.templates ≡ true }
     ensures served { (command : List (List ℕ)) → HasServedProgram
         (begun (asked_run asking.now command)
         (run_state (L.link io.old) (C.link child.old) (E.link err.old) (F.files files.old) (each state used.old.items) teletype.old.ahead last_code)
@@ -184,6 +188,7 @@ fn serve_for<L: Link, T: Link, E: Link, F: Files>(
     last_code: u8,
 ) -> Conversation<StepError>
     requires roots { AreOver roots.now (length used.old.items) }
+    requires disjoint { are_disjoint roots.now.config roots.now.templates ≡ true }
     ensures { IsServed
         (session_at
         (resources_of (each state used.old.items) (F.files files.old) (terminal_at (T.link terminal.old) teletype.old.ahead) (E.link err.old))

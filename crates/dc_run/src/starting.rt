@@ -1,23 +1,26 @@
 // What a run does before its tool.
-ghost use Rattle.std.specs.Prelude.{◌≡◌, ◌≤◌, ◌∷◌, [], length, map as each, IfOk, true, option_and_then, option_copied};
-ghost use Rattle.std.specs.List.{AllByRecursion};
-ghost use Rattle.std.specs.Option.{option_or};
+ghost use Rattle.std.specs.Prelude.{◌≡◌, ◌++◌, length, map as each, IfOk, IfErr, OnOk, true, option_and_then};
+ghost use Rattle.std.specs.Option.{option_copied, option_or};
+ghost use Rattle.dc_cli.specs.declared.tool.Tool.TheVariants.{CopyDb};
 ghost use Rattle.dc_frontend.specs.Frontends.{frontend_of};
-ghost use Rattle.dc_conf.specs.Configuration.{plan_of, IsAnswer, AreDisjoint};
-ghost use Rattle.dc_conf.specs.Plans.{IsOver};
+ghost use Rattle.dc_conf.specs.Configuration.{IsAnswer};
 ghost use Rattle.dc_proto.specs.Priorities.{priority_of};
 ghost use Rattle.dc_shelf.specs.Shelves.{LoadsAll, all_set_up};
 ghost use Rattle.dc_save.specs.Loading.{text_in};
 ghost use Rattle.dc_run.specs.Ends.{end_of_conf as end_of_conf_by, end_of_patterns as end_of_patterns_by, end_of_load as end_of_load_by};
-ghost use Rattle.dc_run.specs.Starting.{AreOver, Starts, ReadsConf, IsSomeConfiguration, databases_of, chosen as chosen_of};
+ghost use Rattle.dc_run.specs.Inside.{ArePatternsOf, IsUnbuilt, copy_by};
+ghost use Rattle.dc_run.specs.Starting.{AreApart, AreOver, Starts, ReadsConf, added_line, are_patterns, chosen as chosen_of, conf_text, pattern_words, plan_in, roots, source_of};
 ghost use Rattle.dc_run.specs.World.{IsReady, stock_of, used_in};
 
-use crate::outcome::{End, PatternAt};
+use crate::databases::resolve;
+use crate::outcome::{End, PatternAt, end_of_pattern};
 use crate::settings::Settings;
+use crate::word_patterns::both_patterns;
+use dc_cli::{ConfigLine, CopyWords, Tool, is_name_field};
 use dc_conf::spec::LayerSpec;
-use dc_conf::{Conf, ConfError, Plan, ResolveError, Resolved, read_conf};
+use dc_conf::{Conf, ConfError, Plan, Resolved, read_conf};
 use dc_frontend::Frontend;
-use dc_layer::{Layer, PatternError};
+use dc_layer::{Layer, Pattern};
 use dc_outside::{Files, FilesError};
 use dc_proto::Priority;
 use dc_save::LoadError;
@@ -25,52 +28,61 @@ use dc_shelf::{NotSetUp, Shelf, load_all, set_up_all};
 use dc_text::{List, Mem, Text};
 use std::alloc::Global;
 
-/// What a tool takes from the configuration: the plans of the databases of questions and of templates, over the layers in `used`, and the
-/// words for the frontend and for the least priority of a question that is shown (debconf.conf(5), `Frontend`, `Priority`).
+/// What a tool takes from the configuration: the plans of its databases, over the layers in `used`, and what it copies by.
 #[derive(Drop)]
 pub struct Roots {
+    pub conf: Conf,
+    /// Of questions, unless its words name another database that is shown, or from which it copies.
     pub config: Plan,
     pub templates: Plan,
-    pub frontend: Option<Text>,
-    pub priority: Option<Text>,
+    /// Of `copydb`.
+    pub copy: Option<CopyRoots>,
 }
 
-/// Reads the configuration, and sets up and loads a layer for each database that its roots reach.
+/// What is copied into, and the patterns that choose the items by their names and by their owners (debconf-copydb(1)).
+#[derive(Drop)]
+pub struct CopyRoots {
+    pub dest: Plan,
+    pub by_name: Option<Pattern>,
+    pub by_owner: Option<Pattern>,
+}
+
+/// Reads the configuration, builds the patterns among the tool's words, and sets up and loads a layer for each database that its roots reach.
 pub fn start<F: Files>(
     alloc: Global,
+    used: &Tool,
     path: &Text,
     files: &mut F,
     shelf: &mut Shelf,
 ) -> Result<Roots, End>
     requires { IsReady state shelf.old }
-    ensures starts { Starts path.now (F.files files.old) (stock_of (F.files files.new) (used_in state shelf.new)) result }
+    ensures starts { Starts used.now path.now (F.files files.old) (stock_of (F.files files.new) (used_in state shelf.new)) result }
     ensures over { IfOk result (λ roots. AreOver roots (length shelf.new.used.items)) }
+    ensures apart { IfOk result (λ roots. AreApart used.now roots (length shelf.new.used.items)) }
 {
-    let conf = match read_configuration(alloc, path, files) {
-        Ok(conf) => conf,
-        Err(end) => return Err(end),
-    };
-    let resolved = match resolve(alloc, &conf) {
-        Ok(resolved) => resolved,
-        // No root is unknown, as a configuration with such a one is refused.
-        Err(_) => return Err(End::OutOfMemory),
-    };
-    let frontend = match copied(conf.frontend()) {
-        Ok(frontend) => frontend,
-        Err(_) => return Err(End::OutOfMemory),
-    };
-    let priority = match copied(conf.priority()) {
-        Ok(priority) => priority,
-        Err(_) => return Err(End::OutOfMemory),
-    };
+    let conf = read_configuration(alloc, used, path, files)?;
+    let resolved = resolve(alloc, used, &conf)?;
+    let (by_name, by_owner) = patterns_of(alloc, used)?;
     let Resolved { specs, plans } = resolved;
     match set_up_all(shelf, specs.as_slice()) {
         Ok(()) => {}
         Err(refused) => return Err(end_of_patterns(refused)),
     }
     match load_used(alloc, files, specs.as_slice(), &mut shelf.used) {
-        Ok(()) => Ok(roots_of(plans, frontend, priority)),
+        Ok(()) => Ok(roots_of(used, conf, plans, by_name, by_owner)),
         Err(error) => Err(end_of_load(error)),
+    }
+}
+
+// The patterns by which a tool copies.
+fn patterns_of(alloc: Global, used: &Tool) -> Result<(Option<Pattern>, Option<Pattern>), End>
+    ensures built { IfOk result (λ both. ArePatternsOf used.now both.0 both.1) }
+    ensures patterns { IfOk result (λ both. are_patterns (pattern_words used.now) ≡ true) }
+    ensures unbuilt { IfErr result (IsUnbuilt (pattern_words used.now)) }
+{
+    match used {
+        Tool::CopyDb(copy) => both_patterns(alloc, &copy.by_name, &copy.by_owner),
+        _ => Ok((None, None)),
     }
 }
 
@@ -90,31 +102,44 @@ fn load_used<F: Files>(
     load_all(alloc, files, specs, used.as_mut_slice())
 }
 
-// The two plans of the roots, and the words for the frontend and the priority.
-fn roots_of(plans: List<Plan>, frontend: Option<Text>, priority: Option<Text>) -> Roots
-    requires { length plans ≡ 2 }
-    ensures plans { plans ≡ result.config ∷ result.templates ∷ [] }
-    ensures frontend { result.frontend ≡ frontend }
-    ensures priority { result.priority ≡ priority }
+// The roots of a tool, by their plans and its patterns.
+fn roots_of(
+    used: &Tool,
+    conf: Conf,
+    plans: List<Plan>,
+    by_name: Option<Pattern>,
+    by_owner: Option<Pattern>,
+) -> Roots
+    requires plans { plans ≡ each (plan_in used.now conf) (roots used.now conf) }
+    ensures conf { result.conf ≡ conf }
+    ensures config { result.config ≡ plan_in used.now conf (source_of used.now conf) }
+    ensures templates { result.templates ≡ plan_in used.now conf conf.templates }
+    ensures copy { result.copy ≡ copy_by used.now conf by_name by_owner }
 {
-    let mut left = plans;
-    match (left.pop(), left.pop()) {
-        (Some(templates), Some(config)) => Roots {
-            config,
-            templates,
-            frontend,
-            priority,
+    let mut plans = plans;
+    match used {
+        Tool::CopyDb(_) => match (plans.pop(), plans.pop(), plans.pop()) {
+            (Some(dest), Some(templates), Some(config)) => Roots {
+                conf,
+                config,
+                templates,
+                copy: Some(CopyRoots {
+                    dest,
+                    by_name,
+                    by_owner,
+                }),
+            },
+            _ => unreachable!(),
         },
-        _ => unreachable!(),
-    }
-}
-
-fn copied(text: Option<&Text>) -> Mem<Option<Text>>
-    ensures { IfOk result (λ copy. copy ≡ option_copied text.entry) }
-{
-    match text {
-        None => Ok(None),
-        Some(text) => Ok(Some(text.copy()?)),
+        _ => match (plans.pop(), plans.pop()) {
+            (Some(templates), Some(config)) => Roots {
+                conf,
+                config,
+                templates,
+                copy: None,
+            },
+            _ => unreachable!(),
+        },
     }
 }
 
@@ -122,9 +147,9 @@ fn copied(text: Option<&Text>) -> Mem<Option<Text>>
 pub fn chosen(settings: &Settings, roots: &Roots) -> Option<Priority>
     ensures { result ≡ chosen_of settings.now roots.now }
 {
-    match priority_in(&settings.priority) {
+    match priority_in(settings.priority.as_ref()) {
         Some(priority) => Some(priority),
-        None => priority_in(&roots.priority),
+        None => priority_in(roots.conf.priority()),
     }
 }
 
@@ -141,16 +166,16 @@ pub fn chosen_frontend(
     settings: &Settings,
     roots: &Roots,
 ) -> Option<Frontend>
-    ensures { result ≡ option_or given (option_or (option_and_then frontend_of settings.now.frontend) (option_and_then frontend_of roots.now.frontend)) }
+    ensures { result ≡ option_or given (option_or (option_and_then frontend_of settings.now.frontend) (option_and_then frontend_of roots.now.conf.frontend)) }
 {
     given
-        .or(frontend_in(&settings.frontend))
-        .or(frontend_in(&roots.frontend))
+        .or(frontend_in(settings.frontend.as_ref()))
+        .or(frontend_in(roots.conf.frontend()))
 }
 
 // The frontend that the word names, where there is one.
-fn frontend_in(word: &Option<Text>) -> Option<Frontend>
-    ensures { result ≡ option_and_then frontend_of word.now }
+fn frontend_in(word: Option<&Text>) -> Option<Frontend>
+    ensures { result ≡ option_and_then frontend_of (option_copied word.entry) }
 {
     match word {
         None => None,
@@ -159,8 +184,8 @@ fn frontend_in(word: &Option<Text>) -> Option<Frontend>
 }
 
 // The priority that the word names, where there is one.
-fn priority_in(word: &Option<Text>) -> Option<Priority>
-    ensures { result ≡ option_and_then priority_of word.now }
+fn priority_in(word: Option<&Text>) -> Option<Priority>
+    ensures { result ≡ option_and_then priority_of (option_copied word.entry) }
 {
     match word {
         None => None,
@@ -168,16 +193,21 @@ fn priority_in(word: &Option<Text>) -> Option<Priority>
     }
 }
 
-// The configuration at the path. A file that isn't there is the empty text.
-fn read_configuration<F: Files>(alloc: Global, path: &Text, files: &mut F) -> Result<Conf, End>
-    ensures { ReadsConf path.now (F.files files.old) (F.files files.new) result }
+// The configuration of a tool at the path. A file that isn't there is the empty text.
+fn read_configuration<F: Files>(
+    alloc: Global,
+    used: &Tool,
+    path: &Text,
+    files: &mut F,
+) -> Result<Conf, End>
+    ensures { ReadsConf used.now path.now (F.files files.old) (F.files files.new) result }
 {
     let kept = match path.copy() {
         Ok(kept) => kept,
         Err(_) => return Err(End::OutOfMemory),
     };
     match files.read(path) {
-        Ok(found) => match configuration_in(alloc, &found) {
+        Ok(found) => match configuration_in(alloc, used, &found) {
             Ok(conf) => Ok(conf),
             Err(error) => Err(end_of_conf(error)),
         },
@@ -186,31 +216,42 @@ fn read_configuration<F: Files>(alloc: Global, path: &Text, files: &mut F) -> Re
     }
 }
 
-// The configuration that was found.
-fn configuration_in(alloc: Global, found: &Option<Text>) -> Result<Conf, ConfError>
-    ensures { IsAnswer (text_in found.now) result }
+// The configuration of a tool in what was found.
+fn configuration_in(alloc: Global, used: &Tool, found: &Option<Text>) -> Result<Conf, ConfError>
+    ensures { IsAnswer (conf_text used.now (text_in found.now)) result }
 {
-    match found {
-        None => read_conf(alloc, b""),
-        Some(text) => read_conf(alloc, text.bytes()),
+    let text = match found {
+        None => b"".as_slice(),
+        Some(text) => text.bytes(),
+    };
+    match used {
+        Tool::CopyDb(copy) => read_conf(alloc, extended(alloc, text, copy)?.bytes()),
+        _ => read_conf(alloc, text),
     }
 }
 
-// The databases that the two roots reach, and the plan of each root.
-#[tactic(auto, using(crate::proofs::StartLemmas::plans_resolved, crate::proofs::StartLemmas::few_resolved))]
-fn resolve(alloc: Global, conf: &Conf) -> Result<Resolved, ResolveError>
-    requires { IsSomeConfiguration conf.now }
-    ensures specs { IfOk result (λ resolved. resolved.specs ≡ databases_of conf.now) }
-    ensures plans { IfOk result (λ resolved. resolved.plans ≡ plan_of conf.now (databases_of conf.now) conf.now.config ∷ plan_of conf.now
-        (databases_of conf.now) conf.now.templates ∷ []) }
-    ensures over { IfOk result (λ resolved. AllByRecursion (λ plan. IsOver plan (length resolved.specs)) resolved.plans) }
-    ensures disjoint { IfOk result (λ resolved. AreDisjoint resolved.plans) }
-    ensures few { IfOk result (λ resolved. length resolved.specs ≤ 16) }
+// A text of a configuration, and what the words of `copydb` add to it.
+fn extended(alloc: Global, text: &[u8], copy: &CopyWords) -> Mem<Text>
+    ensures { IfOk result (λ all. all ≡ conf_text (CopyDb copy.now) text.now) }
 {
-    let mut roots = List::new(alloc);
-    roots.push(conf.config().copy()?)?;
-    roots.push(conf.templates().copy()?)?;
-    conf.resolve(alloc, &roots)
+    let mut all = Text::from_bytes(alloc, text)?;
+    all.push(b'\n')?;
+    for line in copy.config.as_slice() {
+        append_line(&mut all, line)?;
+    }
+    Ok(all)
+}
+
+fn append_line(text: &mut Text, line: &ConfigLine) -> Mem<()>
+    ensures { OnOk result (text.new ≡ text.old ++ added_line line.now) }
+{
+    if is_name_field(line.field.bytes()) {
+        text.push(b'\n')?;
+    }
+    text.append(line.field.bytes())?;
+    text.append(b": ")?;
+    text.append(line.value.bytes())?;
+    text.push(b'\n')
 }
 
 fn end_of_conf(error: ConfError) -> End
@@ -225,12 +266,7 @@ fn end_of_conf(error: ConfError) -> End
 fn end_of_patterns(refused: NotSetUp) -> End
     ensures { result ≡ end_of_patterns_by refused }
 {
-    let at = PatternAt::Database(refused.place);
-    match refused.error {
-        PatternError::Bad => End::BadPattern { at },
-        PatternError::TooLarge => End::PatternTooLarge { at },
-        PatternError::OutOfMemory => End::OutOfMemory,
-    }
+    end_of_pattern(PatternAt::Database(refused.place), refused.error)
 }
 
 fn end_of_load(error: LoadError) -> End

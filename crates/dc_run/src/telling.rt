@@ -4,6 +4,7 @@ ghost use Rattle.dc_text.specs.Ascii.{newline};
 ghost use Rattle.dc_session.specs.Refusals.{refusal};
 ghost use Rattle.dc_run.specs.EndLines.{end_line, place_text, HasSaid};
 ghost use Rattle.dc_run.specs.Inside.{end_text, told_line};
+ghost use Rattle.dc_run.specs.Jobs.{refusal_lines};
 ghost use Rattle.dc_run.specs.Kinds.{kind_word as kind_word_of};
 
 use crate::outcome::{End, PatternAt};
@@ -11,7 +12,7 @@ use dc_conf::ConfKind;
 use dc_outside::Link;
 use dc_question::QuestionError;
 use dc_session::FileEnd;
-use dc_text::Text;
+use dc_text::{Name, Text};
 use itoa::Buffer;
 
 // Says some bytes. A write that fails is passed over.
@@ -114,6 +115,20 @@ pub fn tell_file<E: Link>(err: &mut E, path: &Text, ended: &FileEnd)
         FileEnd::Refused(error) => {
             say_refusal(err, error);
             say(err, b"\n")
+        }
+    }
+}
+
+/// Tells of the items that a destination refused, each in a line (debconf-copydb(1)).
+pub fn tell_refused<E: Link>(err: &mut E, names: &[Name])
+    ensures { HasSaid (refusal_lines names.now) (E.link err.old) (E.link err.new) }
+{
+    match names {
+        [] => {}
+        [name, others @ ..] => {
+            say(err, name.bytes());
+            say(err, b" can't be changed\n");
+            tell_refused(err, others)
         }
     }
 }

@@ -22,6 +22,8 @@ use Rattle.dc_session.specs.declared.stepped.StepError.TheVariants as step
 use Rattle.dc_run.specs.Ends.{end_of_conf, end_of_pattern, end_of_load, tool_end_of, end_unwaited}
 use Rattle.dc_run.specs.Finishing.{images_of, IsSaved, Finishes}
 use Rattle.dc_run.specs.Headline.{HasRunTool, HasRunWords}
+use Rattle.dc_run.specs.declared.outcome.PatternAt.{PatternAt}
+use Rattle.dc_run.specs.declared.outcome.PatternAt.TheVariants.{Database, Word}
 use Rattle.dc_run.specs.OneRound.{HasUsed}
 use Rattle.dc_run.specs.Saves.{Save}
 use Rattle.dc_run.proofs.UsedLemmas.{as_used}
@@ -49,7 +51,7 @@ conf_other : (error : ConfError) → end_of_conf error ≡ end.Done → ⊥
 conf_other (conf.Refused line kind) is = cc
 conf_other conf.OutOfMemory is = cc
 
-pattern_other : (place : ℕ) (error : PatternError) → end_of_pattern place error ≡ end.Done → ⊥
+pattern_other : (place : PatternAt) (error : PatternError) → end_of_pattern place error ≡ end.Done → ⊥
 pattern_other place pattern.Bad is = cc
 pattern_other place pattern.TooLarge is = cc
 pattern_other place pattern.OutOfMemory is = cc
@@ -68,19 +70,21 @@ no_fault path is = cc
 no_usage : (word : ℕ) → end.Usage word ≡ end.Done → ⊥
 no_usage word is = cc
 
-not_before : (path : List ℕ) (old : FilesState) (new : Stock) (how : End) → how ≡ end.Done → EndsBefore path old new how → ⊥
-not_before path old new how done (inl none) = no_memory (sym none.end_is ∙ done)
-not_before path old new how done (inr (inl unread)) = no_fault path (sym unread.end_is ∙ done)
-not_before path old new how done (inr (inr (inl refused))) = conf_other refused.error (sym refused.end_is ∙ done)
-not_before path old new how done (inr (inr (inr (inl patterns)))) = pattern_other patterns.refused.place patterns.refused.error (sym patterns.end_is ∙ done)
-not_before path old new how done (inr (inr (inr (inr loads)))) = load_other loads.error (sym loads.end_is ∙ done)
+not_before : (used : Tool) (path : List ℕ) (old : FilesState) (new : Stock) (how : End) → how ≡ end.Done → EndsBefore used path old new how → ⊥
+not_before used path old new how done (inl none) = no_memory (sym none.end_is ∙ done)
+not_before used path old new how done (inr (inl unread)) = no_fault path (sym unread.end_is ∙ done)
+not_before used path old new how done (inr (inr (inl refused))) = conf_other refused.error (sym refused.end_is ∙ done)
+not_before used path old new how done (inr (inr (inr (inl wrong)))) = no_usage wrong.word (sym wrong.end_is ∙ done)
+not_before used path old new how done (inr (inr (inr (inr (inl unbuilt))))) = pattern_other (Word unbuilt.word.place) unbuilt.error (sym unbuilt.end_is ∙ done)
+not_before used path old new how done (inr (inr (inr (inr (inr (inl patterns)))))) = pattern_other (Database patterns.refused.place) patterns.refused.error (sym patterns.end_is ∙ done)
+not_before used path old new how done (inr (inr (inr (inr (inr (inr loads)))))) = load_other loads.error (sym loads.end_is ∙ done)
 
 -- ---- the tool was used
 
 used_tool : (words : List (List ℕ)) (settings : Settings) (old new : World) (outcome : Outcome) (saves : List Save) (used : Tool) → outcome.end ≡ end.Done → Names words used → HasRunWords words settings old new outcome saves → HasUsed used settings old new outcome
 used_tool words settings old new outcome saves used done named (inl refused) = absurd (no_usage refused.0.word (sym refused.0.end_is ∙ done))
 used_tool words settings old new outcome saves used done named (inr ran) = elim (subst (λ (t : Tool). HasRunTool t settings old new outcome saves) (one_tool words ran.0 used ran.1 named) ran.2) [
-  | inl before ↦ absurd (not_before settings.conf_path old.stock.files new.stock outcome.end done before.0)
+  | inl before ↦ absurd (not_before used settings.conf_path old.stock.files new.stock outcome.end done before.0)
   | inr worked ↦ as_used used settings old new outcome saves worked
 ]
 
@@ -135,6 +139,7 @@ module _ (layers used : List LayerState) (files new : FilesState) (how : End) (d
   saved_so tool.TooLong (inl is) = absurd (let e : end.TooLong ≡ end.Done = sym is.end_is ∙ done in cc)
   saved_so tool.TooLong (inr (inl failed)) = absurd (let e : end.TooLong ≡ end.Done = sym failed.end_is ∙ done in cc)
   saved_so tool.TooLong (inr (inr none)) = absurd (no_memory (sym none.end_is ∙ done))
+  saved_so tool.PrintFault broken = absurd (let e : end.LinkFault ≡ end.Done = sym broken.end_is ∙ done in cc)
   saved_so tool.TermFault broken = absurd (let e : end.TermFault ≡ end.Done = sym broken.end_is ∙ done in cc)
   saved_so tool.ChildFault broken = absurd (let e : end.ChildFault ≡ end.Done = sym broken.end_is ∙ done in cc)
   saved_so tool.OutOfMemory broken = absurd (no_memory (sym broken.end_is ∙ done))

@@ -24,7 +24,8 @@ use Rattle.dc_save.specs.declared.loading.Loaded.TheVariants.{Here, LeftOut}
 use Rattle.dc_save.specs.declared.loading.LoadError.{LoadError}
 use Rattle.dc_shelf.specs.Shelves.{all_set_up, GoesOn, LoadsAll}
 use Rattle.dc_session.proofs.Determined.{IsTold}
-use Rattle.dc_run.specs.Starting.{IsConfiguration, databases_of, conf_read, HasStarted}
+use Rattle.dc_cli.specs.declared.tool.Tool.{Tool}
+use Rattle.dc_run.specs.Starting.{IsConfiguration, conf_read, conf_text, copy_roots, databases_of, HasStarted, plan_in, source_of}
 use Rattle.dc_run.specs.World.{Stock}
 use Rattle.dc_run.specs.declared.starting.Roots.{Roots}
 use Rattle.dc_theorem.proofs.CountLemmas.{no_rise, still}
@@ -188,19 +189,23 @@ module _ (disk : Disk) (n m : ℕ) (room : n < 2 ^ 64 - 1) (other_room : m < 2 ^
 
 -- ---- the start
 
-one_conf : (disk : Disk) (path : List ℕ) (conf other : Configuration) → IsConfiguration (Some disk) path conf → IsConfiguration (Some disk) path other → conf ≡ other
-one_conf disk path conf other first second =
-    first.reads.1 ∙ ap (λ (t : List ℕ). configuration (each fields_of (stanzas t))) (first.text_is ∙ sym second.text_is) ∙ sym second.reads.1
+one_conf : (used : Tool) (disk : Disk) (path : List ℕ) (conf other : Configuration) → IsConfiguration used (Some disk) path conf → IsConfiguration used (Some disk) path other → conf ≡ other
+one_conf used disk path conf other first second =
+    first.reads.1 ∙ ap (λ (t : List ℕ). configuration (each fields_of (stanzas (conf_text used t)))) (first.text_is ∙ sym second.text_is) ∙ sym second.reads.1
 
--- a run that has started counts no less than before
-pub started_later : (path : List ℕ) (files : FilesState) (mid : Stock) (roots : Roots) → HasStarted path files mid roots → files.counts.faults ≤ mid.files.counts.faults
-started_later path files mid roots started = loads_later (databases_of started.conf) (all_set_up (databases_of started.conf)) mid.used (conf_read files.view path) mid.files.view files.counts mid.files.counts started.loaded.loads
+module _ (used : Tool) where
+  abbrev specs_of : Roots → List LayerSpec
+  specs_of roots = databases_of used roots.conf
 
--- and its files tell as before
-pub started_told : (disk : Disk) (path : List ℕ) (files : FilesState) (mid : Stock) (roots : Roots) → HasStarted path files mid roots → IsTold disk files.view → IsTold disk mid.files.view
-started_told disk path files mid roots started told =
-    loads_told disk (databases_of started.conf) (all_set_up (databases_of started.conf)) mid.used (conf_read files.view path) mid.files.view files.counts mid.files.counts started.loaded.loads
-    (told.0 ++ record { op = Read; path = path; ok = true } ∷ [], ap (λ (t : FilesView). conf_read t path) told.1)
+  -- a run that has started counts no less than before
+  pub started_later : (path : List ℕ) (files : FilesState) (mid : Stock) (roots : Roots) → HasStarted used path files mid roots → files.counts.faults ≤ mid.files.counts.faults
+  started_later path files mid roots started = loads_later (specs_of roots) (all_set_up (specs_of roots)) mid.used (conf_read files.view path) mid.files.view files.counts mid.files.counts started.loaded.loads
+
+  -- and its files tell as before
+  pub started_told : (disk : Disk) (path : List ℕ) (files : FilesState) (mid : Stock) (roots : Roots) → HasStarted used path files mid roots → IsTold disk files.view → IsTold disk mid.files.view
+  started_told disk path files mid roots started told =
+      loads_told disk (specs_of roots) (all_set_up (specs_of roots)) mid.used (conf_read files.view path) mid.files.view files.counts mid.files.counts started.loaded.loads
+      (told.0 ++ record { op = Read; path = path; ok = true } ∷ [], ap (λ (t : FilesView). conf_read t path) told.1)
 
 -- Two runs that began over files that tell the same, and counted no failure: they loaded the same layers, and take the same from the
 -- configuration.
@@ -209,27 +214,27 @@ pub record StartAlike (mid last : Stock) (roots others : Roots) : Type 0 where
   pub told : mid.files.view ≡ last.files.view
   pub roots_are : roots ≡ others
 
-pub one_start : (disk : Disk) (path : List ℕ) (told : FilesView) (files other_files : FilesState) (mid last : Stock) (roots others : Roots) → told.disk ≡ Some disk → files.view ≡ told → other_files.view ≡ told
+pub one_start : (used : Tool) (disk : Disk) (path : List ℕ) (told : FilesView) (files other_files : FilesState) (mid last : Stock) (roots others : Roots) → told.disk ≡ Some disk → files.view ≡ told → other_files.view ≡ told
     → files.counts.faults < 2 ^ 64 - 1 → other_files.counts.faults < 2 ^ 64 - 1 → mid.files.counts.faults ≤ files.counts.faults → last.files.counts.faults ≤ other_files.counts.faults
-    → HasStarted path files mid roots → HasStarted path other_files last others → StartAlike mid last roots others
-one_start disk path told files other_files mid last roots others disk_told files_told other_told room other_room high other_high first second =
-    let one_conf_is = subst (λ (d : Option Disk). IsConfiguration d path first.conf) (ap (λ (t : FilesView). t.disk) files_told ∙ disk_told) first.loaded.conf_is in
-    let other_conf_is = subst (λ (d : Option Disk). IsConfiguration d path second.conf) (ap (λ (t : FilesView). t.disk) other_told ∙ disk_told) second.loaded.conf_is in
-    let conf : first.conf ≡ second.conf = one_conf disk path first.conf second.conf one_conf_is other_conf_is in
-    let one_loads : LoadsAll (databases_of second.conf) (all_set_up (databases_of second.conf)) mid.used (conf_read told path) mid.files.view files.counts mid.files.counts (Ok tt)
-    = subst (λ (c : Configuration). LoadsAll (databases_of c) (all_set_up (databases_of c)) mid.used (conf_read told path) mid.files.view files.counts mid.files.counts (Ok tt)) conf
-    (subst (λ (t : FilesView). LoadsAll (databases_of first.conf) (all_set_up (databases_of first.conf)) mid.used (conf_read t path) mid.files.view files.counts mid.files.counts (Ok tt)) files_told first.loaded.loads) in
-    let other_loads : LoadsAll (databases_of second.conf) (all_set_up (databases_of second.conf)) last.used (conf_read told path) last.files.view other_files.counts last.files.counts (Ok tt)
-    = subst (λ (t : FilesView). LoadsAll (databases_of second.conf) (all_set_up (databases_of second.conf)) last.used (conf_read t path) last.files.view other_files.counts last.files.counts (Ok tt)) other_told second.loaded.loads in
-    let once = loads_once disk files.counts.faults other_files.counts.faults room other_room (databases_of second.conf) (all_set_up (databases_of second.conf)) mid.used last.used (conf_read told path) mid.files.view last.files.view
+    → HasStarted used path files mid roots → HasStarted used path other_files last others → StartAlike mid last roots others
+one_start used disk path told files other_files mid last roots others disk_told files_told other_told room other_room high other_high first second =
+    let one_conf_is = subst (λ (d : Option Disk). IsConfiguration used d path roots.conf) (ap (λ (t : FilesView). t.disk) files_told ∙ disk_told) first.loaded.conf_is.conf_is.conf_is in
+    let other_conf_is = subst (λ (d : Option Disk). IsConfiguration used d path others.conf) (ap (λ (t : FilesView). t.disk) other_told ∙ disk_told) second.loaded.conf_is.conf_is.conf_is in
+    let conf : roots.conf ≡ others.conf = one_conf used disk path roots.conf others.conf one_conf_is other_conf_is in
+    let one_loads : LoadsAll (databases_of used others.conf) (all_set_up (databases_of used others.conf)) mid.used (conf_read told path) mid.files.view files.counts mid.files.counts (Ok tt)
+    = subst (λ (c : Configuration). LoadsAll (databases_of used c) (all_set_up (databases_of used c)) mid.used (conf_read told path) mid.files.view files.counts mid.files.counts (Ok tt)) conf
+    (subst (λ (t : FilesView). LoadsAll (databases_of used roots.conf) (all_set_up (databases_of used roots.conf)) mid.used (conf_read t path) mid.files.view files.counts mid.files.counts (Ok tt)) files_told first.loaded.loads) in
+    let other_loads : LoadsAll (databases_of used others.conf) (all_set_up (databases_of used others.conf)) last.used (conf_read told path) last.files.view other_files.counts last.files.counts (Ok tt)
+    = subst (λ (t : FilesView). LoadsAll (databases_of used others.conf) (all_set_up (databases_of used others.conf)) last.used (conf_read t path) last.files.view other_files.counts last.files.counts (Ok tt)) other_told second.loaded.loads in
+    let once = loads_once disk files.counts.faults other_files.counts.faults room other_room (databases_of used others.conf) (all_set_up (databases_of used others.conf)) mid.used last.used (conf_read told path) mid.files.view last.files.view
     files.counts mid.files.counts other_files.counts last.files.counts disk_told (omega arith) high (omega arith) other_high one_loads other_loads in
     record {
       used = once.0;
       told = once.1;
       roots_are = λ i. record {
-        config = (first.config_is ∙ ap (λ (c : Configuration). plan_of c (databases_of c) c.config) conf ∙ sym second.config_is) i;
-        templates = (first.templates_is ∙ ap (λ (c : Configuration). plan_of c (databases_of c) c.templates) conf ∙ sym second.templates_is) i;
-        frontend = (first.frontend_is ∙ ap (λ (c : Configuration). c.frontend) conf ∙ sym second.frontend_is) i;
-        priority = (first.priority_is ∙ ap (λ (c : Configuration). c.priority) conf ∙ sym second.priority_is) i;
+        conf = conf i;
+        config = (first.config_is ∙ ap (λ (c : Configuration). plan_in used c (source_of used c)) conf ∙ sym second.config_is) i;
+        templates = (first.templates_is ∙ ap (λ (c : Configuration). plan_in used c c.templates) conf ∙ sym second.templates_is) i;
+        copy = (first.copy_is ∙ ap (λ (c : Configuration). copy_roots used c) conf ∙ sym second.copy_is) i;
       };
     }

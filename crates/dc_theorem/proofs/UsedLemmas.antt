@@ -44,10 +44,10 @@ module _ (words : List (List ℕ)) (used : Tool) (settings : Settings) (disk : D
         omega arith
 
     pub starts_low : old.stock.files.counts.faults ≤ has.mid.files.counts.faults
-    starts_low = started_later settings.conf_path old.stock.files has.mid has.roots has.started
+    starts_low = started_later used settings.conf_path old.stock.files has.mid has.roots has.started
 
     pub starts_told : IsTold disk has.mid.files.view
-    starts_told = started_told disk settings.conf_path old.stock.files has.mid has.roots has.started (calls, clean.files_are)
+    starts_told = started_told used disk settings.conf_path old.stock.files has.mid has.roots has.started (calls, clean.files_are)
 
   -- ---- both
 
@@ -56,7 +56,7 @@ module _ (words : List (List ℕ)) (used : Tool) (settings : Settings) (disk : D
     -- they began from the same
     pub same_start : has.mid.files.counts.faults ≤ one.stock.files.counts.faults → other_has.mid.files.counts.faults ≤ other.stock.files.counts.faults → StartAlike has.mid other_has.mid has.roots other_has.roots
     same_start high other_high =
-        one_start disk settings.conf_path (record { disk = Some disk; calls = Some calls }) one.stock.files other.stock.files has.mid other_has.mid has.roots other_has.roots refl clean.files_are other_clean.files_are
+        one_start used disk settings.conf_path (record { disk = Some disk; calls = Some calls }) one.stock.files other.stock.files has.mid other_has.mid has.roots other_has.roots refl clean.files_are other_clean.files_are
         clean.none_failed.room other_clean.none_failed.room high other_high has.started other_has.started
 
     -- where the tools left the same, the runs do

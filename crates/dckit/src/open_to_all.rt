@@ -9,7 +9,7 @@ use std::fs::File;
 use std::rt::Files as SystemFiles;
 
 /// The paths of what is read without a lock: of the configuration, which no run writes; of the template files that the words of
-/// `loadtemplate` name; and of the databases that the configuration says are to be read alone.
+/// `loadtemplate` name; and of the databases that the configuration says are to be read alone, or of all, where `show` writes none.
 pub fn paths_open_to_all<R: SystemFiles<File = File> + Alloc + Clone + Drop>(
     alloc: Global,
     rt: R,
@@ -25,7 +25,8 @@ pub fn paths_open_to_all<R: SystemFiles<File = File> + Alloc + Clone + Drop>(
         }
         _ => {}
     }
-    add_read_alone(alloc, &mut paths, &configuration(alloc, rt, settings)?)?;
+    let text = configuration(alloc, rt, settings)?;
+    add_read_alone(alloc, &mut paths, &text, shows(words))?;
     paths.push(settings.conf_path.copy()?)?;
     Ok(paths)
 }
@@ -45,8 +46,16 @@ fn configuration<R: SystemFiles<File = File> + Alloc + Clone + Drop>(
     }
 }
 
-// The places of the databases with `Readonly: true`.
-fn add_read_alone(alloc: Global, paths: &mut List<Text>, text: &Text) -> Mem<()> {
+// Whether the words are those of `show`.
+fn shows(words: &List<Text>) -> bool {
+    match words.as_slice() {
+        [tool, ..] => tool.bytes() == b"show".as_slice(),
+        [] => false,
+    }
+}
+
+// The places of the databases with `Readonly: true`, or of all.
+fn add_read_alone(alloc: Global, paths: &mut List<Text>, text: &Text, are_all: bool) -> Mem<()> {
     let conf = match read_conf(alloc, text.bytes()) {
         Ok(conf) => conf,
         Err(ConfError::Refused { line: _, kind: _ }) => return Ok(()),
@@ -55,7 +64,7 @@ fn add_read_alone(alloc: Global, paths: &mut List<Text>, text: &Text) -> Mem<()>
     match conf.resolve(alloc, conf.databases()) {
         Ok(resolved) => {
             for spec in resolved.specs.as_slice() {
-                if spec.readonly {
+                if are_all || spec.readonly {
                     paths.push(spec.place.copy()?)?;
                 }
             }

@@ -1,7 +1,6 @@
 use Rattle.std.proofs.Common.{Err, refl, inr, subst}
 use Rattle.dc_cli.specs.declared.tool.ToolError.{ToolError}
 use Rattle.dc_cli.specs.Tools.{IsToolAnswer}
-use Rattle.dc_run.specs.World.{World, world}
 use Rattle.dc_run.proofs.ProgramLemmas.{is_run}
 use Rattle.dc_run.proofs.RunLemmas.{refused_words, unread_words}
 use Rattle.dc_run.proofs.running.run_words.Goals as goal

@@ -3,7 +3,7 @@ use Rattle.dc_frontend.specs.declared.frontend.Frontend.TheVariants.{Noninteract
 use Rattle.dc_proto.specs.declared.priority.Priority.TheVariants.{High}
 use Rattle.dc_session.specs.Asking.{nothing_asked}
 use Rattle.dc_session.specs.SessionState.{no_terminal, nowhere}
-use Rattle.dc_run.proofs.RunLemmas.{communicated, loaded_files, ran_program}
+use Rattle.dc_run.proofs.RunLemmas.{communicated, loaded_files, ran_program, was_copied, was_shown}
 use Rattle.dc_run.proofs.running.use_tool.Goals as goal
 
 pub returns-in-Communicate-clause-does : goal.returns-in-Communicate-clause-does
@@ -28,3 +28,15 @@ pub returns-in-Communicate-clause-running : goal.returns-in-Communicate-clause-r
 returns-in-Communicate-clause-running g c started =
     let waits = (c.communicate.ensures.served (g.C.Link.link c.args.child.now)).waits in
     cc
+
+pub returns-in-Show-clause-does : goal.returns-in-Show-clause-does
+returns-in-Show-clause-does g c =
+    rw c.in-Show.is
+    (was_shown c.args.roots.now c.args.settings.now (g.L.Link.link c.args.io.now) (g.L.Link.link c.show.new.io) (g.C.Link.link c.args.child.now) (g.E.Link.link c.args.err.now) _ _ _ c.args.teletype.now.ahead
+    c.args.last_code c.show.result _ _ c.show.ensures.layers c.show.ensures.printed)
+
+pub returns-in-CopyDb-clause-does : goal.returns-in-CopyDb-clause-does
+returns-in-CopyDb-clause-does g c =
+    rw c.in-CopyDb.is
+    (was_copied c.args.roots.now c.args.settings.now (g.L.Link.link c.args.io.now) (g.C.Link.link c.args.child.now) (g.E.Link.link c.args.err.now) (g.E.Link.link c.copy_database.new.err) _ _ _
+    c.args.teletype.now.ahead c.args.last_code c.copy_database.result _ c.copy_database.ensures.copies)

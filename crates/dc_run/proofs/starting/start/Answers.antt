@@ -1,21 +1,26 @@
-use Rattle.std.proofs.Common.{rules, refl, Ok, length}
-use Rattle.dc_run.proofs.StartLemmas.{loaded_by, both_plans, both_disjoint, over_used}
+use Rattle.std.proofs.Common.{rules, length, Ok}
+use Rattle.std.proofs.lemmas.Result.{err_from_is_err_and}
+use Rattle.dc_run.proofs.StartLemmas.{apart_used, fit, loaded_by, started, unbuilt_ends}
 use Rattle.dc_run.proofs.starting.start.Goals as goal
+
+pub returns-in_err-by_name-clause-starts : goal.returns-in_err-by_name-clause-starts
+returns-in_err-by_name-clause-starts g c =
+    let p = err_from_is_err_and c.from_residual-in_err-by_name.result c.from_residual-in_err-by_name.ensures.1 in
+    rw (p.1, p.2)
+    (unbuilt_ends c.args.used.now c.args.path.now c.in_ok-conf.conf (g.F.Files.files c.args.files.now) (g.F.Files.files c.read_configuration.new.files) _ _ c.in_ok-resolved.resolved
+    c.in_ok-conf.ensures.0 c.in_ok-conf.ensures.1 c.in_ok-resolved.ensures.resolved c.in_err-by_name.ensures.unbuilt)
 
 pub returns-in-Ok-load_used-clause-starts : goal.returns-in-Ok-load_used-clause-starts
 returns-in-Ok-load_used-clause-starts g c =
-    let plans = both_plans c.in-Ok.conf _ _ _ c.in-Ok-resolve.ensures.plans c.roots_of.ensures.plans in
-    record {
-      conf = c.in-Ok.conf;
-      loaded = loaded_by c.args.path.now c.in-Ok.conf (g.F.Files.files c.args.files.now) (g.F.Files.files c.read_configuration.new.files) (g.F.Files.files c.load_used.new.files) c.as_slice-2.result.now _ _ _ (Ok tt)
-          c.in-Ok.ensures.0 c.in-Ok.ensures.1 (search rules) (search rules) (search rules) c.in-Ok-load_used.ensures.loads refl;
-      config_is = plans.0;
-      templates_is = plans.1;
-      frontend_is = search rules;
-      priority_is = search rules;
-    }
+    let conf_is = fit c.args.used.now (g.F.Files.files c.args.files.now).view.disk c.args.path.now c.in_ok-conf.conf c.in_ok-resolved.resolved c.in_ok-conf.ensures.0 c.in_ok-resolved.ensures.resolved c.in_ok-by_name.ensures.patterns in
+    let told = c.roots_of.ensures in
+    started c.args.used.now c.args.path.now c.in_ok-conf.conf (g.F.Files.files c.args.files.now) (g.F.Files.files c.load_used.new.files) _ c.in_ok-by_name.by_name c.in_ok-by_name.by_owner c.roots_of.result
+    c.in_ok-by_name.ensures.built (record { conf_is = told.conf; config_is = told.config; templates_is = told.templates; copy_is = told.copy })
+    (loaded_by c.args.used.now c.args.path.now c.in_ok-conf.conf (g.F.Files.files c.args.files.now) (g.F.Files.files c.read_configuration.new.files) (g.F.Files.files c.load_used.new.files) c.as_slice-2.result.now _ _ (Ok tt)
+    conf_is c.in_ok-conf.ensures.1 (search rules) (search rules) (search rules) c.in-Ok-load_used.ensures.loads)
 
-pub returns-in-Ok-load_used-clause-over : goal.returns-in-Ok-load_used-clause-over
-returns-in-Ok-load_used-clause-over g c =
-    let over = over_used _ _ _ (length c.in-Ok-resolve.resolved.specs) (length c.load_used.new.used.items) c.roots_of.ensures.plans c.in-Ok-resolve.ensures.over (search rules) in
-    record { config = over.0; templates = over.1; disjoint = both_disjoint _ _ _ c.roots_of.ensures.plans c.in-Ok-resolve.ensures.disjoint }
+pub returns-in-Ok-load_used-clause-apart : goal.returns-in-Ok-load_used-clause-apart
+returns-in-Ok-load_used-clause-apart g c =
+    let told = c.roots_of.ensures in
+    apart_used c.args.used.now c.in_ok-conf.conf c.in_ok-resolved.resolved c.in_ok-by_name.by_name c.in_ok-by_name.by_owner c.roots_of.result (length c.load_used.new.used.items)
+    (record { conf_is = told.conf; config_is = told.config; templates_is = told.templates; copy_is = told.copy }) c.in_ok-resolved.ensures.resolved (search rules)

@@ -1,0 +1,106 @@
+// Words of databases: where they are refused, and what they say.
+use crate::{PlacedWord, Tool, ToolError, read_tool};
+use dc_text::{List, Text};
+use std::alloc::Global;
+use std::process::Abort;
+
+// The words of a line, between which single spaces stand.
+fn words(rt: &impl Abort, alloc: Global, line: &str) -> List<Text> {
+    let mut words = List::new(alloc);
+    for word in line.as_bytes().split(|byte| *byte == b' ') {
+        words
+            .push(Text::from_bytes(alloc, word).expect(rt, "memory"))
+            .expect(rt, "memory");
+    }
+    words
+}
+
+// The place at which the words of a line are refused, if they are.
+fn refused(rt: &impl Abort, alloc: Global, line: &str) -> Option<usize> {
+    match read_tool(alloc, &words(rt, alloc, line)) {
+        Ok(_) => None,
+        Err(ToolError::Refused { word }) => Some(word),
+        Err(ToolError::OutOfMemory) => panic!(rt; "memory"),
+    }
+}
+
+#[test]
+fn words_of_show_are_taken_or_refused_at_their_place(rt: HostRuntime) {
+    for (line, place) in [
+        ("show p", None),
+        ("show p q/r", None),
+        ("show --db=x p q", None),
+        ("show --db= p", None),
+        ("show --listowners", None),
+        ("show --listowners --db=x", None),
+        ("show --db=x --listowners", None),
+        ("show --listdbs", None),
+        ("show", Some(1)),
+        ("show a,b", Some(1)),
+        ("show --x", Some(1)),
+        ("show --db=x", Some(2)),
+        ("show p --db=x", Some(2)),
+        ("show p --listowners", Some(2)),
+        ("show --db=x --db=y", Some(2)),
+        ("show --db=x --listdbs", Some(2)),
+        ("show --listowners p", Some(2)),
+        ("show --listdbs p", Some(2)),
+        ("show --listdbs --db=x", Some(2)),
+        ("show --listowners --db=x p", Some(3)),
+        ("shows p", Some(0)),
+    ] {
+        assert_eq!(rt; refused(&rt, rt.alloc(), line), place, "at {line}");
+    }
+}
+
+#[test]
+fn words_of_copydb_are_taken_or_refused_at_their_place(rt: HostRuntime) {
+    for (line, place) in [
+        ("copydb a b", None),
+        ("copydb  b", None),
+        ("copydb --pattern=x a --owner-pattern= -b", None),
+        ("copydb a b --config=nAME:c --config=Driver:File", None),
+        ("copydb a b --config=Name:", None),
+        ("copydb", Some(1)),
+        ("copydb a", Some(2)),
+        ("copydb a b c", Some(3)),
+        ("copydb a --x b", Some(2)),
+        ("copydb a -- b", Some(2)),
+        ("copydb --pattern=x --pattern=y a b", Some(2)),
+        ("copydb --pattern=x a", Some(3)),
+        ("copydb a --owner-pattern= --owner-pattern= b", Some(3)),
+        ("copydb a b --config=Driver:File", Some(3)),
+        ("copydb a b --config=Name", Some(3)),
+        ("copydb a b --config=Name:c --config=x", Some(4)),
+    ] {
+        assert_eq!(rt; refused(&rt, rt.alloc(), line), place, "at {line}");
+    }
+}
+
+// Whether this word stands at this place.
+fn is(placed: &PlacedWord, word: &[u8], place: usize) -> bool {
+    placed.word.bytes() == word && placed.place == place
+}
+
+#[test]
+fn what_copydb_copies_is_said_with_its_place(rt: HostRuntime) {
+    let alloc = rt.alloc();
+    let line = "copydb --pattern=^p/ a --config=name:c:d b --config=Driver:File";
+    match read_tool(alloc, &words(&rt, alloc, line)) {
+        Ok(Tool::CopyDb(copy)) => {
+            assert!(rt; is(&copy.source, b"a", 2));
+            assert!(rt; is(&copy.dest, b"b", 4));
+            assert!(rt; copy.by_name.is_some_and(|pattern| is(&pattern, b"^p/", 1)));
+            assert!(rt; copy.by_owner.is_none());
+            for (place, (field, value)) in [("name", "c:d"), ("Driver", "File")]
+                .iter()
+                .enumerate()
+            {
+                let line = copy.config.get(place).expect(&rt, "a line");
+                assert_eq!(rt; line.field.bytes(), field.as_bytes());
+                assert_eq!(rt; line.value.bytes(), value.as_bytes());
+            }
+        }
+        _ => panic!(rt; "refused"),
+    }
+}
