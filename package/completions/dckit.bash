@@ -67,7 +67,8 @@ _dckit() {
             _dckit_choose "$(_dckit_owners) $options --help" "$typed" ;;
         *loadtemplate)
             if ((place == 1)); then _dckit_choose "$(_dckit_owners)" "$typed"; else _dckit_files '*templates*' "$typed"; fi ;;
-        debconf-show) _dckit_choose "$(_dckit_packages)" "$typed" ;;
+        "dckit show" | debconf-show) _dckit_choose "$(_dckit_packages) --db= --listowners --listdbs" "$typed" ;;
+        "dckit copydb" | debconf-copydb) _dckit_choose "--pattern= --owner-pattern= --config=Name:" "$typed" ;;
         debconf-escape) _dckit_choose "-e -u --escape --unescape" "$typed" ;;
         debconf-apt-progress)
             _dckit_choose "--logfile --logstderr --from --to --dlwaypoint --no-progress --config --start --stop --" "$typed" ;;
@@ -83,4 +84,4 @@ _dckit() {
     return 0
 }
 
-complete -F _dckit dckit debconf debconf-communicate debconf-loadtemplate debconf-show debconf-escape debconf-apt-progress dpkg-preconfigure dpkg-reconfigure
+complete -F _dckit dckit debconf debconf-communicate debconf-loadtemplate debconf-show debconf-copydb debconf-escape debconf-apt-progress dpkg-preconfigure dpkg-reconfigure
