@@ -9,4 +9,5 @@ pub mod RunLaw
 pub mod SameAnswers
 pub mod SameRuns
 pub mod StartLaws
+pub mod ToolLaws
 pub mod UsedLemmas

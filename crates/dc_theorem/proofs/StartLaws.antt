@@ -10,7 +10,7 @@ use Rattle.dc_outside.specs.Steps.{after_look}
 use Rattle.dc_outside.specs.Counts.{Counts, FaultRose}
 use Rattle.dc_outside.specs.declared.files.FilesOp.{FilesOp}
 use Rattle.dc_outside.specs.declared.files.FilesOp.TheVariants.{Read, List as ListOf}
-use Rattle.dc_conf.specs.Configuration.{Configuration, configuration, plan_of}
+use Rattle.dc_conf.specs.Configuration.{Configuration, configuration}
 use Rattle.dc_conf.specs.Stanzas.{stanzas, fields_of}
 use Rattle.dc_conf.specs.declared.spec.LayerSpec.{LayerSpec}
 use Rattle.dc_layer.specs.State.{LayerState}

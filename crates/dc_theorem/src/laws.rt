@@ -14,8 +14,11 @@ ghost use Rattle.dc_session.specs.Alike.{AreAlike, EndAlike};
 ghost use Rattle.dc_session.specs.Machine.{Handles, Aborts};
 ghost use Rattle.dc_session.specs.SessionState.{SessionState};
 ghost use Rattle.dc_cli.specs.Tools.{Names};
-ghost use Rattle.dc_cli.specs.declared.tool.Tool.TheVariants.{Communicate, LoadTemplate, Run};
-ghost use Rattle.dc_theorem.specs.Runs.{NoneFailed, IsClean, AreTypedAlike, CommunicateAlike, RunAlike, LoadAlike};
+ghost use Rattle.dc_cli.specs.declared.tool.CopyWords.{CopyWords};
+ghost use Rattle.dc_cli.specs.declared.tool.PlacedWord.{PlacedWord};
+ghost use Rattle.dc_cli.specs.declared.tool.Shown.{Shown};
+ghost use Rattle.dc_cli.specs.declared.tool.Tool.TheVariants.{Communicate, CopyDb, LoadTemplate, Run, Show};
+ghost use Rattle.dc_theorem.specs.Runs.{NoneFailed, IsClean, AreTypedAlike, CommunicateAlike, RunAlike, LoadAlike, ShowAlike};
 
 /// The bytes of the link, the disk and what is typed determine a session in which no read of files failed: two from states that are alike
 /// and follow the same code, and both come to the end, send the same replies and leave what is alike, however the links cut their bytes and the terminals what is typed.
@@ -31,8 +34,8 @@ pub fn what_comes_in_determines_the_session()
 
 /// What comes in determines what a run says and leaves, however its bytes are cut. Two runs with the same words and settings, over files
 /// that tell the same, that both did all that they were to do, and in which no call of the files failed: where the same bytes came on the
-/// link, and the same was typed on the terminal, in whatever pieces, they sent the same replies, said the same on the terminal and on standard
-/// error, hold the same layers, and leave the same disk by the same calls.
+/// link, and the same was typed on the terminal, in whatever pieces, they sent the same replies or printed the same, said the same on the terminal and
+/// on standard error, hold the same layers, and leave the same disk by the same calls.
 ///
 /// It says nothing of runs that end otherwise, or in which a call of the files failed, and nothing of the status of `run`, which the program
 /// gives that it started.
@@ -50,5 +53,11 @@ pub fn what_comes_in_determines_the_run()
         → RunAlike one new outcome other last again }
     ensures loadtemplate { (words : List (List ℕ)) (owner : List ℕ) (paths : List (List ℕ)) (settings : Settings) (disk : Disk) (calls : List FilesCall)
         (one new other last : World) (outcome again : Outcome) → Names words (LoadTemplate owner paths)
+        → IsClean words settings disk calls one new outcome → IsClean words settings disk calls other last again → LoadAlike one new outcome other last again }
+    ensures show { (words : List (List ℕ)) (database : Option PlacedWord) (shown : Shown) (settings : Settings) (disk : Disk) (calls : List FilesCall)
+        (one new other last : World) (outcome again : Outcome) → Names words (Show database shown)
+        → IsClean words settings disk calls one new outcome → IsClean words settings disk calls other last again → ShowAlike one new outcome other last again }
+    ensures copydb { (words : List (List ℕ)) (copy : CopyWords) (settings : Settings) (disk : Disk) (calls : List FilesCall)
+        (one new other last : World) (outcome again : Outcome) → Names words (CopyDb copy)
         → IsClean words settings disk calls one new outcome → IsClean words settings disk calls other last again → LoadAlike one new outcome other last again }
 {}

@@ -1,0 +1,150 @@
+-- What comes in determines a run of `show` and one of `copydb`.
+use Rattle.std.proofs.Common.{◌≡◌, ℕ, List, [], ◌∷◌, ap, sym, subst, ◌∙◌, refl, Option, Some, None}
+use Rattle.std.specs.Prelude.{◌≤◌}
+use Rattle.dc_layer.specs.State.{LayerState}
+use Rattle.dc_outside.specs.Disk.{Disk}
+use Rattle.dc_outside.specs.State.{FilesState, LinkState}
+use Rattle.dc_outside.specs.Talk.{then_pieces}
+use Rattle.dc_outside.specs.declared.files.FilesCall.{FilesCall}
+use Rattle.dc_outside.specs.declared.link.Piece.TheVariants.{Sent}
+use Rattle.dc_session.specs.Serving.{Resources}
+use Rattle.dc_session.specs.SessionState.{SessionState}
+use Rattle.dc_store.specs.Plans.{StoreState, stored}
+use Rattle.dc_tools.specs.Copying.{Copying, after_copies, chosen, refused_names}
+use Rattle.dc_run.specs.Ends.{status_of}
+use Rattle.dc_run.specs.Jobs.{Prints, Copies, CopiesBy, HasCopied, copying, copy_status, refusal_lines, shown_text}
+use Rattle.dc_run.specs.OneRound.{HasUsed}
+use Rattle.dc_run.specs.Starting.{begun, context_of}
+use Rattle.dc_run.specs.World.{Links, World, before_rounds}
+use Rattle.dc_run.specs.declared.outcome.Outcome.{Outcome}
+use Rattle.dc_run.specs.declared.outcome.ToolAnswer.{ToolAnswer}
+use Rattle.dc_run.specs.declared.outcome.ToolEnd.{ToolEnd}
+use Rattle.dc_run.specs.declared.outcome.ToolEnd.TheVariants as tool
+use Rattle.dc_run.specs.declared.settings.Settings.{Settings}
+use Rattle.dc_run.specs.declared.starting.CopyRoots.{CopyRoots}
+use Rattle.dc_run.specs.declared.starting.Roots.{Roots}
+use Rattle.dc_cli.specs.Tools.{Names}
+use Rattle.dc_cli.specs.declared.tool.CopyWords.{CopyWords}
+use Rattle.dc_cli.specs.declared.tool.PlacedWord.{PlacedWord}
+use Rattle.dc_cli.specs.declared.tool.Shown.{Shown}
+use Rattle.dc_cli.specs.declared.tool.Tool.TheVariants.{Show, CopyDb}
+use Rattle.dc_serve.specs.Said.{said}
+use Rattle.dc_theorem.specs.Runs.{IsClean, LoadAlike, ShowAlike}
+use Rattle.dc_theorem.proofs.EndLemmas.{was_used, unwaited}
+use Rattle.dc_theorem.proofs.UsedLemmas.{tool_done, left_sound, same_start, leave_alike}
+
+-- ---- show
+
+module _ (words : List (List ℕ)) (database : Option PlacedWord) (shown : Shown) (settings : Settings) (disk : Disk) (calls : List FilesCall) where
+  -- what is shown of layers by these roots
+  abbrev text : List LayerState → Roots → List ℕ
+  text layers roots = shown_text shown roots.conf layers (context_of roots settings)
+
+  module _ (old new : World) (outcome : Outcome) (clean : IsClean words settings disk calls old new outcome) (has : HasUsed (Show database shown) settings old new outcome) where
+    printed : new.links.io.talk ≡ then_pieces old.links.io.talk (Sent (text has.mid.used has.roots) ∷ [])
+    printed =
+        ap (λ (l : LinkState). l.talk) (has.io_is ∙ subst (λ (e : ToolEnd). Prints (text has.mid.used has.roots) old.links.io has.links.io e)
+        (tool_done words (Show database shown) settings disk calls old new outcome clean has) has.uses.0.prints)
+
+    shown_high : has.mid.files.counts.faults ≤ old.stock.files.counts.faults
+    shown_high = subst (λ (f : FilesState). f.counts.faults ≤ old.stock.files.counts.faults) (ap (λ (l : Resources). l.files) has.uses.0.left_is)
+        (left_sound words (Show database shown) settings disk calls old new outcome clean has)
+
+    shown_status : outcome.status ≡ 0
+    shown_status =
+        has.status_is ∙ (λ i. status_of (clean.done i) has.status)
+        ∙ unwaited has.answer.is_started has.links.child new.links.child has.how outcome.end has.answer.status has.status has.uses.0.waits has.awaits ∙ has.uses.0.status_is
+
+  pub show_alike : (one new other last : World) (outcome again : Outcome) → Names words (Show database shown)
+      → IsClean words settings disk calls one new outcome → IsClean words settings disk calls other last again → ShowAlike one new outcome other last again
+  show_alike one new other last outcome again named clean other_clean =
+      let has = was_used words settings disk calls one new outcome (Show database shown) named clean in
+      let other_has = was_used words settings disk calls other last again (Show database shown) named other_clean in
+      let starts = same_start words (Show database shown) settings disk calls one new other last outcome again clean other_clean has other_has (shown_high one new outcome clean has) (shown_high other last again other_clean other_has) in
+      record {
+        leave = leave_alike words (Show database shown) settings disk calls one new other last outcome again clean other_clean has other_has
+            (ap (λ (l : Resources). l.layers) has.uses.0.left_is ∙ starts.used ∙ sym (ap (λ (l : Resources). l.layers) other_has.uses.0.left_is))
+            (ap (λ (l : Resources). l.files.view) has.uses.0.left_is ∙ starts.told ∙ sym (ap (λ (l : Resources). l.files.view) other_has.uses.0.left_is))
+            (has.uses.1 ∙ sym other_has.uses.1)
+            (has.uses.0.code_is ∙ sym other_has.uses.0.code_is);
+        printed = record {
+          pieces = Sent (text has.mid.used has.roots) ∷ [];
+          other_pieces = Sent (text other_has.mid.used other_has.roots) ∷ [];
+          one_is = printed one new outcome clean has;
+          other_is = printed other last again other_clean other_has;
+          same = λ i. said (Sent (text (starts.used i) (starts.roots_are i)) ∷ []);
+        };
+        status = shown_status other last again other_clean other_has ∙ sym (shown_status one new outcome clean has);
+      }
+
+-- ---- copydb
+
+-- what a copy that did all leaves, tells and has as its status
+record IsWhole (copy : Copying) (old new : List LayerState) (told : List ℕ) (status : ℕ) : Type 0 where
+  new_is : new ≡ (after_copies (stored old []) copy (chosen old copy)).layers
+  told_is : told ≡ refusal_lines (refused_names (stored old []) copy (chosen old copy))
+  status_is : status ≡ copy_status (refused_names (stored old []) copy (chosen old copy))
+
+whole_copy : (copy : Copying) (old new : List LayerState) (told : List ℕ) (status : ℕ) → Copies copy old new tool.Done told status → IsWhole copy old new told status
+whole_copy copy old new told status copies =
+    let is = copies.2 in
+    record { new_is = copies.3 ∙ ap (λ (s : StoreState). s.layers) is.left; told_is = copies.4 ∙ ap refusal_lines is.told; status_is = copies.5 ∙ ap copy_status is.told }
+
+-- the copy of a run, which has what it copies by
+record HasMade (found : Option CopyRoots) (start : SessionState) (links new : Links) (answer : ToolAnswer) (told : List ℕ) (left : Resources) : Type 0 where
+  roots : CopyRoots
+  found_is : found ≡ Some roots
+  made : HasCopied (copying start roots) start links new 0 answer told left
+
+made_by : (found : Option CopyRoots) (start : SessionState) (links new : Links) (answer : ToolAnswer) (told : List ℕ) (left : Resources) → CopiesBy found start links new 0 answer told left
+    → HasMade found start links new answer told left
+made_by None start links new answer told left none = absurd none
+made_by (Some roots) start links new answer told left made = record { roots = roots; found_is = refl; made = made }
+
+module _ (words : List (List ℕ)) (copy : CopyWords) (settings : Settings) (disk : Disk) (calls : List FilesCall) where
+  module _ (old new : World) (outcome : Outcome) (clean : IsClean words settings disk calls old new outcome) (has : HasUsed (CopyDb copy) settings old new outcome) where
+    abbrev start : SessionState
+    start = begun (CopyDb copy) (before_rounds (record old { stock = has.mid })) has.roots settings
+
+    copied : HasMade has.roots.copy start old.links has.links has.answer has.told has.left
+    copied = made_by has.roots.copy start old.links has.links has.answer has.told has.left has.uses
+
+    whole : IsWhole (copying start copied.roots) has.mid.used has.left.layers has.told has.answer.status
+    whole = whole_copy (copying start copied.roots) has.mid.used has.left.layers has.told has.answer.status
+        (subst (λ (e : ToolEnd). Copies (copying start copied.roots) has.mid.used has.left.layers e has.told has.answer.status)
+        (tool_done words (CopyDb copy) settings disk calls old new outcome clean has) copied.made.copies)
+
+    copied_high : has.mid.files.counts.faults ≤ old.stock.files.counts.faults
+    copied_high = subst (λ (f : FilesState). f.counts.faults ≤ old.stock.files.counts.faults) (ap (λ (l : Resources). l.files) copied.made.left_is)
+        (left_sound words (CopyDb copy) settings disk calls old new outcome clean has)
+
+    copied_status : outcome.status ≡ has.answer.status
+    copied_status =
+        has.status_is ∙ (λ i. status_of (clean.done i) has.status)
+        ∙ unwaited has.answer.is_started has.links.child new.links.child has.how outcome.end has.answer.status has.status copied.made.waits has.awaits
+
+  pub copy_alike : (one new other last : World) (outcome again : Outcome) → Names words (CopyDb copy)
+      → IsClean words settings disk calls one new outcome → IsClean words settings disk calls other last again → LoadAlike one new outcome other last again
+  copy_alike one new other last outcome again named clean other_clean =
+      let has = was_used words settings disk calls one new outcome (CopyDb copy) named clean in
+      let other_has = was_used words settings disk calls other last again (CopyDb copy) named other_clean in
+      let starts = same_start words (CopyDb copy) settings disk calls one new other last outcome again clean other_clean has other_has (copied_high one new outcome clean has) (copied_high other last again other_clean other_has) in
+      let first = copied one new outcome clean has in
+      let second = copied other last again other_clean other_has in
+      let found : Some first.roots ≡ Some second.roots = sym first.found_is ∙ ap (λ (r : Roots). r.copy) starts.roots_are ∙ second.found_is in
+      let same : first.roots ≡ second.roots = cc in
+      let makes : copying (start one new outcome clean has) first.roots ≡ copying (start other last again other_clean other_has) second.roots
+      = λ i. record { source = (starts.roots_are i).config; dest = (same i).dest; templates = (starts.roots_are i).templates; by_name = (same i).by_name; by_owner = (same i).by_owner } in
+      let one_whole = whole one new outcome clean has in
+      let other_whole = whole other last again other_clean other_has in
+      let refused : refused_names (stored has.mid.used []) (copying (start one new outcome clean has) first.roots) (chosen has.mid.used (copying (start one new outcome clean has) first.roots))
+      ≡ refused_names (stored other_has.mid.used []) (copying (start other last again other_clean other_has) second.roots) (chosen other_has.mid.used (copying (start other last again other_clean other_has) second.roots))
+      = λ i. refused_names (stored (starts.used i) []) (makes i) (chosen (starts.used i) (makes i)) in
+      record {
+        leave = leave_alike words (CopyDb copy) settings disk calls one new other last outcome again clean other_clean has other_has
+            (one_whole.new_is ∙ (λ i. (after_copies (stored (starts.used i) []) (makes i) (chosen (starts.used i) (makes i))).layers) ∙ sym other_whole.new_is)
+            (ap (λ (l : Resources). l.files.view) first.made.left_is ∙ starts.told ∙ sym (ap (λ (l : Resources). l.files.view) second.made.left_is))
+            (one_whole.told_is ∙ ap refusal_lines refused ∙ sym other_whole.told_is)
+            (first.made.code_is ∙ sym second.made.code_is);
+        status = copied_status other last again other_clean other_has ∙ other_whole.status_is ∙ sym (ap copy_status refused) ∙ sym one_whole.status_is ∙ sym (copied_status one new outcome clean has);
+      }
