@@ -28,12 +28,15 @@ module _ (ls : List LayerState) (at : QuestionContext) where
   pub written_over : (questions : List (List ℕ)) (first : Write) (count : ℕ) → first ≡ template_write ls at first.name first.op questions → IsSetOver at count → IsOver first.plan count
   written_over questions first count f over = subst (λ p. IsOver p count) (sym (ap (λ (w : Write). w.plan) f)) over.templates
 
-  module _ (n o : List ℕ) (first : Write) where
-    pub bound_beside : (kinds : Texts (Option Kind)) (item : Option ItemParts) (b : Op) (second : Write) → kinds ≡ with_kinds ls at empty (first ∷ []) → item ≡ question ls at n
-        → b ≡ binding first.name o item → second ≡ write_by ls at kinds n b → second ≡ write_beside ls at (first ∷ []) n (binding first.name o (question ls at n))
-    bound_beside kinds item b second k q bi s =
-        s ∙ (λ i. write_by ls at (k i) n ((bi ∙ ap (binding first.name o) q) i)) ∙ beside ls at (first ∷ []) n (binding first.name o (question ls at n))
+  -- a write by the kind that another leaves is the write beside it
+  pub after_write : (n : List ℕ) (first : Write) (op : Op) (kinds : Texts (Option Kind)) → kinds ≡ with_kinds ls at empty (first ∷ []) → write_by ls at kinds n op ≡ write_beside ls at (first ∷ []) n op
+  after_write n first op kinds is = ap (λ k. write_by ls at k n op) is ∙ beside ls at (first ∷ []) n op
 
+  -- and beside no other
+  pub lone_write : (n : List ℕ) (op : Op) (kinds : Texts (Option Kind)) → kinds ≡ empty → write_by ls at kinds n op ≡ write_beside ls at [] n op
+  lone_write n op kinds is = ap (λ k. write_by ls at k n op) is ∙ beside ls at [] n op
+
+  module _ (n o : List ℕ) (first : Write) where
     pub both_added : (second : Write) (old batch whole : List Write) → first ≡ template_write ls at first.name first.op (n ∷ [])
         → second ≡ write_beside ls at (first ∷ []) n (binding first.name o (question ls at n)) → batch ≡ old ++ first ∷ [] → whole ≡ batch ++ second ∷ []
         → whole ≡ old ++ bind_batch ls at first.name first.op n o

@@ -118,7 +118,7 @@ kind_made (Err error) made k is e = tt
 
 -- ---- a new question
 
-nothing_there : (key : List ℕ) → contains_key no_parts.fields key ≡ false
+pub nothing_there : (key : List ℕ) → contains_key no_parts.fields key ≡ false
 nothing_there key = ap is_some (get-empty text_cmp key)
 
 pub question_made : (bare bound owned : ItemParts) (t o template owner : List ℕ) (is_new : Bool) → bare ≡ no_parts → template ≡ t → owner ≡ o

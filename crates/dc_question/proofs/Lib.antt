@@ -8,6 +8,7 @@ pub mod GroupLemmas
 pub mod KindLemmas
 pub mod LeaveLemmas
 pub mod LoadLemmas
+pub mod PreseedLemmas
 pub mod PurgeLemmas
 pub mod ReadingLemmas
 pub mod RefusalLemmas

@@ -7,7 +7,7 @@ ghost use Rattle.dc_conf.specs.Plans.{IsOver};
 ghost use Rattle.dc_store.specs.Batches.{AreOver, is_refused};
 ghost use Rattle.dc_question.specs.Asked.{asked, HasPlans, seen};
 ghost use Rattle.dc_question.specs.KindsLeft.{kind_left as kind_left_of, with_kind, with_kinds, item_kind as item_kind_of, kind_then as kind_then_of, write_by, is_on_owners as is_on_owners_of};
-ghost use Rattle.dc_question.specs.Ownership.{kept_after, kind_tested as kind_tested_of, template_write, is_gone};
+ghost use Rattle.dc_question.specs.Ownership.{kept_after, kind_tested as kind_tested_of, template_write, write_beside as write_beside_of, is_gone};
 ghost use Rattle.dc_question.specs.Readings.{kind_by};
 ghost use Rattle.dc_store.specs.Plans.{look, look_below};
 
@@ -178,6 +178,16 @@ impl<'q> Questions<'q> {
             op,
             reported_for: ReportedFor::Itself,
         })
+    }
+
+    // A write to a question beside one to a template.
+    pub(crate) fn write_after(&self, first: &Write<'_>, name: &Name, op: Op) -> Mem<Write<'q>>
+        requires over { HasPlans self.now }
+        requires first { first.now ≡ seen (asked state self.now) template_write first.now.name first.now.op (name.now ∷ []) }
+        ensures { IfOk result (λ w. w ≡ seen (asked state self.now) write_beside_of (first.now ∷ []) name.now op) }
+    {
+        let kinds = self.kind_left_by(first)?;
+        self.write_beside(&kinds, name, op)
     }
 
     // The kind of a question once an operation on it is done.

@@ -100,9 +100,8 @@ impl<'q> Questions<'q> {
             (binding_of first.now.name owner.now (seen (asked state self.now) question_of name.now))) }
         ensures left { OnOk result (builder.new ≡ no_parts) }
     {
-        let kinds = self.kind_left_by(first)?;
         let binding = binding(builder, &first.name, owner, self.question(name))?;
-        self.write_beside(&kinds, name, binding)
+        self.write_after(first, name, binding)
     }
 }
 

@@ -1,5 +1,5 @@
 //! Laws of the readings.
-ghost use Rattle.std.specs.Prelude.{◌≡◌, List, ℕ, [], None, Ok, Err, true, false, length, unwrap_or, codes, map as each};
+ghost use Rattle.std.specs.Prelude.{◌≡◌, List, ℕ, Bool, [], None, Ok, Err, true, false, length, unwrap_or, codes, map as each};
 ghost use Rattle.std.specs.List.{All, list_any};
 ghost use Rattle.std.specs.FinMap as map;
 ghost use Rattle.dc_text.specs.Maps.{AreDistinct};
@@ -7,10 +7,12 @@ ghost use Rattle.dc_item.specs.Item.{ItemParts};
 ghost use Rattle.dc_conf.specs.Plans.{are_disjoint};
 ghost use Rattle.dc_layer.specs.State.{LayerState};
 ghost use Rattle.dc_template.specs.Stanzas.{Stanza};
+ghost use Rattle.dc_template.specs.declared.kinds.Kind.{Kind};
 ghost use Rattle.dc_store.specs.Plans.{StoreState, look, look_below, is_owned};
 ghost use Rattle.dc_store.specs.Batches.{Write, AllDistinct, is_refused, all_done, first_refused};
 ghost use Rattle.dc_question.specs.Changes.{batch_for, value_write, values_set};
 ghost use Rattle.dc_question.specs.Ownership.{register_batch, leave_batch, load_batch, purged};
+ghost use Rattle.dc_question.specs.Preseeding.{preseed_batch, preseeded};
 ghost use Rattle.dc_question.specs.Questions.{QuestionContext, exists, can_change};
 ghost use Rattle.dc_question.specs.declared.errors.QuestionError.{QuestionError};
 ghost use Rattle.dc_question.specs.declared.errors.QuestionError.TheVariants.{CantChange};
@@ -35,6 +37,8 @@ pub fn writes_of_a_row_are_distinct()
         → are_disjoint at.config at.templates ≡ true → AreDistinct names → AllDistinct (leave_batch layers at owner names) }
     ensures load { (layers : List LayerState) (at : QuestionContext) (owner : List ℕ) (templates : List Stanza)
         → are_disjoint at.config at.templates ≡ true → AreDistinct (each (λ t. t.name) templates) → AllDistinct (load_batch layers at owner templates) }
+    ensures preseed { (layers : List LayerState) (at : QuestionContext) (owner name : List ℕ) (kind : Kind) (value : List ℕ) (unseen : Bool)
+        → are_disjoint at.config at.templates ≡ true → AllDistinct (preseed_batch layers at owner name kind value unseen) }
 {}
 
 /// A row is done as a whole exactly where none of its writes is refused, and else none of it is.
@@ -64,4 +68,10 @@ pub fn changeable_questions_are_set()
     ensures there { (layers : List LayerState) (at : QuestionContext) (name : List ℕ) → can_change layers at name ≡ true → exists layers at name ≡ true }
     ensures set { (store : StoreState) (at : QuestionContext) (answers : List (List ℕ × List ℕ)) → All (λ a. can_change store.layers at a.0 ≡ true) answers
         → values_set store at answers ≡ Ok (all_done store (each (value_write store.layers at) answers)) }
+{}
+
+/// Where a question isn't answered before it is asked, the refusal names the question.
+pub fn refused_answers_name_the_question()
+    ensures { (store : StoreState) (at : QuestionContext) (owner name : List ℕ) (kind : Kind) (value : List ℕ) (unseen : Bool) (error : QuestionError)
+        → preseeded store at owner name kind value unseen ≡ Err error → error ≡ CantChange name }
 {}

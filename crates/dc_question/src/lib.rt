@@ -16,6 +16,7 @@ pub mod laws;
 mod leaving;
 mod loading;
 mod ownership;
+mod preseeding;
 pub mod questions;
 pub mod values;
 
@@ -23,5 +24,6 @@ pub use choices::{ChoicePair, choice_pair};
 pub use context::QuestionContext;
 pub use errors::QuestionError;
 pub use fields::{field, localised};
+pub use preseeding::seen_flag;
 pub use questions::Questions;
 pub use values::{kind, value};
