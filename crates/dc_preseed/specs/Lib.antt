@@ -1,4 +1,6 @@
 pub mod Joiner
 pub mod Joining
+pub mod Lines
+pub mod Selecting
 pub mod SelectionExamples
 pub mod Selections

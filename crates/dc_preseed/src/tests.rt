@@ -1,6 +1,14 @@
-// Lines of selections: how they are joined, and what they say.
-use crate::{Joined, Joiner, Selection, SelectionError, SelectionFault, read_selection};
-use dc_text::Text;
+// Lines of selections: how they are joined, what they say, and what they do over a link.
+use crate::{
+    Choices, Joined, Joiner, Selected, Selection, SelectionError, SelectionFault, read_selection,
+    take_selections,
+};
+use dc_conf::{Base, LayerSort, LayerSpec, Plan};
+use dc_item::read_records;
+use dc_layer::{FileLayer, Layer};
+use dc_outside::MemLink;
+use dc_serve::LinkEnd;
+use dc_text::{Name, Text};
 use dc_words::{Line, MAX_LINE};
 use std::alloc::Global;
 use std::process::Abort;
@@ -170,4 +178,193 @@ fn lines_say_values_and_flags_or_have_a_fault(rt: HostRuntime) {
         let words = said(&rt, rt.alloc(), line.as_bytes());
         assert_eq!(rt; words.bytes(), want.as_bytes(), "at {line}");
     }
+}
+
+// A layer in a file, which holds the records.
+fn layer(rt: &impl Abort, alloc: Global, readonly: bool, records: &[u8]) -> Box<dyn Layer> {
+    let mut layer = FileLayer::blank(alloc);
+    let spec = LayerSpec {
+        name: Text::new(alloc),
+        sort: LayerSort::File,
+        place: Text::new(alloc),
+        extension: Text::new(alloc),
+        mode: 0o600,
+        backup: false,
+        readonly,
+        required: true,
+        accept_name: None,
+        reject_name: None,
+        accept_type: None,
+        reject_type: None,
+    };
+    layer.set_up(spec).expect(rt, "patterns");
+    layer.take_all(read_records(alloc, records).expect(rt, "records"));
+    Box::new(alloc, layer).expect(rt, "memory")
+}
+
+fn plan(place: usize) -> Plan {
+    Plan {
+        base: Base::Leaf(place),
+        backup: None,
+        debug: false,
+    }
+}
+
+// What is told of the selections of a text over two layers, which come in pieces cut at some length, and marks of how it ended, whether a line
+// was refused, and whether the question p/a is there then. Some reads may fail.
+fn told(
+    rt: &impl Abort,
+    alloc: Global,
+    input: &[u8],
+    readonly: bool,
+    choices: Choices,
+    failing: &[u64],
+) -> Text {
+    let mut layers: Vec<Box<dyn Layer>> = Vec::new(alloc);
+    layers
+        .push(layer(rt, alloc, readonly, b""))
+        .expect(rt, "memory");
+    layers
+        .push(layer(rt, alloc, readonly, b""))
+        .expect(rt, "memory");
+    let mut io = MemLink::new(alloc, input, &[5, 7, 40], failing).expect(rt, "memory");
+    let mut err = MemLink::new(alloc, b"", &[], &[]).expect(rt, "memory");
+    let Selected {
+        end,
+        last_code,
+        refused,
+    } = take_selections(
+        alloc,
+        &mut io,
+        &mut err,
+        &mut layers,
+        &plan(0),
+        &plan(1),
+        &Text::new(alloc),
+        choices,
+        7,
+    );
+    assert_eq!(rt; last_code, 7);
+    assert!(rt; io.sent().bytes().is_empty());
+    assert_eq!(rt; layers.len(), 2);
+    let mut told = Text::from_bytes(alloc, err.sent().bytes()).expect(rt, "memory");
+    told.append(match end {
+        LinkEnd::Done => b"done",
+        LinkEnd::LinkFault => b"lost",
+        _ => b"gone",
+    })
+    .expect(rt, "memory");
+    if refused {
+        told.append(b", refused").expect(rt, "memory");
+    }
+    let name = Name::read(alloc, b"p/a").expect(rt, "a name");
+    if layers.first().expect(rt, "a layer").has(&name) {
+        told.append(b", set").expect(rt, "memory");
+    }
+    told
+}
+
+const PAGE: &str =
+    "# comment\np p/a string one\np p/b string \\\ntwo words\np p/a seen false\np p/c\n";
+
+#[test]
+fn selections_are_done_and_told(rt: HostRuntime) {
+    for (input, check, verbose, want) in [
+        (
+            PAGE,
+            false,
+            false,
+            "line 6: too few words\ndone, refused, set",
+        ),
+        (PAGE, true, false, "line 6: too few words\ndone, refused"),
+        (
+            PAGE,
+            true,
+            true,
+            "line 2: p/a\nline 3: p/b\nline 5: p/a\nline 6: too few words\ndone, refused",
+        ),
+        (
+            PAGE,
+            false,
+            true,
+            "line 2: p/a\nline 3: p/b\nline 5: p/a\nline 6: too few words\ndone, refused, set",
+        ),
+        ("p p/a string one\\", false, true, "line 1: p/a\ndone, set"),
+        ("p p/a \\\nstring", false, true, "line 1: p/a\ndone, set"),
+        ("", false, true, "done"),
+        (
+            "p, p/a string x",
+            false,
+            false,
+            "line 1: bad name\ndone, refused",
+        ),
+        (
+            "p p/a strin x",
+            false,
+            false,
+            "line 1: bad type\ndone, refused",
+        ),
+        (
+            "\np p/a seen x",
+            false,
+            false,
+            "line 2: bad flag value\ndone, refused",
+        ),
+        (
+            "p p/a seen true",
+            false,
+            false,
+            "line 1: no question\ndone, refused",
+        ),
+        ("p p/a seen true", true, false, "done"),
+    ] {
+        let choices = Choices {
+            verbose,
+            check,
+            unseen: false,
+        };
+        let told = told(&rt, rt.alloc(), input.as_bytes(), false, choices, &[]);
+        assert_eq!(rt; told.bytes(), want.as_bytes(), "at {input}");
+    }
+}
+
+const PLAIN: Choices = Choices {
+    verbose: false,
+    check: false,
+    unseen: false,
+};
+
+#[test]
+fn what_no_layer_takes_is_refused(rt: HostRuntime) {
+    let told = told(&rt, rt.alloc(), b"p p/a string one", true, PLAIN, &[]);
+    assert_eq!(rt;
+        told.bytes(),
+        b"line 1: can't be changed\ndone, refused".as_slice()
+    );
+}
+
+#[test]
+fn a_line_that_is_too_long_is_refused(rt: HostRuntime) {
+    let mut input = vec![in rt.alloc(); b'x'; 599_999].expect(&rt, "memory");
+    for byte in b"\\\n" {
+        input.push(*byte).expect(&rt, "memory");
+    }
+    for _ in 0..600_000 {
+        input.push(b'x').expect(&rt, "memory");
+    }
+    let told = told(&rt, rt.alloc(), input.as_slice(), false, PLAIN, &[]);
+    assert_eq!(rt;
+        told.bytes(),
+        b"line 1: line too long\ndone, refused".as_slice()
+    );
+}
+
+#[test]
+fn what_goes_on_is_passed_over_where_the_link_fails(rt: HostRuntime) {
+    let input = b"p p/c\np p/d \\\n";
+    let told = told(&rt, rt.alloc(), input, false, PLAIN, &[3]);
+    assert_eq!(rt;
+        told.bytes(),
+        b"line 1: too few words\nlost, refused".as_slice()
+    );
 }
