@@ -11,7 +11,7 @@ use Rattle.dc_frontend.specs.declared.frontend.Frontend.{Frontend}
 use Rattle.dc_cli.specs.Tools.{NamesOwner, NamesFiles, Given, words_of, all_words, values_of, Says, IsCommand, NamesRun, NamesTool, Names, IsToolWords, BeginsToolWords, AreRefusedAt}
 use Rattle.dc_cli.specs.declared.run_options.RunOption.TheVariants.{Owner, Frontend as ForFrontend, Priority as ForPriority}
 use Rattle.dc_cli.specs.declared.tool.Tool.{Tool}
-use Rattle.dc_cli.specs.declared.tool.Tool.TheVariants.{Communicate, LoadTemplate, Run, Show, CopyDb}
+use Rattle.dc_cli.specs.declared.tool.Tool.TheVariants.{Communicate, LoadTemplate, Run, Show, CopyDb, SetSelections, Drill}
 use Rattle.dc_cli.specs.DatabaseWords.{NamesShow, placed_from, values_behind}
 use Rattle.dc_cli.specs.DatabaseReading.{shown_of}
 use Rattle.dc_cli.specs.declared.show_words.ShowSeen.{ShowSeen}
@@ -23,6 +23,8 @@ use Rattle.dc_cli.proofs.ShowLemmas.{show_read}
 use Rattle.dc_cli.proofs.OptionLemmas.{option_apart}
 use Rattle.dc_cli.proofs.RunLemmas.{options_behind}
 use Rattle.dc_cli.proofs.ToolLemmas.{word_of}
+use Rattle.dc_cli.proofs.SelectionLemmas.{one_selection}
+use Rattle.dc_cli.specs.SelectionWords.{NamesDrill}
 
 one_owner : (words : List (List ℕ)) (owner other : List ℕ) → NamesOwner words owner → NamesOwner words other → owner ≡ other
 one_owner [] owner other a b = a ∙ sym b
@@ -78,6 +80,11 @@ one_show words database another shown other a b =
     let asked : shown ≡ other = first.shown_is ∙ ap (λ (s : ShowSeen). shown_of words s.database s.asked) seen ∙ sym second.shown_is in
     cc
 
+one_drill : (words : List (List ℕ)) (count other : ℕ) → NamesDrill words count → NamesDrill words other → count ≡ other
+one_drill [] count other a b = absurd a
+one_drill (word ∷ []) count other a b = let same : Some count ≡ Some other = sym a ∙ b in cc
+one_drill (word ∷ more ∷ words) count other a b = absurd a
+
 one_tool_by : (word : List ℕ) (words : List (List ℕ)) (tool other : Tool) → NamesTool word words tool → NamesTool word words other → tool ≡ other
 one_tool_by word words (Communicate owner) (Communicate other) a b = ap Communicate (one_owner words owner other a.1 b.1)
 one_tool_by word words (LoadTemplate owner paths) (LoadTemplate other others) a b = one_loading words owner other paths others a.1 b.1
@@ -85,6 +92,8 @@ one_tool_by word words (Run owner frontend priority command) (Run other other_fr
     one_run words owner other frontend other_frontend priority other_priority command another a.1 b.1
 one_tool_by word words (Show database shown) (Show another other) a b = one_show words database another shown other a.1 b.1
 one_tool_by word words (CopyDb copy) (CopyDb other) a b = ap CopyDb (one_copy words copy other a.1 b.1)
+one_tool_by word words (SetSelections verbose check unseen) (SetSelections v c u) a b = one_selection words verbose check unseen v c u a.1 b.1
+one_tool_by word words (Drill count) (Drill other) a b = ap Drill (one_drill words count other a.1 b.1)
 one_tool_by word words tool other a b = absurd (other_text (word_of tool) (word_of other) refl (sym a.0 ∙ b.0))
 
 pub one_tool : (words : List (List ℕ)) (tool other : Tool) → Names words tool → Names words other → tool ≡ other

@@ -1,8 +1,10 @@
 pub mod AnswerLemmas
 pub mod CopyLemmas
+pub mod DrillLemmas
 pub mod FrontLemmas
 pub mod OptionLemmas
 pub mod ReadingLemmas
 pub mod RunLemmas
+pub mod SelectionLemmas
 pub mod ShowLemmas
 pub mod ToolLemmas

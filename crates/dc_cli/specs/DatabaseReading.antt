@@ -1,9 +1,13 @@
--- The reading of the words behind `show` and `copydb`, a word at a time. No public clause cites this module.
+-- The reading of the words behind `show`, `copydb` and `set-selections`, a word at a time. No public clause cites this module.
 use Rattle.std.specs.Prelude.{◌≡◌, ◌+◌, ◌++◌, length, ◌==◌, ℕ, Bool, true, false, not, ◌&&◌, ◌||◌, List, [], ◌∷◌, drop, Option, None, Some, option_and_then, codes, is_some, if◌then◌else◌}
 use Rattle.std.specs.List.{list_all, before_first, after_first}
 use Rattle.std.specs.Str.{bytes_eq}
 use Rattle.dc_text.specs.Ascii.{colon}
 use Rattle.dc_cli.specs.DatabaseWords.{is_name_field, behind_front, is_option, is_package, placed_from, plain_of, values_behind, is_copy_word, has_colon}
+use Rattle.dc_cli.specs.SelectionWords.{selection_option}
+use Rattle.dc_cli.specs.declared.selection_words.SelectionOption.{SelectionOption}
+use Rattle.dc_cli.specs.declared.selection_words.SelectionOption.TheVariants.{Verbose, Check, Unseen}
+use Rattle.dc_cli.specs.declared.selection_words.SelectionSeen.{SelectionSeen}
 use Rattle.dc_cli.specs.declared.tool.ConfigLine.{ConfigLine}
 use Rattle.dc_cli.specs.declared.tool.PlacedWord.{PlacedWord}
 use Rattle.dc_cli.specs.declared.tool.Shown.{Shown}
@@ -62,11 +66,13 @@ with_package database Databases = None
 abbrev pub show_step : Bool → Asked → Option (List ℕ) → Bool → Bool → Bool → Option ShowSeen
 show_step database asked given owners databases named =
     if is_some given then with_database database asked
-    else (if owners then with_owners database asked else (if databases then with_databases database asked else (if named then with_package database asked else None)))
+    else (if owners then with_owners database asked
+    else (if databases then with_databases database asked else (if named then with_package database asked else None)))
 
 abbrev pub show_next : ShowSeen → List ℕ → Option ShowSeen
 show_next seen word =
-    show_step seen.database seen.asked (behind_front (codes "--db=") word) (bytes_eq word (codes "--listowners")) (bytes_eq word (codes "--listdbs")) (is_package word)
+    show_step seen.database seen.asked (behind_front (codes "--db=") word)
+    (bytes_eq word (codes "--listowners")) (bytes_eq word (codes "--listdbs")) (is_package word)
 
 -- whether something is asked for
 abbrev pub is_asked : Asked → Bool
@@ -111,7 +117,9 @@ copy_step seen option by_name by_owner config =
     else database_seen seen
 
 abbrev pub copy_next : CopySeen → List ℕ → Option CopySeen
-copy_next seen word = copy_step seen (is_option word) (behind_front (codes "--pattern=") word) (behind_front (codes "--owner-pattern=") word) (behind_front (codes "--config=") word)
+copy_next seen word =
+    copy_step seen (is_option word) (behind_front (codes "--pattern=") word) (behind_front (codes "--owner-pattern=") word)
+    (behind_front (codes "--config=") word)
 
 -- both databases are named
 abbrev pub is_copy : CopySeen → Bool
@@ -146,3 +154,22 @@ fits seen place words =
 -- the line that a text is, parted at its first colon
 abbrev pub line_of : List ℕ → ConfigLine
 line_of text = record { field = before_first (λ byte. byte == colon) text; value = after_first (λ byte. byte == colon) text }
+
+-- ---- set-selections
+
+abbrev pub nothing_selected : SelectionSeen
+nothing_selected = record { verbose = false; check = false; unseen = false }
+
+-- one more option
+abbrev pub selection_with : SelectionSeen → SelectionOption → Option SelectionSeen
+selection_with seen Verbose = if seen.verbose then None else Some (record seen { verbose = true })
+selection_with seen Check = if seen.check then None else Some (record seen { check = true })
+selection_with seen Unseen = if seen.unseen then None else Some (record seen { unseen = true })
+
+-- one more word
+abbrev pub selection_next : SelectionSeen → List ℕ → Option SelectionSeen
+selection_next seen word = option_and_then (selection_with seen) (selection_option word)
+
+-- whatever was seen ends the words
+abbrev pub is_selections : SelectionSeen → Bool
+is_selections seen = true

@@ -43,7 +43,8 @@ pub record NamesPackages (words : List (List ℕ)) (database : Option PlacedWord
 -- [--db=DATABASE] --listowners
 pub record NamesOwners (words : List (List ℕ)) (database : Option PlacedWord) : Type 0 where
   pub given : List (List ℕ)
-  pub database_is : ((words ≡ given ++ codes "--listowners" ∷ []) × GivesDatabase given 1 database) ⊎ ((words ≡ codes "--listowners" ∷ given) × GivesDatabase given 2 database)
+  pub database_is : ((words ≡ given ++ codes "--listowners" ∷ []) × GivesDatabase given 1 database)
+      ⊎ ((words ≡ codes "--listowners" ∷ given) × GivesDatabase given 2 database)
 
 -- show [--db=DATABASE] PACKAGE ...
 -- show [--db=DATABASE] --listowners
@@ -81,7 +82,8 @@ IsGivenOnce (value ∷ other ∷ values) given = ⊥
 -- a word that is no option, or one of those of `copydb`
 abbrev pub is_copy_word : List ℕ → Bool
 is_copy_word word =
-    not (is_option word) || (is_some (behind_front (codes "--pattern=") word) || (is_some (behind_front (codes "--owner-pattern=") word) || is_some (behind_front (codes "--config=") word)))
+    not (is_option word) || (is_some (behind_front (codes "--pattern=") word)
+    || (is_some (behind_front (codes "--owner-pattern=") word) || is_some (behind_front (codes "--config=") word)))
 
 -- FIELD:VALUE, parted at the first colon
 abbrev pub line_text : ConfigLine → List ℕ

@@ -1,4 +1,5 @@
 pub mod DatabaseReading
 pub mod DatabaseWords
 pub mod RunReading
+pub mod SelectionWords
 pub mod Tools

@@ -7,10 +7,11 @@ use Rattle.dc_proto.specs.declared.priority.Priority.{Priority}
 use Rattle.dc_frontend.specs.Frontends.{frontend_of}
 use Rattle.dc_frontend.specs.declared.frontend.Frontend.{Frontend}
 use Rattle.dc_cli.specs.DatabaseWords.{NamesShow, NamesCopy}
+use Rattle.dc_cli.specs.SelectionWords.{NamesSelections, NamesDrill}
 use Rattle.dc_cli.specs.declared.run_options.RunOption.{RunOption}
 use Rattle.dc_cli.specs.declared.run_options.RunOption.TheVariants.{Owner, Frontend as ForFrontend, Priority as ForPriority}
 use Rattle.dc_cli.specs.declared.tool.Tool.{Tool}
-use Rattle.dc_cli.specs.declared.tool.Tool.TheVariants.{Communicate, LoadTemplate, Run, Show, CopyDb}
+use Rattle.dc_cli.specs.declared.tool.Tool.TheVariants.{Communicate, LoadTemplate, Run, Show, CopyDb, SetSelections, Drill}
 use Rattle.dc_cli.specs.declared.tool.ToolError.{ToolError}
 use Rattle.dc_cli.specs.declared.tool.ToolError.TheVariants.{Refused, OutOfMemory}
 
@@ -106,12 +107,16 @@ NamesTool word words (LoadTemplate owner paths) = (word ≡ codes "loadtemplate"
 NamesTool word words (Run owner frontend priority command) = (word ≡ codes "run") × NamesRun words owner frontend priority command
 NamesTool word words (Show database shown) = (word ≡ codes "show") × NamesShow words database shown
 NamesTool word words (CopyDb copy) = (word ≡ codes "copydb") × NamesCopy words copy
+NamesTool word words (SetSelections verbose check unseen) = (word ≡ codes "set-selections") × NamesSelections words verbose check unseen
+NamesTool word words (Drill count) = (word ≡ codes "drill") × NamesDrill words count
 
 -- communicate [OWNER]
 -- loadtemplate OWNER FILE ...
 -- run [-o OWNER] [-f NAME] [-p PRIORITY] COMMAND [ARGUMENT ...]
 -- show ..
 -- copydb SOURCE DEST ..
+-- set-selections [-v] [-c] [-u]
+-- drill N
 abbrev pub Names : List (List ℕ) → Tool → Type 0
 Names [] tool = ⊥
 Names (word ∷ words) tool = NamesTool word words tool
@@ -145,3 +150,5 @@ owner_of (LoadTemplate owner paths) = owner
 owner_of (Run owner frontend priority command) = owner
 owner_of (Show database shown) = codes "unknown"
 owner_of (CopyDb copy) = codes "unknown"
+owner_of (SetSelections verbose check unseen) = codes "unknown"
+owner_of (Drill count) = codes "drill"

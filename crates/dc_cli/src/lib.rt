@@ -4,11 +4,13 @@
 mod copy_words;
 mod copying;
 mod database_words;
+mod drill_words;
 pub mod laws;
 pub mod reading;
 pub mod run_options;
 mod run_words;
 mod seen;
+pub mod selection_words;
 mod show_words;
 pub mod tool;
 

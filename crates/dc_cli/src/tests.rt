@@ -1,4 +1,4 @@
-// Words of databases: where they are refused, and what they say.
+// Words of tools: where they are refused, and what they say.
 use crate::{PlacedWord, Tool, ToolError, read_tool};
 use dc_text::{List, Text};
 use std::alloc::Global;
@@ -102,5 +102,115 @@ fn what_copydb_copies_is_said_with_its_place(rt: HostRuntime) {
             }
         }
         _ => panic!(rt; "refused"),
+    }
+}
+
+#[test]
+fn words_of_set_selections_are_taken_or_refused_at_their_place(rt: HostRuntime) {
+    for (line, place) in [
+        ("set-selections", None),
+        ("set-selections -v", None),
+        ("set-selections --verbose", None),
+        ("set-selections -c", None),
+        ("set-selections --checkonly", None),
+        ("set-selections -u", None),
+        ("set-selections --unseen", None),
+        ("set-selections -v -c -u", None),
+        ("set-selections -u -c -v", None),
+        ("set-selections -c --unseen --verbose", None),
+        ("set-selections --unseen --verbose --checkonly", None),
+        ("set-selections ", Some(1)),
+        ("set-selections -", Some(1)),
+        ("set-selections --", Some(1)),
+        ("set-selections -x", Some(1)),
+        ("set-selections -vc", Some(1)),
+        ("set-selections --check", Some(1)),
+        ("set-selections --Verbose", Some(1)),
+        ("set-selections --unseen=true", Some(1)),
+        ("set-selections file", Some(1)),
+        ("set-selections -v -v", Some(2)),
+        ("set-selections -v --verbose", Some(2)),
+        ("set-selections --checkonly -c", Some(2)),
+        ("set-selections --unseen --unseen -v", Some(2)),
+        ("set-selections -v file", Some(2)),
+        ("set-selections -v -u --verbose", Some(3)),
+        ("set-selections -v -c --checkonly", Some(3)),
+        ("set-selections -u -c -u", Some(3)),
+        ("set-selections -v -c -u file", Some(4)),
+        ("set-selections -v -c -u -v", Some(4)),
+        ("set-selection -v", Some(0)),
+    ] {
+        assert_eq!(rt; refused(&rt, rt.alloc(), line), place, "at {line}");
+    }
+}
+
+#[test]
+fn options_of_set_selections_say_what_they_spell(rt: HostRuntime) {
+    let alloc = rt.alloc();
+    for (line, wanted) in [
+        ("set-selections", (false, false, false)),
+        ("set-selections -v", (true, false, false)),
+        ("set-selections --verbose", (true, false, false)),
+        ("set-selections -c", (false, true, false)),
+        ("set-selections --checkonly", (false, true, false)),
+        ("set-selections -u", (false, false, true)),
+        ("set-selections --unseen", (false, false, true)),
+        ("set-selections --unseen -v", (true, false, true)),
+        ("set-selections -u --checkonly -v", (true, true, true)),
+    ] {
+        match read_tool(alloc, &words(&rt, alloc, line)) {
+            Ok(
+                Tool::SetSelections {
+                    verbose,
+                    check,
+                    unseen,
+                },
+            ) => {
+                assert_eq!(rt; verbose, wanted.0, "at {line}");
+                assert_eq!(rt; check, wanted.1, "at {line}");
+                assert_eq!(rt; unseen, wanted.2, "at {line}");
+            }
+            _ => panic!(rt; "refused"),
+        }
+    }
+}
+
+#[test]
+fn words_of_drill_are_taken_or_refused_at_their_place(rt: HostRuntime) {
+    for (line, place) in [
+        ("drill 1", None),
+        ("drill 10", None),
+        ("drill 3999", None),
+        ("drill 4000", None),
+        ("drill", Some(1)),
+        ("drill ", Some(1)),
+        ("drill 0", Some(1)),
+        ("drill 01", Some(1)),
+        ("drill 0001", Some(1)),
+        ("drill 4001", Some(1)),
+        ("drill 40000", Some(1)),
+        ("drill 4294967297", Some(1)),
+        ("drill +1", Some(1)),
+        ("drill -1", Some(1)),
+        ("drill 1x", Some(1)),
+        ("drill ten", Some(1)),
+        ("drill 0 1", Some(1)),
+        ("drill 1 ", Some(2)),
+        ("drill 1 2", Some(2)),
+        ("drill 4000 x", Some(2)),
+        ("drills 1", Some(0)),
+    ] {
+        assert_eq!(rt; refused(&rt, rt.alloc(), line), place, "at {line}");
+    }
+}
+
+#[test]
+fn drill_says_its_number(rt: HostRuntime) {
+    let alloc = rt.alloc();
+    for (line, wanted) in [("drill 1", 1), ("drill 205", 205), ("drill 4000", 4000)] {
+        match read_tool(alloc, &words(&rt, alloc, line)) {
+            Ok(Tool::Drill { count }) => assert_eq!(rt; count, wanted, "at {line}"),
+            _ => panic!(rt; "refused"),
+        }
     }
 }

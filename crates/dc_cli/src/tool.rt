@@ -36,6 +36,19 @@ pub enum Tool {
     },
     /// `copydb SOURCE DEST ..` copies items from one database to another (debconf-copydb(1)).
     CopyDb(CopyWords),
+    /// `set-selections [OPTION ...]` answers questions before they are asked (debconf-set-selections(1)).
+    SetSelections {
+        /// Whether each line that is taken is told.
+        verbose: bool,
+        /// Whether the lines are only read.
+        check: bool,
+        /// Whether the questions stay unseen.
+        unseen: bool,
+    },
+    /// `drill N` serves so many rounds of commands over databases of its own, and counts.
+    Drill {
+        count: u32,
+    },
 }
 
 /// A word, or the value in it, and the place of the word among the program's, from 0.
