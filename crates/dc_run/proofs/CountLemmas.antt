@@ -1,6 +1,6 @@
 -- The counts of the links and of the program by the end of a run.
 use Rattle.std.proofs.Common.{◌≡◌, ◌⊎◌, inl, inr, ℕ, Bool, true, false, List, refl, sym, subst, ap, ◌∙◌, arith}
-use Rattle.std.specs.Prelude.{Err, Option, Some, None}
+use Rattle.std.specs.Prelude.{Ok, Err, Option, Some, None, Result}
 use Rattle.dc_words.specs.declared.stream.Line.{Line}
 use Rattle.dc_outside.specs.Counts.{Counts, Rose, FaultRose}
 use Rattle.dc_outside.specs.declared.link.LinkError.{LinkError}
@@ -28,7 +28,7 @@ use Rattle.dc_session.specs.declared.stepped.StepError.{StepError}
 use Rattle.dc_session.specs.declared.stepped.StepError.TheVariants as step
 use Rattle.dc_session.proofs.TerminalLaws.{CountsBreak, AsksNobody, breaks_count, course_counts, course_nobody, never_fails}
 use Rattle.dc_cli.specs.declared.tool.Tool.{Tool}
-use Rattle.dc_cli.specs.declared.tool.Tool.TheVariants.{Communicate, LoadTemplate, Run, Show, CopyDb}
+use Rattle.dc_cli.specs.declared.tool.Tool.TheVariants.{Communicate, LoadTemplate, Run, Show, CopyDb, SetSelections, Drill}
 use Rattle.dc_run.specs.declared.outcome.End.{End}
 use Rattle.dc_run.specs.declared.outcome.End.TheVariants as end
 use Rattle.dc_run.specs.declared.outcome.Outcome.{Outcome}
@@ -37,17 +37,20 @@ use Rattle.dc_run.specs.declared.outcome.ToolEnd.{ToolEnd}
 use Rattle.dc_run.specs.declared.outcome.ToolEnd.TheVariants as tool
 use Rattle.dc_run.specs.declared.settings.Settings.{Settings}
 use Rattle.dc_run.specs.declared.starting.Roots.{Roots}
-use Rattle.dc_run.specs.Ends.{tool_end_of, end_of_conf, end_of_pattern, end_of_load, end_unwaited, Both, Stays, MayRise, LinksCount, ProgramCounts}
-use Rattle.dc_run.specs.Finishing.{Finishes}
+use Rattle.dc_run.specs.Ends.{tool_end_of, end_of, end_of_conf, end_of_pattern, end_of_load, end_unwaited, Both, Stays, MayRise, LinksCount, ProgramCounts}
+use Rattle.dc_run.specs.Finishing.{Finishes, FinishesWhere}
 use Rattle.dc_run.specs.Headline.{HasRunTool}
-use Rattle.dc_run.specs.Jobs.{HasCommunicated, Prints, Copies, CopiesBy, copying, Uses}
+use Rattle.dc_run.specs.Jobs.{HasCommunicated, HasTaken, Prints, PrintsMade, Copies, CopiesBy, copying, selections_end, Uses}
+use Rattle.dc_preseed.specs.Selecting.{SelectorState, FinishesLast, Finishes as FinishesSelections}
+use Rattle.dc_preseed.specs.declared.selected.Choices.{Choices}
+use Rattle.dc_text.specs.declared.memory.OutOfMemory.{OutOfMemory as NoMemory}
 use Rattle.dc_run.specs.declared.outcome.PatternAt.{PatternAt}
 use Rattle.dc_run.specs.declared.outcome.PatternAt.TheVariants.{Database, Word}
 use Rattle.dc_run.specs.declared.starting.CopyRoots.{CopyRoots}
 use Rattle.dc_tools.specs.Copying.{Copying}
 use Rattle.dc_run.specs.Saves.{Save}
 use Rattle.dc_run.specs.Running.{IsNotStarted, IsStarted, end_unstarted, Awaits}
-use Rattle.dc_run.specs.Starting.{EndsBefore, begun}
+use Rattle.dc_run.specs.Starting.{EndsBefore, begun, keeps_changes}
 use Rattle.dc_run.specs.TemplateLoading.{EndsAt}
 use Rattle.dc_run.specs.World.{Links, Stock, World, RunState, before_rounds}
 use Rattle.dc_run.proofs.CrashLemmas.{state_left, broken_off}
@@ -312,6 +315,34 @@ copy_links None start before now code answer said left none = absurd none
 copy_links (Some copy) start before now code answer said left is =
     rw is.links_are (copied_links (copying start copy) start.store.layers left.layers answer.ended said answer.status before is.copies)
 
+-- selections were taken, from the program's own link
+module _ (before now : Links) (child : now.child ≡ before.child) (state left : SelectorState) where
+  at_last : (ended : LinkEnd NoMemory) → FinishesLast state left ended → now.io.counts ≡ before.io.counts → ToolLinks (selections_end ended) before now
+  at_last ended (inl all) same = rw all.1 (record { on_io = same; on_child = unserved before now child })
+  at_last ended (inr none) same = rw none.1 (record { on_io = inl same; on_child = inl (unserved before now child) })
+
+  without_memory : (ended : LinkEnd NoMemory) → ended ≡ link.OutOfMemory → MayRise before.io.counts now.io.counts → ToolLinks (selections_end ended) before now
+  without_memory ended is may = rw is (record { on_io = may; on_child = inl (unserved before now child) })
+
+  taken_by : (served ended : LinkEnd NoMemory) → FinishesSelections served state left ended → LinkCounts served before.io.counts now.io.counts → ToolLinks (selections_end ended) before now
+  taken_by link.Done ended finishes same = at_last ended finishes same
+  taken_by link.LinkFault ended finishes rose = rw finishes.1 (inl (record { on_io = rose; on_child = unserved before now child }))
+  taken_by link.TooLong ended finishes same = rw finishes.1 (record { on_io = same; on_child = unserved before now child })
+  taken_by link.OutOfMemory ended finishes (inl rose) = without_memory ended finishes.1 (inr (inr rose))
+  taken_by link.OutOfMemory ended finishes (inr same) = without_memory ended finishes.1 (inl same)
+  taken_by (link.Broken error) ended finishes same = without_memory ended finishes.1 (inl same)
+
+taken_links : (choices : Choices) (start : SessionState) (before now : Links) (code : ℕ) (answer : ToolAnswer) (left : Resources) → HasTaken choices start before.io now.io code answer left → now.child ≡ before.child
+    → ToolLinks answer.ended before now
+taken_links choices start before now code answer left is child =
+    rw is.ended_is (taken_by before now child is.selected.state is.state is.selected.served is.ended is.selected.finishes is.selected.serves.counts)
+
+-- the numbers of a drill were printed
+made_links : {E : Type 0} (made : Result (List ℕ) E) (ended : ToolEnd) (before now : Links) → PrintsMade made before.io now.io ended → now.child ≡ before.child → ToolLinks ended before now
+made_links (Ok text) ended before now prints child = printed_links text ended before now prints child
+made_links (Err error) ended before now none child =
+    rw none.0 (record { on_io = inl (ap (λ (l : LinkState). l.counts) none.1); on_child = inl (ap (λ (l : LinkState). l.counts) child) })
+
 tool_links : (used : Tool) (state : RunState) (roots : Roots) (settings : Settings) (now : Links) (answer : ToolAnswer) (said : List ℕ) (left : Resources)
     → Uses used roots (begun used state roots settings) state.world.links now state.code answer said left → ToolLinks answer.ended state.world.links now
 tool_links (Communicate owner) state roots settings now answer said left uses =
@@ -325,6 +356,9 @@ tool_links (Run owner frontend priority command) state roots settings now answer
 tool_links (Show database shown) state roots settings now answer said left uses = printed_links _ answer.ended state.world.links now uses.0.prints uses.0.child_is
 tool_links (CopyDb copy) state roots settings now answer said left uses =
     copy_links roots.copy (begun (CopyDb copy) state roots settings) state.world.links now state.code answer said left uses
+tool_links (SetSelections verbose check unseen) state roots settings now answer said left uses =
+    taken_links (record { verbose = verbose; check = check; unseen = unseen }) (begun (SetSelections verbose check unseen) state roots settings) state.world.links now state.code answer left uses.0 uses.1
+tool_links (Drill count) state roots settings now answer said left uses = made_links uses.0.result answer.ended state.world.links now uses.0.prints uses.0.child_is
 
 -- ---- the end of the run
 
@@ -345,6 +379,21 @@ module _ (layers used : List LayerState) (files new : FilesState) (before now : 
   run_links tool.ChildFault how broken links = rw broken.end_is links
   run_links tool.OutOfMemory how broken links = rw broken.end_is links
   run_links (tool.FilesFault path) how broken links = rw broken.end_is links
+
+  -- how it ends where nothing is saved
+  unsaved_links : (ended : ToolEnd) → ToolLinks ended before now → LinksCount (end_of ended) before now
+  unsaved_links tool.Done links = links
+  unsaved_links tool.TooLong links = links
+  unsaved_links tool.LinkFault links = links
+  unsaved_links tool.PrintFault links = inl links
+  unsaved_links tool.TermFault links = links
+  unsaved_links tool.ChildFault links = links
+  unsaved_links tool.OutOfMemory links = links
+  unsaved_links (tool.FilesFault path) links = links
+
+  ended_links : (keeps : Bool) (ended : ToolEnd) (how : End) → FinishesWhere keeps layers used ended files new how → ToolLinks ended before now → LinksCount how before now
+  ended_links true ended how finished links = run_links ended how finished links
+  ended_links false ended how broken links = rw broken.end_is (unsaved_links ended links)
 
 -- a wait that failed leaves the links
 unwaited_links : (how : End) (before now : Links) → LinksCount how before now → LinksCount (end_unwaited how) before now
@@ -444,6 +493,17 @@ copy_program None start before now code answer said left none = absurd none
 copy_program (Some copy) start before now code answer said left is =
     rw is.links_are (copied_start (copying start copy) start.store.layers left.layers answer.ended said answer.status before.child.program.failures is.copies)
 
+taken_start : (ended : LinkEnd NoMemory) (before now : ℕ) → now ≡ before → StartCounts (selections_end ended) before now
+taken_start link.Done before now same = same
+taken_start link.LinkFault before now same = same
+taken_start link.TooLong before now same = same
+taken_start link.OutOfMemory before now same = same
+taken_start (link.Broken error) before now same = same
+
+made_start : {E : Type 0} (made : Result (List ℕ) E) (ended : ToolEnd) (old new : LinkState) (count : ℕ) → PrintsMade made old new ended → StartCounts ended count count
+made_start (Ok text) ended old new count prints = printed_start text ended old new count prints
+made_start (Err error) ended old new count none = rw none.0 refl
+
 tool_program : (used : Tool) (roots : Roots) (start : SessionState) (before now : Links) (code : ℕ) (answer : ToolAnswer) (said : List ℕ) (left : Resources)
     → Uses used roots start before now code answer said left → StartCounts answer.ended before.child.program.failures now.child.program.failures
 tool_program (Communicate owner) roots start before now code answer said left uses = rw uses.0.ended_is (served_start uses.0.ended _ _ (ap (λ (c : LinkState). c.program.failures) uses.1))
@@ -456,6 +516,10 @@ tool_program (Run owner frontend priority command) roots start before now code a
 tool_program (Show database shown) roots start before now code answer said left uses =
     subst (λ (c : LinkState). StartCounts answer.ended before.child.program.failures c.program.failures) (sym uses.0.child_is) (printed_start _ answer.ended before.io now.io before.child.program.failures uses.0.prints)
 tool_program (CopyDb copy) roots start before now code answer said left uses = copy_program roots.copy start before now code answer said left uses
+tool_program (SetSelections verbose check unseen) roots start before now code answer said left uses =
+    rw uses.0.ended_is (taken_start uses.0.ended _ _ (ap (λ (c : LinkState). c.program.failures) uses.1))
+tool_program (Drill count) roots start before now code answer said left uses =
+    subst (λ (c : LinkState). StartCounts answer.ended before.child.program.failures c.program.failures) (sym uses.0.child_is) (made_start uses.0.result answer.ended before.io now.io before.child.program.failures uses.0.prints)
 
 module _ (layers used : List LayerState) (files new : FilesState) (before now : ℕ) where
   run_program : (ended : ToolEnd) (how : End) → Finishes layers used ended files new how → StartCounts ended before now → ProgramCounts how before now
@@ -473,6 +537,20 @@ module _ (layers used : List LayerState) (files new : FilesState) (before now : 
   run_program tool.ChildFault how broken rose = rw broken.end_is rose
   run_program tool.OutOfMemory how broken same = rw broken.end_is (inl same)
   run_program (tool.FilesFault path) how broken same = rw broken.end_is (inl same)
+
+  unsaved_program : (ended : ToolEnd) → StartCounts ended before now → ProgramCounts (end_of ended) before now
+  unsaved_program tool.Done same = same
+  unsaved_program tool.TooLong same = inl same
+  unsaved_program tool.LinkFault same = inl same
+  unsaved_program tool.PrintFault same = inl same
+  unsaved_program tool.TermFault same = inl same
+  unsaved_program tool.ChildFault rose = rose
+  unsaved_program tool.OutOfMemory same = inl same
+  unsaved_program (tool.FilesFault path) same = inl same
+
+  ended_program : (keeps : Bool) (ended : ToolEnd) (how : End) → FinishesWhere keeps layers used ended files new how → StartCounts ended before now → ProgramCounts how before now
+  ended_program true ended how finished counts = run_program ended how finished counts
+  ended_program false ended how broken counts = rw broken.end_is (unsaved_program ended counts)
 
 -- a failed wait behind all that
 later_rose : (before mid now : ℕ) → Rose before mid → Rose mid now → Rose before now
@@ -510,7 +588,7 @@ module _ (used : Tool) (settings : Settings) (old new : World) (outcome : Outcom
   links_counted saves (inr worked) =
       let run = as_used used settings old new outcome saves worked in
       awaited_links old.links run.links new.links run.io_is run.answer.is_started run.how outcome.end run.answer.status run.status run.awaits
-      (run_links run.left.layers new.stock.used run.left.files new.stock.files old.links run.links run.answer.ended run.how run.finishes
+      (ended_links run.left.layers new.stock.used run.left.files new.stock.files old.links run.links (keeps_changes used) run.answer.ended run.how run.finishes
       (tool_links used (before_rounds (record old { stock = run.mid })) run.roots settings run.links run.answer run.told run.left run.uses))
 
   pub program_counted : (saves : List Save) → HasRunTool used settings old new outcome saves → ProgramCounts outcome.end old.links.child.program.failures new.links.child.program.failures
@@ -519,5 +597,5 @@ module _ (used : Tool) (settings : Settings) (old new : World) (outcome : Outcom
   program_counted saves (inr worked) =
       let run = as_used used settings old new outcome saves worked in
       awaited_program run.answer.is_started old.links.child.program.failures run.links.child new.links.child run.how outcome.end run.answer.status run.status run.awaits
-      (run_program run.left.layers new.stock.used run.left.files new.stock.files old.links.child.program.failures run.links.child.program.failures run.answer.ended run.how run.finishes
+      (ended_program run.left.layers new.stock.used run.left.files new.stock.files old.links.child.program.failures run.links.child.program.failures (keeps_changes used) run.answer.ended run.how run.finishes
       (tool_program used run.roots (begun used (before_rounds (record old { stock = run.mid })) run.roots settings) old.links run.links 0 run.answer run.told run.left run.uses))

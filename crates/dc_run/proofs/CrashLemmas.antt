@@ -1,5 +1,5 @@
 -- What the parts of a run do to the disk, and to the databases that its layers are of.
-use Rattle.std.proofs.Common.{◌≡◌, ◌⊎◌, ℕ, Bool, true, false, List, [], ◌∷◌, ◌++◌, Option, Some, None, refl, sym, ap, subst, ◌∙◌, inl, inr, map as each}
+use Rattle.std.proofs.Common.{◌≡◌, ◌⊎◌, ℕ, Bool, true, false, not, if◌then◌else◌, List, [], ◌∷◌, ◌++◌, Option, Some, None, refl, sym, ap, subst, ◌∙◌, inl, inr, map as each}
 use Rattle.std.specs.List.{AllByRecursion}
 use Rattle.std.specs.Prelude.{codes, fold, Result, Ok, Err}
 use Rattle.std.specs.Result.{result_unwrap_or}
@@ -25,7 +25,10 @@ use Rattle.dc_question.specs.Changes.{question_write, done_or}
 use Rattle.dc_question.specs.Questions.{QuestionContext, question, read}
 use Rattle.dc_store.specs.Plans.{names, StoreState}
 use Rattle.dc_store.specs.Batches.{Write, commit, names_of}
-use Rattle.dc_store.specs.StoreLaws.{AreSameButAll}
+use Rattle.dc_preseed.specs.Selecting.{selections_over}
+use Rattle.dc_preseed.specs.declared.selected.Choices.{Choices}
+use Rattle.dc_outside.specs.Steps.{after_look}
+use Rattle.dc_outside.specs.declared.files.FilesOp.TheVariants.{Read}
 use Rattle.dc_teletype.specs.declared.teletype.Asked.TheVariants.{Answers}
 use Rattle.dc_save.specs.FolderLoading.{its_files, after_reads, FailsOn, LoadsFolder, LoadsFolderFiles}
 use Rattle.dc_save.specs.Loading.{with_loaded, LoadsFile, LoadsOneFile, LoadsBy, LoadsFilesBy, LoadsLayer, LoadsFiles}
@@ -67,12 +70,14 @@ use Rattle.dc_session.proofs.FrameLaws.{row_keeps, others_stay}
 use Rattle.dc_run.specs.Ends.{IsEnded, tool_end_of, comes_to_save, end_by, end_unwaited}
 use Rattle.dc_run.specs.Running.{Awaits}
 use Rattle.dc_run.specs.Finishing.{images_of}
-use Rattle.dc_run.specs.Jobs.{CopiesBy, Uses}
+use Rattle.dc_run.specs.Jobs.{CopiesBy, HasTaken, Uses}
 use Rattle.dc_run.specs.declared.starting.CopyRoots.{CopyRoots}
 use Rattle.dc_run.specs.declared.starting.Roots.{Roots}
 use Rattle.dc_run.specs.Kills.{AllDone}
 use Rattle.dc_run.specs.Saves.{Save, AreSaves, Commits}
-use Rattle.dc_run.specs.Starting.{conf_text, IsConfiguration, EndsBefore, databases_of, roots}
+use Rattle.dc_run.specs.Starting.{conf_text, IsConfiguration, EndsBefore, HasLoaded, HasReadConf, databases_of, has_files, keeps_changes, roots}
+use Rattle.dc_run.proofs.KindLemmas.{Kind, kind_of, specs_in, same_specs}
+use Rattle.dc_run.proofs.SelectionLemmas.{selections_keep}
 use Rattle.dc_cli.specs.Tools.{Names}
 use Rattle.dc_run.specs.TemplateLoading.{FileTurn, IsFileTurn, IsFileCourse, state_after as file_state, EndsAt}
 use Rattle.dc_run.specs.World.{Links, Stock}
@@ -82,7 +87,7 @@ use Rattle.dc_run.specs.declared.outcome.ToolAnswer.{ToolAnswer}
 use Rattle.dc_run.specs.declared.outcome.ToolEnd.{ToolEnd}
 use Rattle.dc_run.specs.declared.outcome.ToolEnd.TheVariants as tool
 use Rattle.dc_cli.specs.declared.tool.Tool.{Tool}
-use Rattle.dc_cli.specs.declared.tool.Tool.TheVariants.{Communicate, LoadTemplate, Run, Show, CopyDb}
+use Rattle.dc_cli.specs.declared.tool.Tool.TheVariants.{Communicate, LoadTemplate, Run, Show, CopyDb, SetSelections, Drill}
 use Rattle.dc_run.proofs.RunLemmas.{ends_so}
 use Rattle.dc_run.specs.Crashes.{AreOfConfiguration, KeepsEachPath}
 
@@ -132,28 +137,30 @@ all_read (spec ∷ specs) (layer ∷ old) (made ∷ new) files files_new before 
     (all_read specs old new is.1 files_new is.2 now result) (λ last. ap (λ (t : FilesView). t.disk) last.1) is.6
     ∙ load_reads files is.1 spec is.0 is.4
 
+conf_reads : (is : Bool) (files : FilesView) (path : List ℕ) → (if is then after_look files Read path true else files).disk ≡ files.disk
+conf_reads true files path = refl
+conf_reads false files path = refl
+
+read_conf : (used : Tool) (path : List ℕ) (old new : FilesState) → HasReadConf used path old new → new.view.disk ≡ old.view.disk
+read_conf used path old new read = ap (λ (t : FilesView). t.disk) read.files_are ∙ conf_reads (has_files used) old.view path
+
+-- what loading did
+pub loads_read : (used : Tool) (path : List ℕ) (conf : Configuration) (old : FilesState) (new : Stock) (result : Result (Unit {0}) LoadError) → HasLoaded used path conf old new result → new.files.view.disk ≡ old.view.disk
+loads_read used path conf old new result loaded = all_read _ _ _ _ _ _ _ _ loaded.loads ∙ conf_reads (has_files used) old.view path
+
 pub before_reads : (used : Tool) (path : List ℕ) (old : FilesState) (new : Stock) (how : End) → EndsBefore used path old new how → new.files.view.disk ≡ old.view.disk
 before_reads used path old new how (inl memory) = elim memory.begun [
   | inl none ↦ ap (λ (t : FilesView). t.disk) none.files_are
-  | inr read ↦ ap (λ (t : FilesView). t.disk) read.files_are
+  | inr read ↦ read_conf used path old new.files read
 ]
 before_reads used path old new how (inr (inl unread)) = ap (λ (t : FilesView). t.disk) unread.files_are
-before_reads used path old new how (inr (inr (inl refused))) = ap (λ (t : FilesView). t.disk) refused.read.files_are
-before_reads used path old new how (inr (inr (inr (inl wrong)))) = ap (λ (t : FilesView). t.disk) wrong.read.files_are
-before_reads used path old new how (inr (inr (inr (inr (inl unbuilt))))) = ap (λ (t : FilesView). t.disk) unbuilt.read.files_are
-before_reads used path old new how (inr (inr (inr (inr (inr (inl unset)))))) = ap (λ (t : FilesView). t.disk) unset.read.files_are
-before_reads used path old new how (inr (inr (inr (inr (inr (inr unloaded)))))) = all_read _ _ _ _ _ _ _ _ unloaded.loaded.loads
+before_reads used path old new how (inr (inr (inl refused))) = read_conf used path old new.files refused.read
+before_reads used path old new how (inr (inr (inr (inl wrong)))) = read_conf used path old new.files wrong.read
+before_reads used path old new how (inr (inr (inr (inr (inl unbuilt))))) = read_conf used path old new.files unbuilt.read
+before_reads used path old new how (inr (inr (inr (inr (inr (inl unset)))))) = read_conf used path old new.files unset.read
+before_reads used path old new how (inr (inr (inr (inr (inr (inr unloaded)))))) = loads_read _ _ _ _ _ _ unloaded.loaded
 
 -- ---- each layer stays one of its database
-
-abbrev Kind : Type 0
-Kind = LayerSort × Option LayerSpec
-
-abbrev kind_of : LayerState → Kind
-kind_of layer = (layer.sort, layer.spec)
-
-abbrev pub specs_in : List LayerState → List Kind
-specs_in layers = each kind_of layers
 
 -- those of layers that were set up for these databases
 abbrev pub set_for : List LayerSpec → List Kind
@@ -214,12 +221,6 @@ set_up_for (layer ∷ layers) [] e = absurd (no_kind _ _ (sym e))
 set_up_for (layer ∷ layers) (spec ∷ specs) e =
     let here : kind_of layer ≡ (spec.sort, Some spec) = first_kind _ _ _ _ e in
     ((ap (λ (k : Kind). k.1) here, ap (λ (k : Kind). k.0) here), set_up_for layers specs (other_kinds _ _ _ _ e))
-
-same_specs : (names : List (List ℕ)) (old new : List LayerState) → AreSameButAll names old new → specs_in new ≡ specs_in old
-same_specs names [] [] is = refl
-same_specs names [] (layer ∷ new) is = absurd is
-same_specs names (layer ∷ old) [] is = absurd is
-same_specs names (layer ∷ old) (made ∷ new) is = λ i. (is.0.sort i, is.0.spec i) ∷ same_specs names old new is.1 i
 
 abbrev specs_of : SessionState → List Kind
 specs_of state = specs_in state.store.layers
@@ -378,18 +379,18 @@ end_keeps tool.ChildFault is state rest new ends = absurd is
 
 -- ---- tools
 
--- A tool only reads files, and its layers stay those of their databases.
-pub record KeepsAll (start : SessionState) (ended : ToolEnd) (layers : List LayerState) (files : FilesState) : Type 0 where
+-- A tool only reads files, and where they are saved its layers stay those of their databases.
+pub record KeepsAll (saves : Bool) (start : SessionState) (ended : ToolEnd) (layers : List LayerState) (files : FilesState) : Type 0 where
   pub disk : files.view.disk ≡ start.files.view.disk
-  pub specs : IsEnded ended → specs_in layers ≡ specs_of start
+  pub specs : saves ≡ true → IsEnded ended → specs_in layers ≡ specs_of start
 
 served_keeps : (start : SessionState) (old new : LinkState) (before : ℕ) (given : ToolAnswer) (left : Resources) (ended : LinkEnd StepError) → given.ended ≡ tool_end_of ended
-    → IsServed start left old new ended before given.last_code → KeepsAll start given.ended left.layers left.files
+    → IsServed start left old new ended before given.last_code → KeepsAll true start given.ended left.layers left.files
 served_keeps start old new before given left ended ended_is served =
     let ran = served.ran in
     record {
       disk = ap (λ (f : FilesState). f.view.disk) served.files_are ∙ session_reads start served.state ran.transitions ran.rest ran.pieces old.input before given.last_code ran.course served.served ran.answered;
-      specs = λ is.
+      specs = λ saves is.
           let done : IsEnded (tool_end_of served.served) = was_served served.served ended (ends_so served.served served.state left.layers ended served.finishes) (subst IsEnded ended_is is) in
           session_keeps served.state left.layers served.served ended served.finishes
           ∙ ap specs_of (state_left start served.state ran.transitions ran.rest ran.pieces old.input before given.last_code served.served done ran.answered)
@@ -397,27 +398,38 @@ served_keeps start old new before given left ended ended_is served =
     }
 
 copy_keeps : (found : Option CopyRoots) (start : SessionState) (old new : Links) (before : ℕ) (given : ToolAnswer) (told : List ℕ) (left : Resources) → CopiesBy found start old new before given told left
-    → KeepsAll start given.ended left.layers left.files
+    → KeepsAll true start given.ended left.layers left.files
 copy_keeps None start old new before given told left none = absurd none
 copy_keeps (Some copy) start old new before given told left is =
-    record { disk = ap (λ (l : Resources). l.files.view.disk) is.left_is; specs = λ ended. same_specs (names start.store.layers start.at.config) start.store.layers left.layers is.others }
+    record { disk = ap (λ (l : Resources). l.files.view.disk) is.left_is; specs = λ saves ended. same_specs (names start.store.layers start.at.config) start.store.layers left.layers is.others }
+
+taken_keeps : (saves : Bool) (choices : Choices) (start : SessionState) (old new : LinkState) (before : ℕ) (given : ToolAnswer) (left : Resources) → HasTaken choices start old new before given left → KeepsAll saves start given.ended left.layers left.files
+taken_keeps saves choices start old new before given left is = record {
+  disk = ap (λ (l : Resources). l.files.view.disk) is.left_is;
+  specs = λ saved ended. ap (λ (l : Resources). specs_in l.layers) is.left_is
+      ∙ selections_keep (selections_over start.store.layers start.at choices start.err) is.state old new is.ended before given.last_code is.selected (subst IsEnded is.ended_is ended);
+}
 
 pub tool_keeps : (used : Tool) (roots : Roots) (start : SessionState) (old new : Links) (before : ℕ) (given : ToolAnswer) (told : List ℕ) (left : Resources) → Uses used roots start old new before given told left
-    → KeepsAll start given.ended left.layers left.files
+    → KeepsAll (keeps_changes used) start given.ended left.layers left.files
 tool_keeps (Communicate owner) roots start old new before given told left uses = served_keeps start old.io new.io before given left uses.0.ended uses.0.ended_is uses.0.served
 tool_keeps (LoadTemplate owner paths) roots start old new before given told left uses =
     let loads = uses.loaded in
     record {
       disk = ap (λ (l : Resources). l.files.view.disk) uses.left_is ∙ end_reads given.ended (file_state start loads.turns) loads.rest uses.state loads.ends ∙ files_read start loads.turns loads.course;
-      specs = λ is. ap (λ (l : Resources). specs_in l.layers) uses.left_is ∙ end_keeps given.ended is (file_state start loads.turns) loads.rest uses.state loads.ends ∙ files_keep start loads.turns loads.course;
+      specs = λ saves is. ap (λ (l : Resources). specs_in l.layers) uses.left_is ∙ end_keeps given.ended is (file_state start loads.turns) loads.rest uses.state loads.ends ∙ files_keep start loads.turns loads.course;
     }
 tool_keeps (Run owner frontend priority command) roots start old new before given told left uses = elim uses.0 [
-  | inl none ↦ record { disk = ap (λ (l : Resources). l.files.view.disk) none.left_is; specs = λ is. ap (λ (l : Resources). specs_in l.layers) none.left_is }
+  | inl none ↦ record { disk = ap (λ (l : Resources). l.files.view.disk) none.left_is; specs = λ saves is. ap (λ (l : Resources). specs_in l.layers) none.left_is }
   | inr started ↦ served_keeps start started.mid new.child before given left started.ended started.ended_is started.served
 ]
 tool_keeps (Show database shown) roots start old new before given told left uses =
-    record { disk = ap (λ (l : Resources). l.files.view.disk) uses.0.left_is; specs = λ is. ap (λ (l : Resources). specs_in l.layers) uses.0.left_is }
+    record { disk = ap (λ (l : Resources). l.files.view.disk) uses.0.left_is; specs = λ saves is. ap (λ (l : Resources). specs_in l.layers) uses.0.left_is }
 tool_keeps (CopyDb copy) roots start old new before given told left uses = copy_keeps roots.copy start old new before given told left uses
+tool_keeps (SetSelections verbose check unseen) roots start old new before given told left uses =
+    taken_keeps (not check) (record { verbose = verbose; check = check; unseen = unseen }) start old.io new.io before given left uses.0
+tool_keeps (Drill count) roots start old new before given told left uses =
+    record { disk = ap (λ (l : Resources). l.files.view.disk) uses.0.left_is; specs = λ saves is. cc }
 
 -- ---- the save of a round
 

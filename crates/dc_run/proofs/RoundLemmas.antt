@@ -1,5 +1,5 @@
 -- A run of one job is one round, and what is said of it at once.
-use Rattle.std.proofs.Common.{◌≡◌, ◌≢◌, ℕ, Bool, true, false, List, [], ◌∷◌, ◌++◌, refl, sym, ap, subst, ◌∙◌, max, arith, map as each}
+use Rattle.std.proofs.Common.{◌≡◌, ◌≢◌, ◌&&◌, ℕ, Bool, true, false, List, [], ◌∷◌, ◌++◌, refl, sym, ap, subst, ◌∙◌, max, arith, map as each}
 use Rattle.std.specs.Prelude.{Result, Ok, Err, MatchResult}
 use Rattle.std.proofs.lemmas.List.{append-nil}
 use Rattle.dc_layer.specs.State.{saved}
@@ -13,7 +13,7 @@ use Rattle.dc_run.specs.declared.settings.Settings.{Settings}
 use Rattle.dc_run.specs.declared.starting.Roots.{Roots}
 use Rattle.dc_cli.specs.declared.tool.Tool.{Tool}
 use Rattle.dc_run.specs.Ends.{status_of, end_by, comes_to_save}
-use Rattle.dc_run.specs.Finishing.{Finishes}
+use Rattle.dc_run.specs.Finishing.{Finishes, FinishesWhere}
 use Rattle.dc_run.specs.Rounds.{Job, Whole, Round, AreRounds, HaveRounds, HasDoneJobs, FindsJobs, DoesFound, IsOneRound, status_by, jobs_done, state_after, end_after, status_in, saves_of}
 use Rattle.dc_run.specs.Saves.{Save, HasSaved, Commits, kept_by}
 use Rattle.dc_run.specs.World.{Stock, RunState}
@@ -58,6 +58,12 @@ module _ (left new : Stock) (last : List Save) (how : End) where
   finishes tool.ChildFault has = record { end_is = has.end_is; files_are = ap (λ (s : Stock). s.files) has.stays; used_are = ap (λ (s : Stock). s.used) has.stays }
   finishes tool.OutOfMemory has = record { end_is = has.end_is; files_are = ap (λ (s : Stock). s.files) has.stays; used_are = ap (λ (s : Stock). s.used) has.stays }
   finishes (tool.FilesFault path) has = record { end_is = has.end_is; files_are = ap (λ (s : Stock). s.files) has.stays; used_are = ap (λ (s : Stock). s.used) has.stays }
+
+module _ (left new : Stock) (last : List Save) (how : End) where
+  -- the same of a tool of which nothing is saved, or of any other
+  pub finishes_where : (keeps : Bool) (ended : ToolEnd) → Commits (keeps && comes_to_save ended) ended left new last how → FinishesWhere keeps left.used new.used ended left.files new.files how
+  finishes_where true ended has = finishes left new last how ended has
+  finishes_where false ended has = record { end_is = has.end_is; files_are = ap (λ (s : Stock). s.files) has.stays; used_are = ap (λ (s : Stock). s.used) has.stays }
 
 -- ---- one job has one round
 

@@ -1,5 +1,5 @@
 -- What a run of a tool comes to.
-use Rattle.std.proofs.Common.{◌≡◌, ◌⊎◌, inl, inr, ℕ, ◌<◌, false, List, [], ◌∷◌, ◌++◌, length, Option, Some, Ok, refl, sym, subst, ap, arith}
+use Rattle.std.proofs.Common.{◌≡◌, ◌⊎◌, ◌&&◌, Bool, inl, inr, ℕ, ◌<◌, false, List, [], ◌∷◌, ◌++◌, length, Option, Some, Ok, refl, sym, subst, ap, ◌∙◌, arith}
 use Rattle.dc_outside.specs.LinkCalls.{Starts}
 use Rattle.dc_layer.specs.State.{LayerState}
 use Rattle.dc_frontend.specs.declared.frontend.Frontend.{Frontend}
@@ -9,12 +9,12 @@ use Rattle.dc_serve.specs.declared.outcome.LinkEnd.{LinkEnd}
 use Rattle.dc_serve.specs.declared.outcome.LinkEnd.TheVariants as link
 use Rattle.dc_session.specs.Serving.{IsFinished, Finishes as FinishesSession, IsServed, Resources, resources_in}
 use Rattle.dc_outside.specs.State.{FilesState, LinkState}
-use Rattle.dc_session.specs.SessionState.{SessionState, TerminalState, nothing_typed}
+use Rattle.dc_session.specs.SessionState.{SessionState, TerminalState, nothing_typed, nowhere, terminal_at}
 use Rattle.dc_session.specs.declared.stepped.StepError.{StepError}
 use Rattle.dc_session.specs.declared.stepped.StepError.TheVariants as step
 use Rattle.dc_cli.specs.Tools.{AreRefusedAt, IsToolWords, Names, NamesTool, IsCommand, owner_of}
 use Rattle.dc_cli.specs.declared.tool.Tool.{Tool}
-use Rattle.dc_cli.specs.declared.tool.Tool.TheVariants.{Communicate, LoadTemplate, Run, Show, CopyDb}
+use Rattle.dc_cli.specs.declared.tool.Tool.TheVariants.{Communicate, LoadTemplate, Run, Show, CopyDb, SetSelections, Drill}
 use Rattle.dc_cli.specs.declared.tool.CopyWords.{CopyWords}
 use Rattle.dc_cli.specs.declared.tool.PlacedWord.{PlacedWord}
 use Rattle.dc_cli.specs.declared.tool.Shown.{Shown}
@@ -27,14 +27,14 @@ use Rattle.dc_run.specs.declared.starting.Roots.{Roots}
 use Rattle.dc_run.specs.EndLines.{end_line, HasSaid}
 use Rattle.dc_run.specs.Ends.{status_of, tool_end_of, comes_to_save}
 use Rattle.dc_run.specs.Headline.{HasRunTool, HasRunWords}
-use Rattle.dc_run.specs.Jobs.{HasCommunicated, CopiesBy, shown_text}
+use Rattle.dc_run.specs.Jobs.{HasCommunicated, CopiesBy, refused_status, shown_text}
 use Rattle.dc_run.specs.declared.starting.CopyRoots.{CopyRoots}
 use Rattle.dc_run.specs.Rounds.{Whole, Round, HasDone}
 use Rattle.dc_teletype.specs.TerminalLines.{TypeAhead}
 use Rattle.dc_run.specs.Saves.{Save, Commits}
-use Rattle.dc_run.specs.Inside.{HasCommand, HasLoadedOver, HasServedProgram, HasPrinted, CopiesOver, context_by}
+use Rattle.dc_run.specs.Inside.{HasCommand, HasLoadedOver, HasServedProgram, HasPrinted, HasTakenOver, HasDrilledOver, CopiesOver, context_by}
 use Rattle.dc_run.specs.Running.{HasRunProgram, Awaits}
-use Rattle.dc_run.specs.Starting.{EndsBefore, HasStarted, begun, chosen, chosen_frontend, chosen_priority, resources_for, session_at}
+use Rattle.dc_run.specs.Starting.{EndsBefore, HasStarted, begun, chosen, chosen_frontend, chosen_priority, keeps_changes, resources_for, session_at}
 use Rattle.dc_run.specs.World.{Links, Stock, World, RunState, before_rounds, links_of, run_state, stock_of}
 use Rattle.dc_run.proofs.RoundLemmas.{most_none, none_most}
 use Rattle.dc_run.proofs.Saying.{none_said}
@@ -167,6 +167,66 @@ module _ (roots : Roots) (settings : Settings) (io child err new_err : LinkState
         code_is = refl;
       }
 
+module _ (roots : Roots) (settings : Settings) (io new child err new_err : LinkState) (files : FilesState) (layers left_layers : List LayerState) (ahead : TypeAhead) (before : ℕ) (answer : ToolAnswer) where
+  -- selections were taken
+  pub was_taken : (verbose check unseen : Bool)
+      → HasTakenOver (record { verbose = verbose; check = check; unseen = unseen }) (context_by roots settings.lang) layers left_layers io new err new_err before answer
+      → HasDone (SetSelections verbose check unseen) roots settings (run_state io child err files layers ahead before) (run_state new child new_err files left_layers ahead answer.last_code) answer []
+  was_taken verbose check unseen over =
+      let start : SessionState = begun (SetSelections verbose check unseen) (run_state io child err files layers ahead before) roots settings in
+      let is = over.selected in
+      record {
+        told = [];
+        left = record (resources_in start) { layers = left_layers; err = new_err };
+        uses = (
+          record {
+            state = is.left;
+            ended = over.ended;
+            ended_is = over.ended_is;
+            selected = is.selected;
+            left_is = λ i. record (resources_in start) { layers = is.layers_are i; err = is.err_is i };
+            status_is = over.status_is ∙ ap refused_status is.refused_is;
+            waits = over.waits;
+          },
+          refl,
+          refl,
+        );
+        stock_is = refl;
+        said = none_said new_err;
+        ahead_is = refl;
+        saves_are = refl;
+        code_is = refl;
+      }
+
+module _ (roots : Roots) (settings : Settings) (io new child err : LinkState) (files : FilesState) (layers left_layers : List LayerState) (ahead : TypeAhead) (before : ℕ) (answer : ToolAnswer) where
+  -- the numbers of a drill were printed
+  pub was_drilled : (count : ℕ) → HasDrilledOver count roots settings layers left_layers io new before answer
+      → HasDone (Drill count) roots settings (run_state io child err files layers ahead before) (run_state new child err files left_layers ahead answer.last_code) answer []
+  was_drilled count over =
+      let start : SessionState = begun (Drill count) (run_state io child err files layers ahead before) roots settings in
+      record {
+        told = [];
+        left = record (resources_in start) { layers = left_layers };
+        uses = (
+          record {
+            result = over.result;
+            drills = over.drills files (terminal_at nowhere ahead) err;
+            prints = over.prints;
+            child_is = refl;
+            left_is = refl;
+            code_is = over.code_is;
+            status_is = over.status_is;
+            waits = over.waits;
+          },
+          refl,
+        );
+        stock_is = refl;
+        said = none_said err;
+        ahead_is = refl;
+        saves_are = refl;
+        code_is = refl;
+      }
+
 -- the program was started and served
 pub started_so : (command : List (List ℕ)) (start : SessionState) (old new : Links) (before : ℕ) (answer : ToolAnswer) (left : Resources) (mid : LinkState)
     → Starts {T = Unit {0}} command old.child mid (Ok tt) → HasServedProgram start mid new.child before answer left → new.io ≡ left.terminal.link → HasRunProgram command start old new before answer left
@@ -185,6 +245,8 @@ command_of word words (LoadTemplate owner paths) named = tt
 command_of word words (Run owner frontend priority command) named = some_words command named.1.command_is
 command_of word words (Show database shown) named = tt
 command_of word words (CopyDb copy) named = tt
+command_of word words (SetSelections verbose check unseen) named = tt
+command_of word words (Drill count) named = tt
 
 -- the command that words name has a word
 pub has_command : (words : List (List ℕ)) (used : Tool) → Names words used → HasCommand used
@@ -200,7 +262,7 @@ module _ (used : Tool) (settings : Settings) (old new : World) (outcome : Outcom
       subst (λ (o : Outcome). HasRunTool used settings old new o []) (sym is) (inl (before, record { links_are = same; said = said; code_is = refl; status_is = refl }, refl))
 
   pub ended_after : (mid : Stock) (roots : Roots) (ahead : TypeAhead) (left : RunState) (answer : ToolAnswer) (saved : End) (status : ℕ) → ahead ≡ nothing_typed → HasStarted used settings.conf_path old.stock.files mid roots
-      → HasDone used roots settings (run_state old.links.io old.links.child old.err mid.files mid.used ahead 0) left answer [] → (commits : (last : List Save) × Commits (comes_to_save answer.ended) answer.ended left.world.stock new.stock last saved)
+      → HasDone used roots settings (run_state old.links.io old.links.child old.err mid.files mid.used ahead 0) left answer [] → (commits : (last : List Save) × Commits (keeps_changes used && comes_to_save answer.ended) answer.ended left.world.stock new.stock last saved)
       → new.links.io ≡ left.world.links.io → Awaits answer.is_started left.world.links.child new.links.child saved how answer.status status → HasSaid (end_line how) left.world.err new.err
       → outcome ≡ record { status = status_of how status; end = how; last_code = answer.last_code } → HasRunTool used settings old new outcome (commits.0 ++ [])
   ended_after mid roots ahead left answer saved status none started does commits io awaits said is =

@@ -1,5 +1,5 @@
 -- Nothing changes on the disk in a run but what its saves do, and these save layers of its databases.
-use Rattle.std.proofs.Common.{◌≡◌, inl, inr, Bool, true, false, List, [], ◌++◌, ℕ, Option, Some, refl, sym, ap, subst, ◌∙◌}
+use Rattle.std.proofs.Common.{◌≡◌, ◌&&◌, inl, inr, Bool, true, false, List, [], ◌++◌, ℕ, Option, Some, Ok, refl, sym, ap, subst, ◌∙◌}
 use Rattle.std.specs.List.{AllByRecursion}
 use Rattle.dc_outside.specs.Disk.{Disk}
 use Rattle.dc_cli.specs.Tools.{Names}
@@ -11,16 +11,21 @@ use Rattle.dc_run.specs.Headline.{HasWorked, HasRunTool, HasRunWords}
 use Rattle.dc_run.specs.Kills.{AllDone}
 use Rattle.dc_run.specs.Rounds.{Job, Whole, HasDone, IsOneRound, Works, is_saved_at}
 use Rattle.dc_run.specs.Saves.{Save, AreSaves, Commits}
-use Rattle.dc_run.specs.Starting.{begun, databases_of}
+use Rattle.dc_run.specs.Starting.{begun, databases_of, keeps_changes}
 use Rattle.dc_run.specs.World.{Stock, World, RunState, before_rounds}
 use Rattle.dc_run.specs.declared.outcome.End.{End}
 use Rattle.dc_run.specs.declared.outcome.End.TheVariants as end
 use Rattle.dc_run.specs.declared.outcome.Outcome.{Outcome}
 use Rattle.dc_run.specs.declared.outcome.ToolEnd.{ToolEnd}
 use Rattle.dc_run.specs.declared.settings.Settings.{Settings}
-use Rattle.dc_run.proofs.CrashLemmas.{KeepsAll, all_read, before_reads, loads_keep, set_up_specs, set_for, specs_in, tool_keeps, ended_then, each_save, all_saved_then, done_before, of_configuration}
+use Rattle.dc_run.proofs.CrashLemmas.{KeepsAll, loads_read, before_reads, loads_keep, set_up_specs, set_for, tool_keeps, ended_then, each_save, all_saved_then, done_before, of_configuration}
+use Rattle.dc_run.proofs.KindLemmas.{specs_in}
 use Rattle.dc_run.proofs.Kills.{keeps_saves}
 use Rattle.dc_run.proofs.RoundLemmas.{one_round, jobs_had}
+
+both_true : (one other : Bool) → one && other ≡ true → (one ≡ true) × (other ≡ true)
+both_true true other is = (refl, is)
+both_true false other is = absurd (cc)
 
 saved_between : (saves : Bool) (ended : ToolEnd) (left new : Stock) (last : List Save) (how : End) → Commits saves ended left new last how → AreSaves left.files.view.disk last new.files.view.disk
 saved_between true ended left new last how has = subst (λ (l : List Save). AreSaves left.files.view.disk l new.files.view.disk) (sym has.saves_are) (refl, has.is, (λ failed. refl), refl)
@@ -53,14 +58,14 @@ module _ (used : Tool) (settings : Settings) (old new : World) (outcome : Outcom
   works : HasDone used worked.roots settings start one.round.left one.round.answer one.round.inner
   works = subst (λ (j : Job). Works j worked.roots settings start one.round.left one.round.answer one.round.inner) one.job_is one.is.works
 
-  commits : Commits (comes_to_save one.round.answer.ended) one.round.answer.ended one.round.left.world.stock one.round.new.world.stock one.round.last one.round.finish
+  commits : Commits (keeps_changes used && comes_to_save one.round.answer.ended) one.round.answer.ended one.round.left.world.stock one.round.new.world.stock one.round.last one.round.finish
   commits = subst (λ (j : Job). Commits (is_saved_at j one.round.answer.ended) one.round.answer.ended one.round.left.world.stock one.round.new.world.stock one.round.last one.round.finish) one.job_is one.is.commits
 
   saves_are : saves ≡ one.round.last
   saves_are = one.saves_are ∙ ap (λ (l : List Save). l ++ one.round.last) works.saves_are
 
-  keeps : KeepsAll (begun used start worked.roots settings) one.round.answer.ended one.round.left.world.stock.used one.round.left.world.stock.files
-  keeps = subst (λ (s : Stock). KeepsAll (begun used start worked.roots settings) one.round.answer.ended s.used s.files) (sym works.stock_is)
+  keeps : KeepsAll (keeps_changes used) (begun used start worked.roots settings) one.round.answer.ended one.round.left.world.stock.used one.round.left.world.stock.files
+  keeps = subst (λ (s : Stock). KeepsAll (keeps_changes used) (begun used start worked.roots settings) one.round.answer.ended s.used s.files) (sym works.stock_is)
       (tool_keeps used worked.roots (begun used start worked.roots settings) worked.mid.links one.round.left.world.links 0 one.round.answer works.told works.left works.uses)
 
   stock_is : new.stock ≡ one.round.new.world.stock
@@ -68,24 +73,24 @@ module _ (used : Tool) (settings : Settings) (old new : World) (outcome : Outcom
 
   pub run_saves : AreSaves old.stock.files.view.disk saves new.stock.files.view.disk
   run_saves =
-      subst (λ (d : Option Disk). AreSaves d saves new.stock.files.view.disk) (all_read _ _ _ _ _ _ _ _ worked.started.loaded.loads)
+      subst (λ (d : Option Disk). AreSaves d saves new.stock.files.view.disk) (loads_read used settings.conf_path worked.roots.conf old.stock.files worked.mid.stock (Ok tt) worked.started.loaded)
       (subst (λ (l : List Save). AreSaves worked.mid.stock.files.view.disk l new.stock.files.view.disk) (sym saves_are)
       (subst (λ (s : Stock). AreSaves worked.mid.stock.files.view.disk one.round.last s.files.view.disk) (sym stock_is)
       (subst (λ (d : Option Disk). AreSaves d one.round.last one.round.new.world.stock.files.view.disk) keeps.disk
-      (saved_between (comes_to_save one.round.answer.ended) one.round.answer.ended one.round.left.world.stock one.round.new.world.stock one.round.last one.round.finish commits))))
+      (saved_between (keeps_changes used && comes_to_save one.round.answer.ended) one.round.answer.ended one.round.left.world.stock one.round.new.world.stock one.round.last one.round.finish commits))))
 
-  specs : comes_to_save one.round.answer.ended ≡ true → specs_in one.round.left.world.stock.used ≡ set_for (databases_of used worked.roots.conf)
-  specs is = keeps.specs (ended_then one.round.answer.ended is) ∙ loads_keep _ _ _ _ _ _ _ _ worked.started.loaded.loads ∙ set_up_specs (databases_of used worked.roots.conf)
+  specs : keeps_changes used && comes_to_save one.round.answer.ended ≡ true → specs_in one.round.left.world.stock.used ≡ set_for (databases_of used worked.roots.conf)
+  specs is = keeps.specs (both_true _ _ is).0 (ended_then one.round.answer.ended (both_true _ _ is).1) ∙ loads_keep _ _ _ _ _ _ _ _ worked.started.loaded.loads ∙ set_up_specs (databases_of used worked.roots.conf)
 
   saves_done : outcome.end ≡ end.Done → AllDone saves
   saves_done done = subst AllDone (sym saves_are)
-      (all_saved_then one.round.left.world.stock one.round.new.world.stock one.round.last one.round.finish one.round.answer.ended (comes_to_save one.round.answer.ended) commits
+      (all_saved_then one.round.left.world.stock one.round.new.world.stock one.round.last one.round.finish one.round.answer.ended (keeps_changes used && comes_to_save one.round.answer.ended) commits
       (done_before one.round.answer.is_started one.round.left.world.links.child one.round.new.world.links.child one.round.finish one.round.how one.round.answer.status one.round.status one.is.awaits (sym one.how_is ∙ done)))
 
   module _ (words : List (List ℕ)) (named : Names words used) where
     saves_of_databases : AllByRecursion (λ save. AreOfConfiguration words old.stock.files.view.disk settings.conf_path save.layers) saves
     saves_of_databases = subst (AllByRecursion (λ (save : Save). AreOfConfiguration words old.stock.files.view.disk settings.conf_path save.layers)) (sym saves_are)
-        (each_save one.round.left.world.stock one.round.new.world.stock one.round.last one.round.finish one.round.answer.ended (AreOfConfiguration words old.stock.files.view.disk settings.conf_path) (comes_to_save one.round.answer.ended) commits
+        (each_save one.round.left.world.stock one.round.new.world.stock one.round.last one.round.finish one.round.answer.ended (AreOfConfiguration words old.stock.files.view.disk settings.conf_path) (keeps_changes used && comes_to_save one.round.answer.ended) commits
         (λ is. of_configuration words used named old.stock.files.view.disk settings.conf_path worked.roots.conf worked.started.loaded.conf_is.conf_is.conf_is one.round.left.world.stock.used (specs is)))
 
     worked_keeps : KeepsDatabases words settings.conf_path old.stock.files new.stock.files outcome.end saves

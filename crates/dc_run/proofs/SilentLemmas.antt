@@ -19,7 +19,7 @@ use Rattle.dc_session.specs.declared.stepped.StepError.{StepError}
 use Rattle.dc_session.specs.declared.stepped.StepError.TheVariants as step
 use Rattle.dc_session.specs.declared.stepped.Stepped.{Stepped}
 use Rattle.dc_cli.specs.declared.tool.Tool.{Tool}
-use Rattle.dc_cli.specs.declared.tool.Tool.TheVariants.{Communicate, LoadTemplate, Run, Show, CopyDb}
+use Rattle.dc_cli.specs.declared.tool.Tool.TheVariants.{Communicate, LoadTemplate, Run, Show, CopyDb, SetSelections, Drill}
 use Rattle.dc_run.specs.Jobs.{CopiesBy, Uses}
 use Rattle.dc_run.specs.declared.starting.CopyRoots.{CopyRoots}
 use Rattle.dc_run.specs.declared.starting.Roots.{Roots}
@@ -106,14 +106,21 @@ copy_silent : (found : Option CopyRoots) (start : SessionState) (old new : Links
 copy_silent None start old new before given told left none = absurd none
 copy_silent (Some copy) start old new before given told left is = ap (λ (l : Resources). l.err) is.left_is
 
+-- whether what it tells waits for its end
+abbrev pub IsQuiet : Tool → Type 0
+IsQuiet (SetSelections verbose check unseen) = ⊥
+IsQuiet used = Unit {0}
+
 -- its session tells nothing
-pub tool_silent : (used : Tool) (roots : Roots) (start : SessionState) (old new : Links) (before : ℕ) (given : ToolAnswer) (told : List ℕ) (left : Resources) → Uses used roots start old new before given told left → left.err ≡ start.err
-tool_silent (Communicate owner) roots start old new before given told left uses = served_silent start left old.io new.io uses.0.ended before given.last_code uses.0.served
-tool_silent (LoadTemplate owner paths) roots start old new before given told left uses =
+pub tool_silent : (used : Tool) → IsQuiet used → (roots : Roots) (start : SessionState) (old new : Links) (before : ℕ) (given : ToolAnswer) (told : List ℕ) (left : Resources) → Uses used roots start old new before given told left → left.err ≡ start.err
+tool_silent (Communicate owner) quiet roots start old new before given told left uses = served_silent start left old.io new.io uses.0.ended before given.last_code uses.0.served
+tool_silent (LoadTemplate owner paths) quiet roots start old new before given told left uses =
     ap (λ (l : Resources). l.err) uses.left_is ∙ ends_silent given.ended (file_state start uses.loaded.turns) uses.loaded.rest uses.state uses.loaded.ends ∙ files_silent start uses.loaded.turns uses.loaded.course
-tool_silent (Run owner frontend priority command) roots start old new before given told left uses = elim uses.0 [
+tool_silent (Run owner frontend priority command) quiet roots start old new before given told left uses = elim uses.0 [
   | inl none ↦ ap (λ (l : Resources). l.err) none.left_is
   | inr started ↦ served_silent start left started.mid new.child started.ended before given.last_code started.served
 ]
-tool_silent (Show database shown) roots start old new before given told left uses = ap (λ (l : Resources). l.err) uses.0.left_is
-tool_silent (CopyDb copy) roots start old new before given told left uses = copy_silent roots.copy start old new before given told left uses
+tool_silent (Show database shown) quiet roots start old new before given told left uses = ap (λ (l : Resources). l.err) uses.0.left_is
+tool_silent (CopyDb copy) quiet roots start old new before given told left uses = copy_silent roots.copy start old new before given told left uses
+tool_silent (SetSelections verbose check unseen) quiet roots start old new before given told left uses = absurd quiet
+tool_silent (Drill count) quiet roots start old new before given told left uses = ap (λ (l : Resources). l.err) uses.0.left_is

@@ -1,5 +1,5 @@
 -- What is said at once of a run of a tool, which is one round.
-use Rattle.std.proofs.Common.{◌≡◌, ℕ, List, [], ◌++◌, sym, ap, subst, ◌∙◌}
+use Rattle.std.proofs.Common.{◌≡◌, ◌&&◌, ℕ, List, [], sym, ap, subst, ◌∙◌}
 use Rattle.dc_outside.specs.State.{LinkState}
 use Rattle.dc_run.specs.declared.outcome.End.{End}
 use Rattle.dc_run.specs.declared.outcome.Outcome.{Outcome}
@@ -9,17 +9,16 @@ use Rattle.dc_run.specs.declared.starting.Roots.{Roots}
 use Rattle.dc_cli.specs.declared.tool.Tool.{Tool}
 use Rattle.dc_run.specs.EndLines.{end_line, HasSaid}
 use Rattle.dc_run.specs.Ends.{status_of, comes_to_save}
-use Rattle.dc_run.specs.Finishing.{Finishes}
+use Rattle.dc_run.specs.Finishing.{FinishesWhere}
 use Rattle.dc_run.specs.Headline.{HasWorked}
 use Rattle.dc_run.specs.OneRound.{HasUsed}
 use Rattle.dc_run.specs.Rounds.{Job, Whole, Round, HasDone, Works, IsRound, is_saved_at, report}
 use Rattle.dc_run.specs.Running.{Awaits}
 use Rattle.dc_run.specs.Saves.{Save, Commits}
-use Rattle.dc_run.specs.Starting.{HasStarted, begun}
+use Rattle.dc_run.specs.Starting.{HasStarted, keeps_changes}
 use Rattle.dc_run.specs.World.{Stock, World, RunState, before_rounds}
 use Rattle.dc_run.proofs.Saying.{said_then}
-use Rattle.dc_run.proofs.RoundLemmas.{finishes, one_round, jobs_had}
-use Rattle.dc_run.proofs.SilentLemmas.{tool_silent}
+use Rattle.dc_run.proofs.RoundLemmas.{finishes_where, one_round, jobs_had}
 
 module _ (used : Tool) (settings : Settings) (roots : Roots) (old : World) (mid : Stock) (job : Job) (given : ToolAnswer) (left : RunState) (inner last : List Save) (finish : End) (status : ℕ) (how : End) (after : RunState) (job_is : job ≡ Whole used) where
   abbrev start : RunState
@@ -32,7 +31,7 @@ module _ (used : Tool) (settings : Settings) (roots : Roots) (old : World) (mid 
     works : HasDone used roots settings start left given inner
     works = subst (λ (j : Job). Works j roots settings start left given inner) job_is is.works
 
-    commits : Commits (comes_to_save given.ended) given.ended left.world.stock after.world.stock last finish
+    commits : Commits (keeps_changes used && comes_to_save given.ended) given.ended left.world.stock after.world.stock last finish
     commits = subst (λ (j : Job). Commits (is_saved_at j given.ended) given.ended left.world.stock after.world.stock last finish) job_is is.commits
 
     told : HasSaid [] left.world.err after.world.err
@@ -52,15 +51,13 @@ module _ (used : Tool) (settings : Settings) (roots : Roots) (old : World) (mid 
           links = left.world.links;
           uses = works.uses;
           how = finish;
-          finishes = subst (λ (s : Stock). Finishes s.used new.stock.used given.ended s.files new.stock.files finish) works.stock_is
-              (subst (λ (s : Stock). Finishes left.world.stock.used s.used given.ended left.world.stock.files s.files finish) (sym (ap (λ (w : World). w.stock) rest)) (finishes left.world.stock after.world.stock last finish given.ended commits));
+          finishes = subst (λ (s : Stock). FinishesWhere (keeps_changes used) s.used new.stock.used given.ended s.files new.stock.files finish) works.stock_is
+              (subst (λ (s : Stock). FinishesWhere (keeps_changes used) left.world.stock.used s.used given.ended left.world.stock.files s.files finish) (sym (ap (λ (w : World). w.stock) rest)) (finishes_where left.world.stock after.world.stock last finish (keeps_changes used) given.ended commits));
           io_is = ap (λ (w : World). w.links.io) rest ∙ is.io_is;
           status = status;
           awaits = subst (λ (h : End). Awaits given.is_started left.world.links.child new.links.child finish h given.status status) (sym end_is)
               (subst (λ (l : LinkState). Awaits given.is_started left.world.links.child l finish how given.status status) (sym (ap (λ (w : World). w.links.child) rest)) is.awaits);
-          said = subst (λ (l : LinkState). HasSaid (works.told ++ end_line outcome.end) l new.err)
-              (tool_silent used roots (begun used start roots settings) start.world.links left.world.links 0 given works.told works.left works.uses)
-              (said_then works.told (end_line outcome.end) works.left.err left.world.err new.err works.said behind);
+          said = (said_then works.told (end_line outcome.end) works.left.err left.world.err new.err works.said behind);
           code_is = code_is ∙ is.code_is ∙ works.code_is;
           status_is = status_is;
         }

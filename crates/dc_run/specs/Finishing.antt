@@ -1,5 +1,5 @@
 -- What a run does when its tool has ended: the images of all layers are saved, in order, and then each layer is marked as saved.
-use Rattle.std.specs.Prelude.{◌≡◌, ◌⊎◌, ℕ, List, map as each}
+use Rattle.std.specs.Prelude.{◌≡◌, ◌⊎◌, ℕ, Bool, true, false, List, map as each}
 use Rattle.dc_outside.specs.Counts.{FaultRose, RefusalRose}
 use Rattle.dc_layer.specs.State.{LayerState, images, saved}
 use Rattle.dc_layer.specs.declared.image.Image.{Image}
@@ -38,7 +38,7 @@ pub record IsWithoutMemory (layers used : List LayerState) (files new : FilesSta
   pub counts : RefusalRose files.counts new.counts ⊎ ((new.counts ≡ files.counts) × (new.view ≡ files.view))
   pub used_are : used ≡ layers
 
--- the tool didn't end so that its layers are saved: no file was written
+-- the layers aren't saved: no file was written
 pub record IsBrokenOff (layers used : List LayerState) (files new : FilesState) (ended : ToolEnd) (how : End) : Type 0 where
   pub end_is : how ≡ end_of ended
   pub files_are : new ≡ files
@@ -51,4 +51,10 @@ Finishes layers used tool.PrintFault files new how = IsBrokenOff layers used fil
 Finishes layers used tool.TermFault files new how = IsBrokenOff layers used files new tool.TermFault how
 Finishes layers used tool.ChildFault files new how = IsBrokenOff layers used files new tool.ChildFault how
 Finishes layers used (tool.FilesFault path) files new how = IsBrokenOff layers used files new (tool.FilesFault path) how
-Finishes layers used ended files new how = IsSaved layers used files new ended how ⊎ IsUnsaved layers used files new ended how ⊎ IsWithoutMemory layers used files new how
+Finishes layers used ended files new how =
+    IsSaved layers used files new ended how ⊎ IsUnsaved layers used files new ended how ⊎ IsWithoutMemory layers used files new how
+
+-- the same of a tool of which nothing is saved, and of any other
+abbrev pub FinishesWhere : Bool → List LayerState → List LayerState → ToolEnd → FilesState → FilesState → End → Type 0
+FinishesWhere false layers used ended files new how = IsBrokenOff layers used files new ended how
+FinishesWhere true layers used ended files new how = Finishes layers used ended files new how

@@ -43,7 +43,8 @@ pub record HasWorked (tool : Tool) (settings : Settings) (old new : World) (outc
 -- a run of a tool under these settings, with the saves that it began
 abbrev pub HasRunTool : Tool → Settings → World → World → Outcome → List Save → Type 0
 HasRunTool tool settings old new outcome saves =
-    (EndsBefore tool settings.conf_path old.stock.files new.stock outcome.end × IsSilent old new outcome × (saves ≡ [])) ⊎ HasWorked tool settings old new outcome saves
+    (EndsBefore tool settings.conf_path old.stock.files new.stock outcome.end × IsSilent old new outcome × (saves ≡ []))
+    ⊎ HasWorked tool settings old new outcome saves
 
 -- ---- the program
 
@@ -69,7 +70,8 @@ pub record IsRun (words : List (List ℕ)) (settings : Settings) (old new : Worl
   pub keeps : KeepsDatabases words settings.conf_path old.stock.files new.stock.files outcome.end saves
 
 -- A run of the program over layers of its own, of which none was in use: it ended so, whatever it left in them, and this is its exit status.
-pub record IsProgramRun (words : List (List ℕ)) (settings : Settings) (old : World) (links : Links) (err : LinkState) (files : FilesState) (status : ℕ) : Type 0 where
+pub record IsProgramRun (words : List (List ℕ)) (settings : Settings) (old : World)
+    (links : Links) (err : LinkState) (files : FilesState) (status : ℕ) : Type 0 where
   pub used : List LayerState
   pub outcome : Outcome
   pub ran : IsRun words settings old (record { stock = stock_of files used; links = links; err = err }) outcome

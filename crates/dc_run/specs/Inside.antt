@@ -16,7 +16,7 @@ use Rattle.dc_layer.specs.State.{LayerState}
 use Rattle.dc_question.specs.Questions.{QuestionContext}
 use Rattle.dc_session.specs.Refusals.{refusal}
 use Rattle.dc_serve.specs.declared.outcome.LinkEnd.{LinkEnd}
-use Rattle.dc_session.specs.Serving.{IsServed, Resources}
+use Rattle.dc_session.specs.Serving.{IsServed, Resources, resources_of}
 use Rattle.dc_outside.specs.State.{FilesState, LinkState}
 use Rattle.dc_session.specs.SessionState.{SessionState}
 use Rattle.dc_session.specs.declared.asking.Asking.{Asking}
@@ -32,9 +32,16 @@ use Rattle.dc_run.specs.declared.serving.RunAsking.{RunAsking}
 use Rattle.dc_cli.specs.declared.tool.Tool.{Tool}
 use Rattle.dc_cli.specs.declared.tool.Tool.TheVariants.{Run, Show, CopyDb}
 use Rattle.dc_cli.specs.declared.tool.PlacedWord.{PlacedWord}
-use Rattle.dc_run.specs.Jobs.{Copies, Prints, copy_status, refusal_lines}
+use Rattle.dc_run.specs.Jobs.{Copies, Prints, PrintsMade, copy_status, refusal_lines, refused_status, selections_end}
+use Rattle.dc_drill.specs.Drilling.{Drills}
+use Rattle.dc_preseed.specs.Selecting.{HasSelected, selections_over}
+use Rattle.dc_preseed.specs.declared.selected.Choices.{Choices}
+use Rattle.dc_text.specs.declared.memory.OutOfMemory.{OutOfMemory as NoMemory}
+use Rattle.dc_frontend.specs.declared.frontend.Frontend.TheVariants.{Noninteractive}
+use Rattle.dc_session.specs.SessionState.{TerminalState}
+use Rattle.dc_run.specs.declared.settings.Settings.{Settings}
 use Rattle.dc_run.specs.declared.outcome.ToolEnd.TheVariants as tool
-use Rattle.dc_run.specs.Starting.{IsRefusedFor, are_patterns, databases_of, plan_in, roots, sought, wrong_database}
+use Rattle.dc_run.specs.Starting.{IsRefusedFor, chosen, session_at, are_patterns, databases_of, plan_in, roots, sought, wrong_database}
 use Rattle.dc_run.specs.declared.outcome.End.{End}
 use Rattle.dc_run.specs.declared.outcome.End.TheVariants as end
 use Rattle.dc_run.specs.declared.outcome.PatternAt.TheVariants.{Word}
@@ -101,7 +108,8 @@ loading_over resources at owner policy asking = record {
 }
 
 -- the same over layers and files, behind a reply of this code
-pub record HasLoadedOver (start : SessionState) (paths : List (List ℕ)) (old new : LinkState) (before : ℕ) (answer : ToolAnswer) (layers : List LayerState) (files : FilesState) : Type 0 where
+pub record HasLoadedOver (start : SessionState) (paths : List (List ℕ)) (old new : LinkState)
+    (before : ℕ) (answer : ToolAnswer) (layers : List LayerState) (files : FilesState) : Type 0 where
   pub said : List ℕ
   pub state : SessionState
   pub layers_are : layers ≡ state.store.layers
@@ -226,10 +234,40 @@ pub record HasCopiedOver (copy : Copying) (layers left : List LayerState) (old n
   pub waits : answer.is_started ≡ false
 
 abbrev pub CopiesOver : Roots → List LayerState → List LayerState → LinkState → LinkState → ℕ → ToolAnswer → Type 0
-CopiesOver roots layers left old new before answer = (copy : CopyRoots) × (roots.copy ≡ Some copy) × HasCopiedOver (copying_by roots copy) layers left old new before answer
+CopiesOver roots layers left old new before answer =
+    (copy : CopyRoots) × (roots.copy ≡ Some copy) × HasCopiedOver (copying_by roots copy) layers left old new before answer
 
 -- the answer of a copy that refused these items, each of which is told, or that ran out of memory
 abbrev pub TellsCopied : {E : Type 0} → Result (List (List ℕ)) E → LinkState → LinkState → ℕ → ToolAnswer → Type 0
 TellsCopied (Ok refused) old new before answer =
     HasSaid (refusal_lines refused) old new × (answer ≡ record { ended = tool.Done; is_started = false; last_code = before; status = copy_status refused })
 TellsCopied (Err error) old new before answer = (new ≡ old) × (answer ≡ record { ended = tool.OutOfMemory; is_started = false; last_code = before; status = 0 })
+
+-- ---- set-selections and drill
+
+-- the selections that came on the link were taken into these layers, and told on standard error
+pub record HasTakenOver (choices : Choices) (at : QuestionContext) (layers left : List LayerState) (old new err new_err : LinkState)
+    (before : ℕ) (answer : ToolAnswer) : Type 0 where
+  pub ended : LinkEnd NoMemory
+  pub ended_is : answer.ended ≡ selections_end ended
+  pub refused : Bool
+  pub selected : HasSelected (selections_over layers at choices err) left new_err refused old new ended before answer.last_code
+  pub status_is : answer.status ≡ refused_status refused
+  pub waits : answer.is_started ≡ false
+
+-- a session of these roots over these layers, whatever else it works on, was served the commands for so many questions
+abbrev pub DrillsOver : ℕ → Roots → Settings → List LayerState → List LayerState → Result (List ℕ) (LinkEnd StepError) → Type 0
+DrillsOver count roots settings layers left result =
+    (files : FilesState) (terminal : TerminalState) (err : LinkState)
+    → Drills count
+    (session_at (resources_of layers files terminal err) roots settings (codes "drill") (Some Noninteractive) (chosen settings roots)) left result
+
+-- and its numbers were printed
+pub record HasDrilledOver (count : ℕ) (roots : Roots) (settings : Settings) (layers left : List LayerState) (old new : LinkState)
+    (before : ℕ) (answer : ToolAnswer) : Type 0 where
+  pub result : Result (List ℕ) (LinkEnd StepError)
+  pub drills : DrillsOver count roots settings layers left result
+  pub prints : PrintsMade result old new answer.ended
+  pub code_is : answer.last_code ≡ before
+  pub status_is : answer.status ≡ 0
+  pub waits : answer.is_started ≡ false

@@ -1,5 +1,5 @@
 -- What each tool does, from the state in which its databases were loaded.
-use Rattle.std.specs.Prelude.{◌≡◌, ◌⊎◌, ℕ, false, List, [], ◌∷◌, ◌++◌, map as each, Option, Some, None, Ok, Err, codes}
+use Rattle.std.specs.Prelude.{◌≡◌, ◌⊎◌, ℕ, Bool, false, if◌then◌else◌, Result, List, [], ◌∷◌, ◌++◌, map as each, Option, Some, None, Ok, Err, codes}
 use Rattle.std.specs.List.{flat_map}
 use Rattle.dc_text.specs.Lines.{text_of}
 use Rattle.dc_conf.specs.Configuration.{Configuration}
@@ -13,13 +13,18 @@ use Rattle.dc_tools.specs.Copying.{Copying, IsCopied}
 use Rattle.dc_tools.specs.Listing.{owners_text_of, databases_text_of}
 use Rattle.dc_tools.specs.Showing.{owner_text}
 use Rattle.dc_serve.specs.declared.outcome.LinkEnd.{LinkEnd}
+use Rattle.dc_serve.specs.declared.outcome.LinkEnd.TheVariants as link
+use Rattle.dc_text.specs.declared.memory.OutOfMemory.{OutOfMemory as NoMemory}
+use Rattle.dc_preseed.specs.Selecting.{IsSelected, SelectorState, selections_over}
+use Rattle.dc_preseed.specs.declared.selected.Choices.{Choices}
+use Rattle.dc_drill.specs.Drilling.{Drills}
 use Rattle.dc_session.specs.Serving.{IsServed, Resources, resources_in}
 use Rattle.dc_outside.specs.State.{LinkState}
 use Rattle.dc_session.specs.SessionState.{SessionState}
 use Rattle.dc_session.specs.declared.stepped.StepError.{StepError}
 use Rattle.dc_run.specs.declared.outcome.ToolAnswer.{ToolAnswer}
 use Rattle.dc_cli.specs.declared.tool.Tool.{Tool}
-use Rattle.dc_cli.specs.declared.tool.Tool.TheVariants.{Communicate, LoadTemplate, Run, Show, CopyDb}
+use Rattle.dc_cli.specs.declared.tool.Tool.TheVariants.{Communicate, LoadTemplate, Run, Show, CopyDb, SetSelections, Drill}
 use Rattle.dc_cli.specs.declared.tool.Shown.{Shown}
 use Rattle.dc_cli.specs.declared.tool.Shown.TheVariants.{Questions, Owners, Databases}
 use Rattle.dc_run.specs.declared.outcome.ToolEnd.{ToolEnd}
@@ -42,7 +47,8 @@ pub record HasCommunicated (start : SessionState) (old new : LinkState) (before 
   pub waits : answer.is_started ≡ false
 
 -- the template files were loaded, and no link was used
-pub record HasLoadedTemplates (start : SessionState) (paths : List (List ℕ)) (old new : Links) (before : ℕ) (answer : ToolAnswer) (said : List ℕ) (left : Resources) : Type 0 where
+pub record HasLoadedTemplates (start : SessionState) (paths : List (List ℕ)) (old new : Links)
+    (before : ℕ) (answer : ToolAnswer) (said : List ℕ) (left : Resources) : Type 0 where
   pub state : SessionState
   pub left_is : left ≡ resources_in state
   pub loaded : HasLoadedFiles start paths answer.ended said answer.status state
@@ -66,7 +72,8 @@ Prints text old new tool.OutOfMemory = Sends {T = Unit {0}} text old new (Err Ou
 Prints text old new ended = ⊥
 
 -- it was printed what is asked for, and nothing else was done
-pub record HasShown (shown : Shown) (conf : Configuration) (start : SessionState) (old new : Links) (before : ℕ) (answer : ToolAnswer) (left : Resources) : Type 0 where
+pub record HasShown (shown : Shown) (conf : Configuration) (start : SessionState) (old new : Links)
+    (before : ℕ) (answer : ToolAnswer) (left : Resources) : Type 0 where
   pub prints : Prints (shown_text shown conf start.store.layers start.at) old.io new.io answer.ended
   pub child_is : new.child ≡ old.child
   pub left_is : left ≡ resources_in start
@@ -99,7 +106,8 @@ Copies copy old new tool.OutOfMemory said status = said ≡ []
 Copies copy old new ended said status = ⊥
 
 -- items were copied, and no other changed; no link was used
-pub record HasCopied (copy : Copying) (start : SessionState) (old new : Links) (before : ℕ) (answer : ToolAnswer) (said : List ℕ) (left : Resources) : Type 0 where
+pub record HasCopied (copy : Copying) (start : SessionState) (old new : Links)
+    (before : ℕ) (answer : ToolAnswer) (said : List ℕ) (left : Resources) : Type 0 where
   pub copies : Copies copy start.store.layers left.layers answer.ended said answer.status
   pub others : AreSameButAll (names start.store.layers copy.source) start.store.layers left.layers
   pub left_is : left ≡ record (resources_in start) { layers = left.layers }
@@ -112,13 +120,59 @@ abbrev pub CopiesBy : Option CopyRoots → SessionState → Links → Links → 
 CopiesBy None start old new before answer said left = ⊥
 CopiesBy (Some copy) start old new before answer said left = HasCopied (copying start copy) start old new before answer said left
 
+-- ---- set-selections
+
+-- how the tool ends, by the end of its link
+abbrev pub selections_end : LinkEnd NoMemory → ToolEnd
+selections_end link.Done = tool.Done
+selections_end link.LinkFault = tool.LinkFault
+selections_end link.TooLong = tool.TooLong
+selections_end link.OutOfMemory = tool.OutOfMemory
+selections_end (link.Broken error) = tool.OutOfMemory
+
+-- the status is 1 where a line was refused
+abbrev pub refused_status : Bool → ℕ
+refused_status refused = if refused then 1 else 0
+
+-- the selections that came on the link were taken so, and told as they were
+pub record HasTaken (choices : Choices) (start : SessionState) (old new : LinkState) (before : ℕ) (answer : ToolAnswer) (left : Resources) : Type 0 where
+  pub state : SelectorState
+  pub ended : LinkEnd NoMemory
+  pub ended_is : answer.ended ≡ selections_end ended
+  pub selected : IsSelected (selections_over start.store.layers start.at choices start.err) state old new ended before answer.last_code
+  pub left_is : left ≡ record (resources_in start) { layers = state.store.layers; err = state.err }
+  pub status_is : answer.status ≡ refused_status state.refused
+  pub waits : answer.is_started ≡ false
+
+-- ---- drill
+
+-- the text was printed in one write; or there was none, for want of memory
+abbrev pub PrintsMade : {E : Type 0} → Result (List ℕ) E → LinkState → LinkState → ToolEnd → Type 0
+PrintsMade (Ok text) old new ended = Prints text old new ended
+PrintsMade (Err error) old new ended = (ended ≡ tool.OutOfMemory) × (new ≡ old)
+
+-- a session over these layers was served the commands for so many questions, and its numbers were printed; no other link and no file was used
+pub record HasDrilled (count : ℕ) (start : SessionState) (old new : Links) (before : ℕ) (answer : ToolAnswer) (left : Resources) : Type 0 where
+  pub result : Result (List ℕ) (LinkEnd StepError)
+  pub drills : Drills count start left.layers result
+  pub prints : PrintsMade result old.io new.io answer.ended
+  pub child_is : new.child ≡ old.child
+  pub left_is : left ≡ record (resources_in start) { layers = left.layers }
+  pub code_is : answer.last_code ≡ before
+  pub status_is : answer.status ≡ 0
+  pub waits : answer.is_started ≡ false
+
 -- ---- all tools
 
 -- What a tool does from the state in which its databases were loaded, behind a reply of this code: to the links, by its answer, what it tells on
 -- standard error behind its session, and what the session leaves.
 abbrev pub Uses : Tool → Roots → SessionState → Links → Links → ℕ → ToolAnswer → List ℕ → Resources → Type 0
-Uses (Communicate owner) roots start old new before answer said left = HasCommunicated start old.io new.io before answer left × (new.child ≡ old.child) × (said ≡ [])
+Uses (Communicate owner) roots start old new before answer said left =
+    HasCommunicated start old.io new.io before answer left × (new.child ≡ old.child) × (said ≡ [])
 Uses (LoadTemplate owner paths) roots start old new before answer said left = HasLoadedTemplates start paths old new before answer said left
 Uses (Run owner frontend priority command) roots start old new before answer said left = HasRunProgram command start old new before answer left × (said ≡ [])
 Uses (Show database shown) roots start old new before answer said left = HasShown shown roots.conf start old new before answer left × (said ≡ [])
 Uses (CopyDb copy) roots start old new before answer said left = CopiesBy roots.copy start old new before answer said left
+Uses (SetSelections verbose check unseen) roots start old new before answer said left =
+    HasTaken (record { verbose = verbose; check = check; unseen = unseen }) start old.io new.io before answer left × (new.child ≡ old.child) × (said ≡ [])
+Uses (Drill count) roots start old new before answer said left = HasDrilled count start old new before answer left × (said ≡ [])

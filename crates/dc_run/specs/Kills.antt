@@ -22,7 +22,8 @@ disk_after old (save ∷ saves) = disk_after save.after.view.disk saves
 -- From this moment on a crash leaves at each path what stood there then, or the file of one of the images; at the paths beside theirs, to which
 -- a save writes first and where it keeps the old text, it may leave anything.
 abbrev pub LeavesOneOf : List Image → Disk → Disk → Type 0
-LeavesOneOf images since after = (path : List ℕ) (entry : Option File) → Left after (moment since) path entry → (entry ≡ file_at since path) ⊎ MayAddAny images path entry
+LeavesOneOf images since after =
+    (path : List ℕ) (entry : Option File) → Left after (moment since) path entry → (entry ≡ file_at since path) ⊎ MayAddAny images path entry
 
 -- Once the first saves are over and done, and until the end of the run: a crash leaves at each path what stood there then, or what a later
 -- save puts there. At that moment nothing was pending, and what stood is what the images of the first saves put there, in order.
@@ -34,4 +35,5 @@ pub record KeepsAfter (before after : Disk) (over later : List Save) (since : Di
 -- however many of the saves are taken as those that are over: none, at the start of the run, up to all
 abbrev pub KeepsSaves : List Save → Disk → Disk → Type 0
 KeepsSaves saves before after =
-    (over later : List Save) → saves ≡ over ++ later → AllDone over → (since : Disk) → disk_after (Some before) over ≡ Some since → KeepsAfter before after over later since
+    (over later : List Save) → saves ≡ over ++ later → AllDone over
+    → (since : Disk) → disk_after (Some before) over ≡ Some since → KeepsAfter before after over later since

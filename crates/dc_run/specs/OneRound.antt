@@ -9,10 +9,10 @@ use Rattle.dc_run.specs.declared.starting.Roots.{Roots}
 use Rattle.dc_cli.specs.declared.tool.Tool.{Tool}
 use Rattle.dc_run.specs.EndLines.{end_line, HasSaid}
 use Rattle.dc_run.specs.Ends.{status_of}
-use Rattle.dc_run.specs.Finishing.{Finishes}
+use Rattle.dc_run.specs.Finishing.{FinishesWhere}
 use Rattle.dc_run.specs.Jobs.{Uses}
 use Rattle.dc_run.specs.Running.{Awaits}
-use Rattle.dc_run.specs.Starting.{HasStarted, begun}
+use Rattle.dc_run.specs.Starting.{HasStarted, begun, keeps_changes}
 use Rattle.dc_run.specs.World.{Links, Stock, World, before_rounds}
 
 -- The layers were loaded, the tool ran over them, and what it left was saved, or not, by how it ended. A program that was started is waited
@@ -27,10 +27,10 @@ pub record HasUsed (tool : Tool) (settings : Settings) (old new : World) (outcom
   pub links : Links
   pub uses : Uses tool roots (begun tool (before_rounds (record old { stock = mid })) roots settings) old.links links 0 answer told left
   pub how : End
-  pub finishes : Finishes left.layers new.stock.used answer.ended left.files new.stock.files how
+  pub finishes : FinishesWhere (keeps_changes tool) left.layers new.stock.used answer.ended left.files new.stock.files how
   pub io_is : new.links.io ≡ links.io
   pub status : ℕ
   pub awaits : Awaits answer.is_started links.child new.links.child how outcome.end answer.status status
-  pub said : HasSaid (told ++ end_line outcome.end) old.err new.err
+  pub said : HasSaid (told ++ end_line outcome.end) left.err new.err
   pub code_is : outcome.last_code ≡ answer.last_code
   pub status_is : outcome.status ≡ status_of outcome.end status

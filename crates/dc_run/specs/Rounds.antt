@@ -1,5 +1,5 @@
 -- A run in rounds: each job is done, saved and waited for, before the next is begun.
-use Rattle.std.specs.Prelude.{◌≡◌, ◌≢◌, ℕ, Bool, List, [], ◌∷◌, ◌++◌, max, Result, Ok, Err}
+use Rattle.std.specs.Prelude.{◌≡◌, ◌≢◌, ◌&&◌, ℕ, Bool, List, [], ◌∷◌, ◌++◌, max, Result, Ok, Err}
 use Rattle.dc_run.specs.declared.outcome.End.{End}
 use Rattle.dc_run.specs.declared.outcome.End.TheVariants.{Done}
 use Rattle.dc_run.specs.declared.outcome.ToolAnswer.{ToolAnswer}
@@ -12,7 +12,7 @@ use Rattle.dc_run.specs.Ends.{comes_to_save}
 use Rattle.dc_run.specs.Jobs.{Uses}
 use Rattle.dc_run.specs.Running.{Awaits}
 use Rattle.dc_run.specs.Saves.{Save, Commits}
-use Rattle.dc_run.specs.Starting.{begun}
+use Rattle.dc_run.specs.Starting.{begun, keeps_changes}
 use Rattle.dc_run.specs.World.{RunState, stock_of}
 use Rattle.dc_session.specs.Serving.{Resources}
 
@@ -45,7 +45,7 @@ Works (Whole used) roots settings old new answer saves = HasDone used roots sett
 
 -- whether a round comes to its save
 abbrev pub is_saved_at : Job → ToolEnd → Bool
-is_saved_at (Whole used) ended = comes_to_save ended
+is_saved_at (Whole used) ended = keeps_changes used && comes_to_save ended
 
 -- what a round's status counts for in the run's
 abbrev pub status_by : Job → ℕ → ℕ

@@ -44,7 +44,8 @@ pub record IsStarted (command : List (List ℕ)) (start : SessionState) (old new
   pub waits : answer.is_started ≡ true
 
 abbrev pub HasRunProgram : List (List ℕ) → SessionState → Links → Links → ℕ → ToolAnswer → Resources → Type 0
-HasRunProgram command start old new before answer left = IsNotStarted command start old new before answer left ⊎ IsStarted command start old new before answer left
+HasRunProgram command start old new before answer left =
+    IsNotStarted command start old new before answer left ⊎ IsStarted command start old new before answer left
 
 -- ---- it is waited for, when all else is done
 

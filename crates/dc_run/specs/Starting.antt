@@ -39,7 +39,7 @@ use Rattle.dc_run.specs.Ends.{end_of_conf, end_of_pattern, end_of_patterns, end_
 use Rattle.dc_run.specs.World.{RunState, Stock}
 use Rattle.dc_cli.specs.Tools.{owner_of}
 use Rattle.dc_cli.specs.declared.tool.Tool.{Tool}
-use Rattle.dc_cli.specs.declared.tool.Tool.TheVariants.{Run, Show, CopyDb}
+use Rattle.dc_cli.specs.declared.tool.Tool.TheVariants.{Run, Show, CopyDb, SetSelections, Drill}
 use Rattle.dc_cli.specs.DatabaseWords.{is_name_field}
 use Rattle.dc_cli.specs.declared.tool.ConfigLine.{ConfigLine}
 use Rattle.dc_cli.specs.declared.tool.CopyWords.{CopyWords}
@@ -51,12 +51,24 @@ use Rattle.dc_cli.specs.declared.tool.PlacedWord.{PlacedWord}
 abbrev pub added_line : ConfigLine → List ℕ
 added_line line = (if is_name_field line.field then newline ∷ [] else []) ++ line.field ++ codes ": " ++ line.value ++ newline ∷ []
 
--- the text that a tool reads as its configuration, of what the file holds
+-- whether a tool works on databases that are kept in files; `drill` has some of its own, which are empty at first and nowhere kept
+abbrev pub has_files : Tool → Bool
+has_files (Drill count) = false
+has_files used = true
+
+-- the databases of `drill`: two of questions, of which the first rejects each name that ends with a two, and one of templates
+abbrev pub drill_configuration : List ℕ
+drill_configuration =
+    codes "Config: config\nTemplates: t\n\nName: config\nDriver: Stack\nStack: a, b\n\nName: a\nDriver: File\nFilename: a\nReject-Name: 2$\n"
+    ++ codes "\nName: b\nDriver: File\nFilename: b\n\nName: t\nDriver: File\nFilename: t\n"
+
+-- the text that a tool reads as its configuration, of what the file holds; `drill` has one of its own
 abbrev pub conf_text : Tool → List ℕ → List ℕ
 conf_text (CopyDb copy) text = text ++ newline ∷ flat_map added_line copy.config
+conf_text (Drill count) text = drill_configuration
 conf_text used text = text
 
--- the text at the path is this configuration; a file that isn't there is the empty text
+-- the text at the path gives a tool this configuration; a file that isn't there is the empty text
 pub record IsConfiguration (used : Tool) (disk : Option Disk) (path : List ℕ) (conf : Configuration) : Type 0 where
   pub text : List ℕ
   pub text_is : IsTextAt disk path text
@@ -82,6 +94,15 @@ roots used conf = source_of used conf ∷ conf.templates ∷ dest_of used
 -- the databases that hold their items, in the order of the file
 abbrev pub databases_of : Tool → Configuration → List LayerSpec
 databases_of used conf = reached conf (roots used conf)
+
+-- those whose items are read from files
+abbrev pub loaded_of : Tool → Configuration → List LayerSpec
+loaded_of used conf = if has_files used then databases_of used conf else []
+
+-- whether what a tool changes is saved: not where lines of selections are only checked
+abbrev pub keeps_changes : Tool → Bool
+keeps_changes (SetSelections verbose check unseen) = not check
+keeps_changes used = has_files used
 
 -- the plan of one of them
 abbrev pub plan_in : Tool → Configuration → List ℕ → Plan
@@ -134,9 +155,9 @@ IsRefusedFor word pattern.Bad = is_pattern false word ≡ false
 IsRefusedFor word pattern.TooLarge = (is_plain word ≡ false) × (is_pattern false word ≡ true)
 IsRefusedFor word pattern.OutOfMemory = ⊥
 
--- the files once the configuration was read
-abbrev pub conf_read : FilesView → List ℕ → FilesView
-conf_read files path = after_look files Read path true
+-- the files once a tool's configuration was read
+abbrev pub conf_read : Tool → FilesView → List ℕ → FilesView
+conf_read used files path = if has_files used then after_look files Read path true else files
 
 -- the plans of questions and of templates are over so many layers
 pub record AreOver (roots : Roots) (count : ℕ) : Type 0 where
@@ -198,9 +219,9 @@ begun used state roots settings =
 
 -- ---- the ends of a run before its tool: nothing is written
 
--- nothing was done on the files but the read of the configuration
-pub record HasReadConf (path : List ℕ) (old new : FilesState) : Type 0 where
-  pub files_are : new.view ≡ conf_read old.view path
+-- nothing was done on the files but the read of the configuration, where it is in one
+pub record HasReadConf (used : Tool) (path : List ℕ) (old new : FilesState) : Type 0 where
+  pub files_are : new.view ≡ conf_read used old.view path
   pub counts : new.counts ≡ old.counts
 
 -- no call of the files was done, and they may have refused one for want of memory
@@ -209,12 +230,13 @@ pub record HasNotBegun (old new : FilesState) : Type 0 where
   pub counts : (new.counts ≡ old.counts) ⊎ RefusalRose old.counts new.counts
 
 -- there was no memory before the first layer was set up
-pub record IsOutOfMemory (path : List ℕ) (old new : FilesState) (how : End) : Type 0 where
+pub record IsOutOfMemory (used : Tool) (path : List ℕ) (old new : FilesState) (how : End) : Type 0 where
   pub end_is : how ≡ end.OutOfMemory
-  pub begun : HasNotBegun old new ⊎ HasReadConf path old new
+  pub begun : HasNotBegun old new ⊎ HasReadConf used path old new
 
 -- the read of the configuration failed
-pub record IsUnread (path : List ℕ) (old new : FilesState) (how : End) : Type 0 where
+pub record IsUnread (used : Tool) (path : List ℕ) (old new : FilesState) (how : End) : Type 0 where
+  pub in_file : has_files used ≡ true
   pub end_is : how ≡ end.FilesFault path
   pub files_are : new.view ≡ after_look old.view Read path false
   pub counts : FaultRose old.counts new.counts
@@ -226,7 +248,7 @@ pub record IsRefused (used : Tool) (path : List ℕ) (old new : FilesState) (how
   pub text : List ℕ
   pub text_is : IsTextAt old.view.disk path text
   pub refused : IsAnswer (conf_text used text) (Err error)
-  pub read : HasReadConf path old new
+  pub read : HasReadConf used path old new
 
 -- a word of the tool names a wrong database
 pub record IsWrongDatabase (used : Tool) (path : List ℕ) (old new : FilesState) (how : End) : Type 0 where
@@ -235,7 +257,7 @@ pub record IsWrongDatabase (used : Tool) (path : List ℕ) (old new : FilesState
   pub conf : Configuration
   pub conf_is : IsConfiguration used old.view.disk path conf
   pub wrong : wrong_database used conf ≡ Some word
-  pub read : HasReadConf path old new
+  pub read : HasReadConf used path old new
 
 -- the text at the path is this configuration, and it has the databases that the tool's words name
 pub record IsChosen (used : Tool) (disk : Option Disk) (path : List ℕ) (conf : Configuration) : Type 0 where
@@ -254,7 +276,7 @@ pub record IsWrongPattern (used : Tool) (path : List ℕ) (old new : FilesState)
   pub words_are : pattern_words used ≡ before ++ word ∷ after
   pub built : are_patterns before ≡ true
   pub refused : IsRefusedFor word.word error
-  pub read : HasReadConf path old new
+  pub read : HasReadConf used path old new
 
 -- the same configuration, and the patterns among the tool's words are patterns
 pub record IsFit (used : Tool) (disk : Option Disk) (path : List ℕ) (conf : Configuration) : Type 0 where
@@ -268,14 +290,15 @@ pub record IsNotSetUp (used : Tool) (path : List ℕ) (old new : FilesState) (ho
   pub conf : Configuration
   pub conf_is : IsFit used old.view.disk path conf
   pub refused_at : IsRefusedAt (databases_of used conf) refused.place refused.error
-  pub read : HasReadConf path old new
+  pub read : HasReadConf used path old new
 
 -- All patterns of the databases of the configuration are patterns, and a layer of each was set up. The loads of these, which had this answer,
 -- left the layers and the files so.
 pub record HasLoaded (used : Tool) (path : List ℕ) (conf : Configuration) (old : FilesState) (new : Stock) (result : Result (Unit {0}) LoadError) : Type 0 where
   pub conf_is : IsFit used old.view.disk path conf
   pub patterns : all_patterns (databases_of used conf) ≡ true
-  pub loads : LoadsAll (databases_of used conf) (all_set_up (databases_of used conf)) new.used (conf_read old.view path) new.files.view old.counts new.files.counts result
+  pub loads : LoadsAll (loaded_of used conf) (all_set_up (databases_of used conf)) new.used
+      (conf_read used old.view path) new.files.view old.counts new.files.counts result
 
 -- a load was refused
 pub record IsNotLoaded (used : Tool) (path : List ℕ) (old : FilesState) (new : Stock) (how : End) : Type 0 where
@@ -286,7 +309,7 @@ pub record IsNotLoaded (used : Tool) (path : List ℕ) (old : FilesState) (new :
 
 abbrev pub EndsBefore : Tool → List ℕ → FilesState → Stock → End → Type 0
 EndsBefore used path old new how =
-    IsOutOfMemory path old new.files how ⊎ IsUnread path old new.files how ⊎ IsRefused used path old new.files how
+    IsOutOfMemory used path old new.files how ⊎ IsUnread used path old new.files how ⊎ IsRefused used path old new.files how
     ⊎ IsWrongDatabase used path old new.files how ⊎ IsWrongPattern used path old new.files how
     ⊎ IsNotSetUp used path old new.files how ⊎ IsNotLoaded used path old new how
 
@@ -311,8 +334,8 @@ Starts used path old new (Err how) = EndsBefore used path old new how
 
 -- what reading the configuration does
 abbrev pub ReadsConf : Tool → List ℕ → FilesState → FilesState → Result Configuration End → Type 0
-ReadsConf used path old new (Ok conf) = IsConfiguration used old.view.disk path conf × HasReadConf path old new
-ReadsConf used path old new (Err how) = IsOutOfMemory path old new how ⊎ IsUnread path old new how ⊎ IsRefused used path old new how
+ReadsConf used path old new (Ok conf) = IsConfiguration used old.view.disk path conf × HasReadConf used path old new
+ReadsConf used path old new (Err how) = IsOutOfMemory used path old new how ⊎ IsUnread used path old new how ⊎ IsRefused used path old new how
 
 -- some text is this configuration
 abbrev pub IsSomeConfiguration : Configuration → Type 0

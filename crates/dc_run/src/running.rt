@@ -12,17 +12,20 @@ ghost use Rattle.dc_run.specs.Starting.{AreApart, AreOver};
 ghost use Rattle.dc_run.specs.World.{IsReady, run_state, world};
 
 use crate::copying::copy_database;
+use crate::drilling::drill_layers;
 use crate::finishing::finish_used;
 use crate::loading_templates::load_template_files;
 use crate::outcome::{End, Outcome, ToolAnswer, end_unwaited, outcome_at};
+use crate::selecting::select;
 use crate::serving::{RunAsking, communicate, run_program};
 use crate::settings::Settings;
 use crate::showing::show;
-use crate::starting::{Roots, start};
+use crate::starting::{Roots, keeps_changes, start};
 use crate::telling::tell_end;
 use dc_cli::{Tool, ToolError, read_tool};
 use dc_layer::Layer;
 use dc_outside::{Child, Files, Link};
+use dc_preseed::Choices;
 use dc_shelf::Shelf;
 use dc_teletype::Teletype;
 use dc_text::{List, Text};
@@ -34,8 +37,10 @@ use std::alloc::Global;
 /// `communicate [OWNER]` serves the commands that come on the link, as debconf-communicate(1) does, and answers each line
 /// before it reads more. `loadtemplate OWNER FILE ...` loads the templates of files, as debconf-loadtemplate(1) does. `run COMMAND` starts a
 /// program behind the link `child` and serves its commands, as debconf(1) does, with the user asked on `io`. `show` prints what a database holds,
-/// as debconf-show(1) does, and `copydb` copies items from one database into another, as debconf-copydb(1) does. Then what changed in the
-/// layers is saved, and the program waited for. An end other than `Done` is told on `err`.
+/// as debconf-show(1) does, and `copydb` copies items from one database into another, as debconf-copydb(1) does. `set-selections` answers questions
+/// before they are asked, as debconf-set-selections(1) does, by the lines that come on the link. Then what changed in the layers is saved, and the
+/// program waited for. `drill N` serves many valid commands over databases of its own, which are nowhere kept, and counts them. An end other
+/// than `Done` is told on `err`.
 pub fn run_words<L: Link, E: Link, C: Child, F: Files>(
     alloc: Global,
     words: &List<Text>,
@@ -104,7 +109,7 @@ fn run_tool<L: Link, E: Link, C: Child, F: Files>(
                 last_code,
                 status,
             } = answer;
-            let how = finish_used(alloc, ended, files, &mut shelf.used);
+            let how = finish_used(alloc, keeps_changes(tool), ended, files, &mut shelf.used);
             let (end, status) = await_program(child, is_started, how, status);
             end_run(err, end, last_code, status)
         }
@@ -173,6 +178,30 @@ fn use_tool<L: Link, E: Link, C: Child, F: Files>(
             show(alloc, shown, roots, &settings.lang, io, used, last_code)
         }
         Tool::CopyDb(_) => copy_database(alloc, roots, err, used, last_code),
+        Tool::SetSelections {
+            verbose,
+            check,
+            unseen,
+        } => {
+            let choices = Choices {
+                verbose: *verbose,
+                check: *check,
+                unseen: *unseen,
+            };
+            select(
+                alloc,
+                choices,
+                roots,
+                &settings.lang,
+                io,
+                err,
+                used,
+                last_code,
+            )
+        }
+        Tool::Drill { count } => {
+            drill_layers(alloc, *count, roots, settings, io, used, last_code)
+        }
     }
 }
 

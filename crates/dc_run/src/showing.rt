@@ -48,8 +48,8 @@ pub fn show<L: Link>(
     }
 }
 
-// Prints a text in one write.
-fn print<L: Link>(io: &mut L, text: &Text) -> ToolEnd
+/// Prints a text in one write.
+pub fn print<L: Link>(io: &mut L, text: &Text) -> ToolEnd
     ensures { Prints text.now (L.link io.old) (L.link io.new) result }
 {
     match io.write(text.bytes()) {

@@ -1,5 +1,5 @@
 // What a run does before its tool.
-ghost use Rattle.std.specs.Prelude.{◌≡◌, ◌++◌, length, map as each, IfOk, IfErr, OnOk, true, option_and_then};
+ghost use Rattle.std.specs.Prelude.{◌≡◌, ◌++◌, [], if◌then◌else◌, length, map as each, IfOk, IfErr, OnOk, true, option_and_then};
 ghost use Rattle.std.specs.Option.{option_copied, option_or};
 ghost use Rattle.dc_cli.specs.declared.tool.Tool.TheVariants.{CopyDb};
 ghost use Rattle.dc_frontend.specs.Frontends.{frontend_of};
@@ -9,7 +9,7 @@ ghost use Rattle.dc_shelf.specs.Shelves.{LoadsAll, all_set_up};
 ghost use Rattle.dc_save.specs.Loading.{text_in};
 ghost use Rattle.dc_run.specs.Ends.{end_of_conf as end_of_conf_by, end_of_patterns as end_of_patterns_by, end_of_load as end_of_load_by};
 ghost use Rattle.dc_run.specs.Inside.{ArePatternsOf, IsUnbuilt, copy_by};
-ghost use Rattle.dc_run.specs.Starting.{AreApart, AreOver, Starts, ReadsConf, added_line, are_patterns, chosen as chosen_of, conf_text, pattern_words, plan_in, roots, source_of};
+ghost use Rattle.dc_run.specs.Starting.{AreApart, AreOver, Starts, ReadsConf, added_line, are_patterns, chosen as chosen_of, conf_text, has_files as has_files_in, keeps_changes as keeps_changes_of, pattern_words, plan_in, roots, source_of};
 ghost use Rattle.dc_run.specs.World.{IsReady, stock_of, used_in};
 
 use crate::databases::resolve;
@@ -27,6 +27,10 @@ use dc_save::LoadError;
 use dc_shelf::{NotSetUp, Shelf, load_all, set_up_all};
 use dc_text::{List, Mem, Text};
 use std::alloc::Global;
+
+// The databases of `drill`, which are nowhere kept.
+const DRILL_CONFIGURATION: &[u8] =
+    b"Config: config\nTemplates: t\n\nName: config\nDriver: Stack\nStack: a, b\n\nName: a\nDriver: File\nFilename: a\nReject-Name: 2$\n\nName: b\nDriver: File\nFilename: b\n\nName: t\nDriver: File\nFilename: t\n";
 
 /// What a tool takes from the configuration: the plans of its databases, over the layers in `used`, and what it copies by.
 #[derive(Drop)]
@@ -68,7 +72,7 @@ pub fn start<F: Files>(
         Ok(()) => {}
         Err(refused) => return Err(end_of_patterns(refused)),
     }
-    match load_used(alloc, files, specs.as_slice(), &mut shelf.used) {
+    match load_used(alloc, used, files, specs.as_slice(), &mut shelf.used) {
         Ok(()) => Ok(roots_of(used, conf, plans, by_name, by_owner)),
         Err(error) => Err(end_of_load(error)),
     }
@@ -86,20 +90,45 @@ fn patterns_of(alloc: Global, used: &Tool) -> Result<(Option<Pattern>, Option<Pa
     }
 }
 
-// Loads the layers, each of which was set up.
+// Loads the layers, each of which was set up, where they are kept in files.
 #[tactic(auto, using(crate::proofs::StartLemmas::whole_slice))]
 fn load_used<F: Files>(
     alloc: Global,
+    tool: &Tool,
     files: &mut F,
     specs: &[LayerSpec],
     used: &mut Vec<Box<dyn Layer>>,
 ) -> Result<(), LoadError>
     requires { each state used.old.items ≡ all_set_up specs.now }
-    ensures loads { LoadsAll specs.now (each state used.old.items) (each state used.new.items) (F.files files.old).view (F.files files.new).view
-        (F.files files.old).counts (F.files files.new).counts result }
+    ensures loads { LoadsAll (if has_files_in tool.now then specs.now else []) (each state used.old.items) (each state used.new.items)
+        (F.files files.old).view (F.files files.new).view (F.files files.old).counts (F.files files.new).counts result }
     ensures count { length used.new.items ≡ length specs.now }
 {
+    if !has_files(tool) {
+        return Ok(());
+    }
     load_all(alloc, files, specs, used.as_mut_slice())
+}
+
+// Whether a tool works on databases that are kept in files.
+fn has_files(tool: &Tool) -> bool
+    ensures { result ≡ has_files_in tool.now }
+{
+    !matches!(tool, Tool::Drill { .. })
+}
+
+/// Whether what a tool changes is saved: not where lines of selections are only checked, nor what `drill` does.
+pub fn keeps_changes(tool: &Tool) -> bool
+    ensures { result ≡ keeps_changes_of tool.now }
+{
+    match tool {
+        Tool::SetSelections {
+            verbose: _,
+            check,
+            unseen: _,
+        } => !check,
+        _ => has_files(tool),
+    }
 }
 
 // The roots of a tool, by their plans and its patterns.
@@ -206,6 +235,12 @@ fn read_configuration<F: Files>(
         Ok(kept) => kept,
         Err(_) => return Err(End::OutOfMemory),
     };
+    if !has_files(used) {
+        return match configuration_in(alloc, used, &None) {
+            Ok(conf) => Ok(conf),
+            Err(error) => Err(end_of_conf(error)),
+        };
+    }
     match files.read(path) {
         Ok(found) => match configuration_in(alloc, used, &found) {
             Ok(conf) => Ok(conf),
@@ -226,6 +261,7 @@ fn configuration_in(alloc: Global, used: &Tool, found: &Option<Text>) -> Result<
     };
     match used {
         Tool::CopyDb(copy) => read_conf(alloc, extended(alloc, text, copy)?.bytes()),
+        Tool::Drill { count: _ } => read_conf(alloc, DRILL_CONFIGURATION),
         _ => read_conf(alloc, text),
     }
 }

@@ -87,7 +87,7 @@ module _ (words : List (List ℕ)) (owner : List ℕ) (settings : Settings) (dis
       let left : has.left.files.view ≡ other_has.left.files.view
       = ap (λ (f : FilesState). f.view) first.files_are ∙ ap (λ (s : SessionState). s.files.view) same.2 ∙ sym (ap (λ (f : FilesState). f.view) second.files_are) in
       record {
-        leave = leave_alike words (Communicate owner) settings disk calls one new other last outcome again clean other_clean has other_has layers left (has.uses.2 ∙ sym other_has.uses.2) same.1;
+        leave = leave_alike words (Communicate owner) tt settings disk calls one new other last outcome again clean other_clean has other_has layers left (has.uses.2 ∙ sym other_has.uses.2) same.1;
         replies = record {
           pieces = one_ran.pieces;
           other_pieces = other_ran.pieces;

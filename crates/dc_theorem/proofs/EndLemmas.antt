@@ -1,5 +1,5 @@
 -- A run that did all: it used its tool, which was done, and what was left is saved.
-use Rattle.std.proofs.Common.{◌≡◌, inl, inr, ℕ, Bool, true, false, List, refl, sym, ap, subst, ◌∙◌}
+use Rattle.std.proofs.Common.{◌≡◌, inl, inr, ℕ, Bool, true, false, if◌then◌else◌, List, refl, sym, ap, subst, ◌∙◌}
 use Rattle.std.specs.Prelude.{map as each}
 use Rattle.dc_outside.specs.State.{FilesState, LinkState}
 use Rattle.dc_conf.specs.declared.faults.ConfError.{ConfError}
@@ -19,8 +19,8 @@ use Rattle.dc_session.specs.Serving.{IsFinished, Finishes as FinishesSession, Is
 use Rattle.dc_session.specs.SessionState.{SessionState}
 use Rattle.dc_session.specs.declared.stepped.StepError.{StepError}
 use Rattle.dc_session.specs.declared.stepped.StepError.TheVariants as step
-use Rattle.dc_run.specs.Ends.{end_of_conf, end_of_pattern, end_of_load, tool_end_of, end_unwaited}
-use Rattle.dc_run.specs.Finishing.{images_of, IsSaved, Finishes}
+use Rattle.dc_run.specs.Ends.{end_of, end_of_conf, end_of_pattern, end_of_load, tool_end_of, end_unwaited}
+use Rattle.dc_run.specs.Finishing.{images_of, IsSaved, Finishes, FinishesWhere}
 use Rattle.dc_run.specs.Headline.{HasRunTool, HasRunWords}
 use Rattle.dc_run.specs.declared.outcome.PatternAt.{PatternAt}
 use Rattle.dc_run.specs.declared.outcome.PatternAt.TheVariants.{Database, Word}
@@ -144,6 +144,32 @@ module _ (layers used : List LayerState) (files new : FilesState) (how : End) (d
   saved_so tool.ChildFault broken = absurd (let e : end.ChildFault ≡ end.Done = sym broken.end_is ∙ done in cc)
   saved_so tool.OutOfMemory broken = absurd (no_memory (sym broken.end_is ∙ done))
   saved_so (tool.FilesFault path) broken = absurd (no_fault path (sym broken.end_is ∙ done))
+
+-- what is kept of a run that did all: all is saved, or nothing where a tool's changes aren't kept
+pub record HasKept (keeps : Bool) (layers used : List LayerState) (files new : FilesState) : Type 0 where
+  pub files_are : new.view ≡ (if keeps then after_images files.view (images_of layers) else files.view)
+  pub counts : new.counts ≡ files.counts
+  pub used_are : used ≡ (if keeps then each saved layers else layers)
+
+module _ (layers used : List LayerState) (files new : FilesState) (how : End) (done : how ≡ end.Done) where
+  done_unsaved : (ended : ToolEnd) → how ≡ end_of ended → ended ≡ tool.Done
+  done_unsaved tool.Done is = refl
+  done_unsaved tool.LinkFault is = absurd (let e : end.LinkFault ≡ end.Done = sym is ∙ done in cc)
+  done_unsaved tool.TooLong is = absurd (let e : end.TooLong ≡ end.Done = sym is ∙ done in cc)
+  done_unsaved tool.PrintFault is = absurd (let e : end.LinkFault ≡ end.Done = sym is ∙ done in cc)
+  done_unsaved tool.TermFault is = absurd (let e : end.TermFault ≡ end.Done = sym is ∙ done in cc)
+  done_unsaved tool.ChildFault is = absurd (let e : end.ChildFault ≡ end.Done = sym is ∙ done in cc)
+  done_unsaved tool.OutOfMemory is = absurd (no_memory (sym is ∙ done))
+  done_unsaved (tool.FilesFault path) is = absurd (no_fault path (sym is ∙ done))
+
+  pub kept_so : (keeps : Bool) (ended : ToolEnd) → FinishesWhere keeps layers used ended files new how → (ended ≡ tool.Done) × HasKept keeps layers used files new
+  kept_so true ended finishes =
+      let so = saved_so layers used files new how done ended finishes in
+      (so.0, record { files_are = so.1.files_are; counts = so.1.counts; used_are = so.1.used_are })
+  kept_so false ended broken = (
+    done_unsaved ended broken.end_is,
+    record { files_are = ap (λ (f : FilesState). f.view) broken.files_are; counts = ap (λ (f : FilesState). f.counts) broken.files_are; used_are = broken.used_are },
+  )
 
 -- ---- a session that was done
 

@@ -8,6 +8,7 @@ pub mod Recount
 pub mod RunLaw
 pub mod SameAnswers
 pub mod SameRuns
+pub mod SelectLaw
 pub mod StartLaws
 pub mod ToolLaws
 pub mod UsedLemmas

@@ -104,7 +104,7 @@ module _ (words : List (List ℕ)) (owner : List ℕ) (paths : List (List ℕ)) 
         let status : has.answer.status ≡ other_has.answer.status
         = first.status_is ∙ ap (λ (ts : List FileTurn). load_status begins ts) transitions ∙ sym second.status_is in
         record {
-          leave = leave_alike words (LoadTemplate owner paths) settings disk calls one new other last outcome again clean other_clean has other_has
+          leave = leave_alike words (LoadTemplate owner paths) tt settings disk calls one new other last outcome again clean other_clean has other_has
               (ap (λ (l : Resources). l.layers) has.uses.left_is ∙ ap (λ (s : SessionState). s.store.layers) state ∙ sym (ap (λ (l : Resources). l.layers) other_has.uses.left_is)) (ap (λ (l : Resources). l.files.view) has.uses.left_is ∙ ap (λ (s : SessionState). s.files.view) state ∙ sym (ap (λ (l : Resources). l.files.view) other_has.uses.left_is)) said
               (has.uses.last_code_is ∙ sym other_has.uses.last_code_is);
           status = status_is other last again other_clean other_has ∙ sym status ∙ sym (status_is one new outcome clean has);

@@ -114,7 +114,7 @@ module _ (words : List (List ℕ)) (owner : List ℕ) (frontend : Option Fronten
         let left : has.left.files.view ≡ other_has.left.files.view
         = ap (λ (f : FilesState). f.view) first.files_are ∙ ap (λ (s : SessionState). s.files.view) (sym same.states.rest) ∙ sym (ap (λ (f : FilesState). f.view) second.files_are) in
         record {
-          leave = leave_alike words (Run owner frontend priority command) settings disk calls one new other last outcome again clean other_clean has other_has layers left (has.uses.1 ∙ sym other_has.uses.1) same.code_is;
+          leave = leave_alike words (Run owner frontend priority command) tt settings disk calls one new other last outcome again clean other_clean has other_has layers left (has.uses.1 ∙ sym other_has.uses.1) same.code_is;
           replies = record {
             pieces = one_ran.pieces;
             other_pieces = other_ran.pieces;

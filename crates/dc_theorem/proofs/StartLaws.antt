@@ -1,5 +1,5 @@
 -- What the files hold determines what a run begins from, where no call of them failed.
-use Rattle.std.proofs.Common.{◌≡◌, ℕ, Bool, List, [], ◌∷◌, ◌++◌, Option, None, Some, ap, sym, subst, inl, inr, ◌∙◌, arith}
+use Rattle.std.proofs.Common.{if◌then◌else◌, ◌≡◌, ℕ, Bool, true, false, refl, List, [], ◌∷◌, ◌++◌, Option, None, Some, ap, sym, subst, inl, inr, ◌∙◌, arith}
 use Rattle.std.specs.Prelude.{◌-◌, ◌^◌, ◌<◌, ◌≤◌, true, false, map as each, Result, Ok, Err}
 use Rattle.dc_outside.specs.State.{FilesState, FilesView}
 use Rattle.dc_item.specs.Records.{Reads}
@@ -25,7 +25,7 @@ use Rattle.dc_save.specs.declared.loading.LoadError.{LoadError}
 use Rattle.dc_shelf.specs.Shelves.{all_set_up, GoesOn, LoadsAll}
 use Rattle.dc_session.proofs.Determined.{IsTold}
 use Rattle.dc_cli.specs.declared.tool.Tool.{Tool}
-use Rattle.dc_run.specs.Starting.{IsConfiguration, conf_read, conf_text, copy_roots, databases_of, HasStarted, plan_in, source_of}
+use Rattle.dc_run.specs.Starting.{has_files, loaded_of, IsConfiguration, conf_read, conf_text, copy_roots, databases_of, HasStarted, plan_in, source_of}
 use Rattle.dc_run.specs.World.{Stock}
 use Rattle.dc_run.specs.declared.starting.Roots.{Roots}
 use Rattle.dc_theorem.proofs.CountLemmas.{no_rise, still}
@@ -195,17 +195,24 @@ one_conf used disk path conf other first second =
 
 module _ (used : Tool) where
   abbrev specs_of : Roots → List LayerSpec
-  specs_of roots = databases_of used roots.conf
+  specs_of roots = loaded_of used roots.conf
+
+  abbrev set_of : Roots → List LayerState
+  set_of roots = all_set_up (databases_of used roots.conf)
+
+  read_told : (is : Bool) (disk : Disk) (path : List ℕ) (files : FilesView) → IsTold disk files → IsTold disk (if is then after_look files Read path true else files)
+  read_told true disk path files told = look_told disk Read path files true told
+  read_told false disk path files told = told
 
   -- a run that has started counts no less than before
   pub started_later : (path : List ℕ) (files : FilesState) (mid : Stock) (roots : Roots) → HasStarted used path files mid roots → files.counts.faults ≤ mid.files.counts.faults
-  started_later path files mid roots started = loads_later (specs_of roots) (all_set_up (specs_of roots)) mid.used (conf_read files.view path) mid.files.view files.counts mid.files.counts started.loaded.loads
+  started_later path files mid roots started = loads_later (specs_of roots) (set_of roots) mid.used (conf_read used files.view path) mid.files.view files.counts mid.files.counts started.loaded.loads
 
   -- and its files tell as before
   pub started_told : (disk : Disk) (path : List ℕ) (files : FilesState) (mid : Stock) (roots : Roots) → HasStarted used path files mid roots → IsTold disk files.view → IsTold disk mid.files.view
   started_told disk path files mid roots started told =
-      loads_told disk (specs_of roots) (all_set_up (specs_of roots)) mid.used (conf_read files.view path) mid.files.view files.counts mid.files.counts started.loaded.loads
-      (told.0 ++ record { op = Read; path = path; ok = true } ∷ [], ap (λ (t : FilesView). conf_read t path) told.1)
+      loads_told disk (specs_of roots) (set_of roots) mid.used (conf_read used files.view path) mid.files.view files.counts mid.files.counts started.loaded.loads
+      (read_told (has_files used) disk path files.view told)
 
 -- Two runs that began over files that tell the same, and counted no failure: they loaded the same layers, and take the same from the
 -- configuration.
@@ -214,6 +221,14 @@ pub record StartAlike (mid last : Stock) (roots others : Roots) : Type 0 where
   pub told : mid.files.view ≡ last.files.view
   pub roots_are : roots ≡ others
 
+conf_disk : (is : Bool) (files : FilesView) (path : List ℕ) → (if is then after_look files Read path true else files).disk ≡ files.disk
+conf_disk true files path = refl
+conf_disk false files path = refl
+
+-- the layers of a tool's databases were loaded
+abbrev LoadedFrom : Tool → Configuration → Stock → FilesView → FilesState → Type 0
+LoadedFrom used conf left from before = LoadsAll (loaded_of used conf) (all_set_up (databases_of used conf)) left.used from left.files.view before.counts left.files.counts (Ok tt)
+
 pub one_start : (used : Tool) (disk : Disk) (path : List ℕ) (told : FilesView) (files other_files : FilesState) (mid last : Stock) (roots others : Roots) → told.disk ≡ Some disk → files.view ≡ told → other_files.view ≡ told
     → files.counts.faults < 2 ^ 64 - 1 → other_files.counts.faults < 2 ^ 64 - 1 → mid.files.counts.faults ≤ files.counts.faults → last.files.counts.faults ≤ other_files.counts.faults
     → HasStarted used path files mid roots → HasStarted used path other_files last others → StartAlike mid last roots others
@@ -221,13 +236,11 @@ one_start used disk path told files other_files mid last roots others disk_told 
     let one_conf_is = subst (λ (d : Option Disk). IsConfiguration used d path roots.conf) (ap (λ (t : FilesView). t.disk) files_told ∙ disk_told) first.loaded.conf_is.conf_is.conf_is in
     let other_conf_is = subst (λ (d : Option Disk). IsConfiguration used d path others.conf) (ap (λ (t : FilesView). t.disk) other_told ∙ disk_told) second.loaded.conf_is.conf_is.conf_is in
     let conf : roots.conf ≡ others.conf = one_conf used disk path roots.conf others.conf one_conf_is other_conf_is in
-    let one_loads : LoadsAll (databases_of used others.conf) (all_set_up (databases_of used others.conf)) mid.used (conf_read told path) mid.files.view files.counts mid.files.counts (Ok tt)
-    = subst (λ (c : Configuration). LoadsAll (databases_of used c) (all_set_up (databases_of used c)) mid.used (conf_read told path) mid.files.view files.counts mid.files.counts (Ok tt)) conf
-    (subst (λ (t : FilesView). LoadsAll (databases_of used roots.conf) (all_set_up (databases_of used roots.conf)) mid.used (conf_read t path) mid.files.view files.counts mid.files.counts (Ok tt)) files_told first.loaded.loads) in
-    let other_loads : LoadsAll (databases_of used others.conf) (all_set_up (databases_of used others.conf)) last.used (conf_read told path) last.files.view other_files.counts last.files.counts (Ok tt)
-    = subst (λ (t : FilesView). LoadsAll (databases_of used others.conf) (all_set_up (databases_of used others.conf)) last.used (conf_read t path) last.files.view other_files.counts last.files.counts (Ok tt)) other_told second.loaded.loads in
-    let once = loads_once disk files.counts.faults other_files.counts.faults room other_room (databases_of used others.conf) (all_set_up (databases_of used others.conf)) mid.used last.used (conf_read told path) mid.files.view last.files.view
-    files.counts mid.files.counts other_files.counts last.files.counts disk_told (omega arith) high (omega arith) other_high one_loads other_loads in
+    let one_loads : LoadedFrom used others.conf mid (conf_read used told path) files
+    = subst (λ (c : Configuration). LoadedFrom used c mid (conf_read used told path) files) conf (subst (λ (t : FilesView). LoadedFrom used roots.conf mid (conf_read used t path) files) files_told first.loaded.loads) in
+    let other_loads : LoadedFrom used others.conf last (conf_read used told path) other_files = subst (λ (t : FilesView). LoadedFrom used others.conf last (conf_read used t path) other_files) other_told second.loaded.loads in
+    let once = loads_once disk files.counts.faults other_files.counts.faults room other_room (loaded_of used others.conf) (all_set_up (databases_of used others.conf)) mid.used last.used (conf_read used told path) mid.files.view last.files.view
+    files.counts mid.files.counts other_files.counts last.files.counts (conf_disk (has_files used) told path ∙ disk_told) (omega arith) high (omega arith) other_high one_loads other_loads in
     record {
       used = once.0;
       told = once.1;

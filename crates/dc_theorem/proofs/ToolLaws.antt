@@ -62,7 +62,7 @@ module _ (words : List (List ℕ)) (database : Option PlacedWord) (shown : Shown
       let other_has = was_used words settings disk calls other last again (Show database shown) named other_clean in
       let starts = same_start words (Show database shown) settings disk calls one new other last outcome again clean other_clean has other_has (shown_high one new outcome clean has) (shown_high other last again other_clean other_has) in
       record {
-        leave = leave_alike words (Show database shown) settings disk calls one new other last outcome again clean other_clean has other_has
+        leave = leave_alike words (Show database shown) tt settings disk calls one new other last outcome again clean other_clean has other_has
             (ap (λ (l : Resources). l.layers) has.uses.0.left_is ∙ starts.used ∙ sym (ap (λ (l : Resources). l.layers) other_has.uses.0.left_is))
             (ap (λ (l : Resources). l.files.view) has.uses.0.left_is ∙ starts.told ∙ sym (ap (λ (l : Resources). l.files.view) other_has.uses.0.left_is))
             (has.uses.1 ∙ sym other_has.uses.1)
@@ -141,7 +141,7 @@ module _ (words : List (List ℕ)) (copy : CopyWords) (settings : Settings) (dis
       ≡ refused_names (stored other_has.mid.used []) (copying (start other last again other_clean other_has) second.roots) (chosen other_has.mid.used (copying (start other last again other_clean other_has) second.roots))
       = λ i. refused_names (stored (starts.used i) []) (makes i) (chosen (starts.used i) (makes i)) in
       record {
-        leave = leave_alike words (CopyDb copy) settings disk calls one new other last outcome again clean other_clean has other_has
+        leave = leave_alike words (CopyDb copy) tt settings disk calls one new other last outcome again clean other_clean has other_has
             (one_whole.new_is ∙ (λ i. (after_copies (stored (starts.used i) []) (makes i) (chosen (starts.used i) (makes i))).layers) ∙ sym other_whole.new_is)
             (ap (λ (l : Resources). l.files.view) first.made.left_is ∙ starts.told ∙ sym (ap (λ (l : Resources). l.files.view) second.made.left_is))
             (one_whole.told_is ∙ ap refusal_lines refused ∙ sym other_whole.told_is)

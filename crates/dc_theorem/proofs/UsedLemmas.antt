@@ -1,5 +1,5 @@
 -- What is known of a run that did all and at which no call of the files failed, and what two such runs leave.
-use Rattle.std.proofs.Common.{◌≡◌, ℕ, List, ◌++◌, Some, refl, ap, sym, subst, ◌∙◌, arith}
+use Rattle.std.proofs.Common.{◌≡◌, ℕ, List, if◌then◌else◌, ◌++◌, Some, refl, ap, sym, subst, ◌∙◌, arith}
 use Rattle.std.specs.Prelude.{◌≤◌, map as each}
 use Rattle.dc_outside.specs.Counts.{Counts}
 use Rattle.dc_layer.specs.State.{LayerState, saved}
@@ -9,15 +9,18 @@ use Rattle.dc_outside.specs.declared.files.FilesCall.{FilesCall}
 use Rattle.dc_session.proofs.Determined.{IsTold}
 use Rattle.dc_run.specs.EndLines.{end_line, HasSaid}
 use Rattle.dc_run.specs.Finishing.{images_of}
+use Rattle.dc_run.specs.Starting.{begun, keeps_changes}
+use Rattle.dc_run.proofs.SilentLemmas.{IsQuiet, tool_silent}
+use Rattle.dc_outside.specs.State.{LinkState}
 use Rattle.dc_run.specs.OneRound.{HasUsed}
-use Rattle.dc_run.specs.World.{World}
+use Rattle.dc_run.specs.World.{World, before_rounds}
 use Rattle.dc_run.specs.declared.outcome.End.TheVariants as end
 use Rattle.dc_run.specs.declared.outcome.Outcome.{Outcome}
 use Rattle.dc_run.specs.declared.outcome.ToolEnd.TheVariants as tool
 use Rattle.dc_run.specs.declared.settings.Settings.{Settings}
 use Rattle.dc_cli.specs.declared.tool.Tool.{Tool}
-use Rattle.dc_theorem.specs.Runs.{IsClean, LeaveAlike}
-use Rattle.dc_theorem.proofs.EndLemmas.{HasSaved, waited, saved_so}
+use Rattle.dc_theorem.specs.Runs.{IsClean, LeaveAlike, TellAlike}
+use Rattle.dc_theorem.proofs.EndLemmas.{HasKept, waited, kept_so}
 use Rattle.dc_theorem.proofs.StartLaws.{StartAlike, started_later, started_told, one_start}
 
 module _ (words : List (List ℕ)) (used : Tool) (settings : Settings) (disk : Disk) (calls : List FilesCall) where
@@ -27,13 +30,13 @@ module _ (words : List (List ℕ)) (used : Tool) (settings : Settings) (disk : D
     pub wait_is : (has.how ≡ end.Done) × (new.links.child.talk ≡ has.links.child.talk)
     wait_is = waited has.answer.is_started has.links.child new.links.child has.how outcome.end has.answer.status has.status clean.done has.awaits
 
-    save_is : (has.answer.ended ≡ tool.Done) × HasSaved has.left.layers new.stock.used has.left.files new.stock.files
-    save_is = saved_so has.left.layers new.stock.used has.left.files new.stock.files has.how wait_is.0 has.answer.ended has.finishes
+    save_is : (has.answer.ended ≡ tool.Done) × HasKept (keeps_changes used) has.left.layers new.stock.used has.left.files new.stock.files
+    save_is = kept_so has.left.layers new.stock.used has.left.files new.stock.files has.how wait_is.0 (keeps_changes used) has.answer.ended has.finishes
 
     pub tool_done : has.answer.ended ≡ tool.Done
     tool_done = save_is.0
 
-    saves : HasSaved has.left.layers new.stock.used has.left.files new.stock.files
+    pub saves : HasKept (keeps_changes used) has.left.layers new.stock.used has.left.files new.stock.files
     saves = save_is.1
 
     -- the tool counted no failure of the files
@@ -59,19 +62,34 @@ module _ (words : List (List ℕ)) (used : Tool) (settings : Settings) (disk : D
         one_start used disk settings.conf_path (record { disk = Some disk; calls = Some calls }) one.stock.files other.stock.files has.mid other_has.mid has.roots other_has.roots refl clean.files_are other_clean.files_are
         clean.none_failed.room other_clean.none_failed.room high other_high has.started other_has.started
 
-    -- where the tools left the same, the runs do
-    pub leave_alike : has.left.layers ≡ other_has.left.layers → has.left.files.view ≡ other_has.left.files.view → has.told ≡ other_has.told → has.answer.last_code ≡ other_has.answer.last_code → LeaveAlike one new outcome other last again
-    leave_alike layers left told code =
+    -- where the tools left and told the same, the runs do
+    pub leave_as_told : has.left.layers ≡ other_has.left.layers → has.left.files.view ≡ other_has.left.files.view → TellAlike one.err new.err other.err last.err → has.answer.last_code ≡ other_has.answer.last_code
+        → LeaveAlike one new outcome other last again
+    leave_as_told layers left err code =
         let first = saves one new outcome clean has in
         let second = saves other last again other_clean other_has in
-        let text : other_has.told ++ end_line again.end ≡ has.told ++ end_line outcome.end = λ i. sym told i ++ end_line ((other_clean.done ∙ sym clean.done) i) in
         record {
-          used = second.used_are ∙ ap (λ (ls : List LayerState). each saved ls) (sym layers) ∙ sym first.used_are;
-          files = second.files_are ∙ (λ i. after_images (sym left i) (images_of (sym layers i))) ∙ sym first.files_are;
-          err = record {
-            text = has.told ++ end_line outcome.end;
-            one_is = has.said;
-            other_is = subst (λ (t : List ℕ). HasSaid t other.err last.err) text other_has.said;
-          };
+          used = second.used_are ∙ ap (λ (ls : List LayerState). if keeps_changes used then each saved ls else ls) (sym layers) ∙ sym first.used_are;
+          files = second.files_are ∙ (λ i. if keeps_changes used then after_images (sym left i) (images_of (sym layers i)) else sym left i) ∙ sym first.files_are;
+          err = err;
           code = other_has.code_is ∙ sym code ∙ sym has.code_is;
         }
+
+-- ---- tools that tell nothing before they end
+
+module _ (words : List (List ℕ)) (used : Tool) (quiet : IsQuiet used) (settings : Settings) (disk : Disk) (calls : List FilesCall) where
+  module _ (old new : World) (outcome : Outcome) (has : HasUsed used settings old new outcome) where
+    told_then : HasSaid (has.told ++ end_line outcome.end) old.err new.err
+    told_then = subst (λ (l : LinkState). HasSaid (has.told ++ end_line outcome.end) l new.err)
+        (tool_silent used quiet has.roots (begun used (before_rounds (record old { stock = has.mid })) has.roots settings) old.links has.links 0 has.answer has.told has.left has.uses) has.said
+
+  module _ (one new other last : World) (outcome again : Outcome) (clean : IsClean words settings disk calls one new outcome) (other_clean : IsClean words settings disk calls other last again)
+      (has : HasUsed used settings one new outcome) (other_has : HasUsed used settings other last again) where
+    pub leave_alike : has.left.layers ≡ other_has.left.layers → has.left.files.view ≡ other_has.left.files.view → has.told ≡ other_has.told → has.answer.last_code ≡ other_has.answer.last_code → LeaveAlike one new outcome other last again
+    leave_alike layers left told code =
+        let text : other_has.told ++ end_line again.end ≡ has.told ++ end_line outcome.end = λ i. sym told i ++ end_line ((other_clean.done ∙ sym clean.done) i) in
+        leave_as_told words used settings disk calls one new other last outcome again clean other_clean has other_has layers left (record {
+          text = has.told ++ end_line outcome.end;
+          one_is = told_then one new outcome has;
+          other_is = subst (λ (t : List ℕ). HasSaid t other.err last.err) text (told_then other last again other_has);
+        }) code

@@ -91,7 +91,7 @@ pub record ShowAlike (one new : World) (outcome : Outcome) (other last : World) 
   pub printed : SayAlike one.links.io new.links.io other.links.io last.links.io
   pub status : again.status ≡ outcome.status
 
--- two runs of `loadtemplate`, or of `copydb`
+-- two runs of `loadtemplate`, of `copydb` or of `set-selections`
 pub record LoadAlike (one new : World) (outcome : Outcome) (other last : World) (again : Outcome) : Type 0 where
   pub leave : LeaveAlike one new outcome other last again
   pub status : again.status ≡ outcome.status

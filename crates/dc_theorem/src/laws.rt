@@ -1,5 +1,5 @@
 //! The laws.
-ghost use Rattle.std.specs.Prelude.{◌≡◌, List, ℕ, Option, Some};
+ghost use Rattle.std.specs.Prelude.{◌≡◌, Bool, List, ℕ, Option, Some};
 ghost use Rattle.dc_frontend.specs.declared.frontend.Frontend.{Frontend};
 ghost use Rattle.dc_outside.specs.Disk.{Disk};
 ghost use Rattle.dc_outside.specs.declared.files.FilesCall.{FilesCall};
@@ -17,7 +17,7 @@ ghost use Rattle.dc_cli.specs.Tools.{Names};
 ghost use Rattle.dc_cli.specs.declared.tool.CopyWords.{CopyWords};
 ghost use Rattle.dc_cli.specs.declared.tool.PlacedWord.{PlacedWord};
 ghost use Rattle.dc_cli.specs.declared.tool.Shown.{Shown};
-ghost use Rattle.dc_cli.specs.declared.tool.Tool.TheVariants.{Communicate, CopyDb, LoadTemplate, Run, Show};
+ghost use Rattle.dc_cli.specs.declared.tool.Tool.TheVariants.{Communicate, CopyDb, LoadTemplate, Run, SetSelections, Show};
 ghost use Rattle.dc_theorem.specs.Runs.{NoneFailed, IsClean, AreTypedAlike, CommunicateAlike, RunAlike, LoadAlike, ShowAlike};
 
 /// The bytes of the link, the disk and what is typed determine a session in which no read of files failed: two from states that are alike
@@ -60,4 +60,9 @@ pub fn what_comes_in_determines_the_run()
     ensures copydb { (words : List (List ℕ)) (copy : CopyWords) (settings : Settings) (disk : Disk) (calls : List FilesCall)
         (one new other last : World) (outcome again : Outcome) → Names words (CopyDb copy)
         → IsClean words settings disk calls one new outcome → IsClean words settings disk calls other last again → LoadAlike one new outcome other last again }
+    ensures set_selections { (words : List (List ℕ)) (verbose check unseen : Bool) (settings : Settings) (disk : Disk) (calls : List FilesCall)
+        (one new other last : World) (outcome again : Outcome) (input : List ℕ) → Names words (SetSelections verbose check unseen)
+        → IsClean words settings disk calls one new outcome → IsClean words settings disk calls other last again → one.links.io.input ≡ Some input
+        → other.links.io.input ≡ Some input
+        → LoadAlike one new outcome other last again }
 {}

@@ -9,7 +9,8 @@ use std::fs::File;
 use std::rt::Files as SystemFiles;
 
 /// The paths of what is read without a lock: of the configuration, which no run writes; of the template files that the words of
-/// `loadtemplate` name; and of the databases that the configuration says are to be read alone, or of all, where `show` writes none.
+/// `loadtemplate` name; and of the databases that the configuration says are to be read alone, or of all, where the tool writes none. Nothing is
+/// read for `drill`, which stands on no configuration.
 pub fn paths_open_to_all<R: SystemFiles<File = File> + Alloc + Clone + Drop>(
     alloc: Global,
     rt: R,
@@ -18,6 +19,7 @@ pub fn paths_open_to_all<R: SystemFiles<File = File> + Alloc + Clone + Drop>(
 ) -> Mem<List<Text>> {
     let mut paths = List::new(alloc);
     match words.as_slice() {
+        [tool, ..] if tool.bytes() == b"drill".as_slice() => return Ok(paths),
         [tool, _, files @ ..] if tool.bytes() == b"loadtemplate".as_slice() => {
             for path in files {
                 paths.push(path.copy()?)?;
@@ -26,7 +28,7 @@ pub fn paths_open_to_all<R: SystemFiles<File = File> + Alloc + Clone + Drop>(
         _ => {}
     }
     let text = configuration(alloc, rt, settings)?;
-    add_read_alone(alloc, &mut paths, &text, shows(words))?;
+    add_read_alone(alloc, &mut paths, &text, writes_none(words))?;
     paths.push(settings.conf_path.copy()?)?;
     Ok(paths)
 }
@@ -46,12 +48,19 @@ fn configuration<R: SystemFiles<File = File> + Alloc + Clone + Drop>(
     }
 }
 
-// Whether the words are those of `show`.
-fn shows(words: &List<Text>) -> bool {
+// Whether the words are those of a tool that writes no database: `show`, or `set-selections` where lines are only checked.
+fn writes_none(words: &List<Text>) -> bool {
     match words.as_slice() {
-        [tool, ..] => tool.bytes() == b"show".as_slice(),
-        [] => false,
+        [tool, ..] if tool.bytes() == b"show".as_slice() => true,
+        [tool, options @ ..] if tool.bytes() == b"set-selections".as_slice() => {
+            options.iter().any(|option| is_check(option.bytes()))
+        }
+        _ => false,
     }
+}
+
+fn is_check(option: &[u8]) -> bool {
+    option == b"-c".as_slice() || option == b"--checkonly".as_slice()
 }
 
 // The places of the databases with `Readonly: true`, or of all.

@@ -19,6 +19,6 @@ returns-in-Ok g c =
         ended_after c.args.tool.now c.args.settings.now old new c.end_run-in-Ok.result c.await_program-end.result.0
             _ c.in-Ok.roots c.new-teletype.result.ahead _ c.use_tool-answer.result c.finish_used-how.result
             c.await_program-end.result.1 c.new-teletype.ensures c.in-Ok.ensures.starts c.use_tool-answer.ensures.does
-            c.finish_used-how.ensures refl c.await_program-end.ensures c.end_run-in-Ok.ensures.said c.end_run-in-Ok.ensures.outcome,
+            (rw (← c.keeps_changes.ensures) c.finish_used-how.ensures) refl c.await_program-end.ensures c.end_run-in-Ok.ensures.said c.end_run-in-Ok.ensures.outcome,
       );
     }

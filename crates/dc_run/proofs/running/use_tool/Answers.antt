@@ -3,7 +3,7 @@ use Rattle.dc_frontend.specs.declared.frontend.Frontend.TheVariants.{Noninteract
 use Rattle.dc_proto.specs.declared.priority.Priority.TheVariants.{High}
 use Rattle.dc_session.specs.Asking.{nothing_asked}
 use Rattle.dc_session.specs.SessionState.{no_terminal, nowhere}
-use Rattle.dc_run.proofs.RunLemmas.{communicated, loaded_files, ran_program, was_copied, was_shown}
+use Rattle.dc_run.proofs.RunLemmas.{communicated, loaded_files, ran_program, was_copied, was_drilled, was_shown, was_taken}
 use Rattle.dc_run.proofs.running.use_tool.Goals as goal
 
 pub returns-in-Communicate-clause-does : goal.returns-in-Communicate-clause-does
@@ -40,3 +40,15 @@ returns-in-CopyDb-clause-does g c =
     rw c.in-CopyDb.is
     (was_copied c.args.roots.now c.args.settings.now (g.L.Link.link c.args.io.now) (g.C.Link.link c.args.child.now) (g.E.Link.link c.args.err.now) (g.E.Link.link c.copy_database.new.err) _ _ _
     c.args.teletype.now.ahead c.args.last_code c.copy_database.result _ c.copy_database.ensures.copies)
+
+pub returns-in-SetSelections-clause-does : goal.returns-in-SetSelections-clause-does
+returns-in-SetSelections-clause-does g c =
+    rw c.in-SetSelections.is
+    (was_taken c.args.roots.now c.args.settings.now (g.L.Link.link c.args.io.now) (g.L.Link.link c.select.new.io) (g.C.Link.link c.args.child.now) (g.E.Link.link c.args.err.now) (g.E.Link.link c.select.new.err) _ _ _
+    c.args.teletype.now.ahead c.args.last_code c.select.result c.in-SetSelections.verbose c.in-SetSelections.check c.in-SetSelections.unseen c.select.ensures.taken)
+
+pub returns-in-Drill-clause-does : goal.returns-in-Drill-clause-does
+returns-in-Drill-clause-does g c =
+    rw c.in-Drill.is
+    (was_drilled c.args.roots.now c.args.settings.now (g.L.Link.link c.args.io.now) (g.L.Link.link c.drill_layers.new.io) (g.C.Link.link c.args.child.now) (g.E.Link.link c.args.err.now) _ _ _
+    c.args.teletype.now.ahead c.args.last_code c.drill_layers.result c.in-Drill.count c.drill_layers.ensures.drilled)

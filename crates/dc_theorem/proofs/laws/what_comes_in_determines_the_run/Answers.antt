@@ -1,6 +1,7 @@
 use Rattle.dc_theorem.proofs.CommunicateLaw.{communicate_alike}
 use Rattle.dc_theorem.proofs.LoadLaw.{load_alike}
 use Rattle.dc_theorem.proofs.RunLaw.{program_alike}
+use Rattle.dc_theorem.proofs.SelectLaw.{select_alike}
 use Rattle.dc_theorem.proofs.ToolLaws.{copy_alike, show_alike}
 use Rattle.dc_theorem.proofs.laws.what_comes_in_determines_the_run.Goals as goal
 
@@ -18,3 +19,7 @@ returns-clause-show c words database shown settings disk calls one new other las
 
 pub returns-clause-copydb : goal.returns-clause-copydb
 returns-clause-copydb c words copy settings disk calls one new other last outcome again = copy_alike words copy settings disk calls one new other last outcome again
+
+pub returns-clause-set_selections : goal.returns-clause-set_selections
+returns-clause-set_selections c words verbose check unseen settings disk calls one new other last outcome again input =
+    select_alike words verbose check unseen settings disk calls one new other last outcome again input
