@@ -169,7 +169,7 @@ def find_c(root):
             return None
     modules = f"{base}/usr/lib/cdebconf"
     os.makedirs(f"{root}/patched")
-    for name in ("debconf", "debconf-loadtemplate", "debconf-show", "debconf-copydb"):
+    for name in ("debconf", "debconf-loadtemplate", "debconf-show", "debconf-copydb", "debconf-set-selections"):
         with open(f"{modules}/{name}", "rb") as file:
             binary = file.read()
         with open(f"{root}/patched/{name}", "wb") as file:

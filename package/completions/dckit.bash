@@ -50,7 +50,7 @@ _dckit() {
     fi
     if [[ $command == dckit ]]; then
         if ((COMP_CWORD == 1)); then
-            _dckit_choose "run communicate loadtemplate" "$typed"
+            _dckit_choose "run communicate loadtemplate show copydb set-selections drill" "$typed"
             return
         fi
         command="dckit ${COMP_WORDS[1]}"
@@ -69,6 +69,12 @@ _dckit() {
             if ((place == 1)); then _dckit_choose "$(_dckit_owners)" "$typed"; else _dckit_files '*templates*' "$typed"; fi ;;
         "dckit show" | debconf-show) _dckit_choose "$(_dckit_packages) --db= --listowners --listdbs" "$typed" ;;
         "dckit copydb" | debconf-copydb) _dckit_choose "--pattern= --owner-pattern= --config=Name:" "$typed" ;;
+        *set-selections)
+            if [[ $typed == -* || $command == "dckit "* ]]; then
+                _dckit_choose "-v -c -u --verbose --checkonly --unseen" "$typed"
+            else
+                _dckit_files '*' "$typed"
+            fi ;;
         debconf-escape) _dckit_choose "-e -u --escape --unescape" "$typed" ;;
         debconf-apt-progress)
             _dckit_choose "--logfile --logstderr --from --to --dlwaypoint --no-progress --config --start --stop --" "$typed" ;;
@@ -84,4 +90,4 @@ _dckit() {
     return 0
 }
 
-complete -F _dckit dckit debconf debconf-communicate debconf-loadtemplate debconf-show debconf-copydb debconf-escape debconf-apt-progress dpkg-preconfigure dpkg-reconfigure
+complete -F _dckit dckit debconf debconf-communicate debconf-loadtemplate debconf-show debconf-copydb debconf-set-selections debconf-escape debconf-apt-progress dpkg-preconfigure dpkg-reconfigure
