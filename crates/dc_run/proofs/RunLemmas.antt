@@ -7,7 +7,9 @@ use Rattle.dc_frontend.specs.declared.frontend.Frontend.TheVariants.{Noninteract
 use Rattle.dc_proto.specs.declared.priority.Priority.{Priority}
 use Rattle.dc_serve.specs.declared.outcome.LinkEnd.{LinkEnd}
 use Rattle.dc_serve.specs.declared.outcome.LinkEnd.TheVariants as link
-use Rattle.dc_session.specs.Serving.{IsFinished, Finishes as FinishesSession, IsServed, Resources, resources_in}
+use Rattle.dc_session.specs.Serving.{IsFinished, Finishes as FinishesSession, IsServed, Resources, resources_in, resources_of}
+use Rattle.dc_drill.specs.Drilling.{Drills}
+use Rattle.std.specs.Prelude.{codes, Result}
 use Rattle.dc_outside.specs.State.{FilesState, LinkState}
 use Rattle.dc_session.specs.SessionState.{SessionState, TerminalState, nothing_typed, nowhere, terminal_at}
 use Rattle.dc_session.specs.declared.stepped.StepError.{StepError}
@@ -32,7 +34,7 @@ use Rattle.dc_run.specs.declared.starting.CopyRoots.{CopyRoots}
 use Rattle.dc_run.specs.Rounds.{Whole, Round, HasDone}
 use Rattle.dc_teletype.specs.TerminalLines.{TypeAhead}
 use Rattle.dc_run.specs.Saves.{Save, Commits}
-use Rattle.dc_run.specs.Inside.{HasCommand, HasLoadedOver, HasServedProgram, HasPrinted, HasTakenOver, HasDrilledOver, CopiesOver, context_by}
+use Rattle.dc_run.specs.Inside.{HasCommand, HasLoadedOver, HasServedProgram, HasPrinted, DrillsOver, HasTakenOver, HasDrilledOver, CopiesOver, context_by}
 use Rattle.dc_run.specs.Running.{HasRunProgram, Awaits}
 use Rattle.dc_run.specs.Starting.{EndsBefore, HasStarted, begun, chosen, chosen_frontend, chosen_priority, keeps_changes, resources_for, session_at}
 use Rattle.dc_run.specs.World.{Links, Stock, World, RunState, before_rounds, links_of, run_state, stock_of}
@@ -226,6 +228,17 @@ module _ (roots : Roots) (settings : Settings) (io new child err : LinkState) (f
         saves_are = refl;
         code_is = refl;
       }
+
+-- the owner and the least priority of a drill's session
+module _ (count : ℕ) (layers left : List LayerState) (roots : Roots) (settings : Settings) where
+  abbrev DrillsBy : List ℕ → Option Priority → Result (List ℕ) (LinkEnd StepError) → FilesState → TerminalState → LinkState → Type 0
+  DrillsBy owner threshold result files terminal err = Drills count (session_at (resources_of layers files terminal err) roots settings owner (Some Noninteractive) threshold) left result
+
+  pub drilled_for : (owner : List ℕ) (threshold : Option Priority) (result : Result (List ℕ) (LinkEnd StepError)) → owner ≡ codes "drill" → threshold ≡ chosen settings roots
+      → ((files : FilesState) (terminal : TerminalState) (err : LinkState) → DrillsBy owner threshold result files terminal err) → DrillsOver count roots settings layers left result
+  drilled_for owner threshold result owner_is chosen_is drills files terminal err =
+      subst (λ (o : List ℕ). DrillsBy o (chosen settings roots) result files terminal err) owner_is
+      (subst (λ (t : Option Priority). DrillsBy owner t result files terminal err) chosen_is (drills files terminal err))
 
 -- the program was started and served
 pub started_so : (command : List (List ℕ)) (start : SessionState) (old new : Links) (before : ℕ) (answer : ToolAnswer) (left : Resources) (mid : LinkState)
