@@ -1,4 +1,6 @@
 // Lines of selections: how they are joined, what they say, and what they do over a link.
+ghost use Rattle.std.specs.Prelude.{◌≡◌, length};
+
 use crate::{
     Choices, Joined, Joiner, Selected, Selection, SelectionError, SelectionFault, read_selection,
     take_selections,
@@ -202,12 +204,16 @@ fn layer(rt: &impl Abort, alloc: Global, readonly: bool, records: &[u8]) -> Box<
     Box::new(alloc, layer).expect(rt, "memory")
 }
 
-fn plan(place: usize) -> Plan {
-    Plan {
-        base: Base::Leaf(place),
-        backup: None,
-        debug: false,
-    }
+// A layer for questions, and one for templates, without items.
+fn two_layers(rt: &impl Abort, alloc: Global, readonly: bool) -> Vec<Box<dyn Layer>>
+    ensures { length result.items ≡ 2 }
+{
+    let questions = layer(rt, alloc, readonly, b"");
+    let templates = layer(rt, alloc, readonly, b"");
+    let mut layers: Vec<Box<dyn Layer>> = Vec::new(alloc);
+    layers.push(questions).expect(rt, "memory");
+    layers.push(templates).expect(rt, "memory");
+    layers
 }
 
 // What is told of the selections of a text over two layers, which come in pieces cut at some length, and marks of how it ended, whether a line
@@ -220,13 +226,17 @@ fn told(
     choices: Choices,
     failing: &[u64],
 ) -> Text {
-    let mut layers: Vec<Box<dyn Layer>> = Vec::new(alloc);
-    layers
-        .push(layer(rt, alloc, readonly, b""))
-        .expect(rt, "memory");
-    layers
-        .push(layer(rt, alloc, readonly, b""))
-        .expect(rt, "memory");
+    let mut layers = two_layers(rt, alloc, readonly);
+    let config = Plan {
+        base: Base::Leaf(0),
+        backup: None,
+        debug: false,
+    };
+    let templates = Plan {
+        base: Base::Leaf(1),
+        backup: None,
+        debug: false,
+    };
     let mut io = MemLink::new(alloc, input, &[5, 7, 40], failing).expect(rt, "memory");
     let mut err = MemLink::new(alloc, b"", &[], &[]).expect(rt, "memory");
     let Selected {
@@ -238,8 +248,8 @@ fn told(
         &mut io,
         &mut err,
         &mut layers,
-        &plan(0),
-        &plan(1),
+        &config,
+        &templates,
         &Text::new(alloc),
         choices,
         7,
