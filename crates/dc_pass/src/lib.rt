@@ -1,0 +1,18 @@
+//! The wire of the Passthrough frontend (debconf(7), Frontends): how a session and the program that holds its dialogue say
+//! questions and answers in lines.
+#![tactic(auto)]
+
+mod begun;
+pub mod calls;
+pub mod laws;
+pub mod lines;
+pub mod printing;
+mod question_part;
+pub mod reader;
+
+pub use calls::{WireCall, WireError};
+pub use printing::{print_answers, print_request};
+pub use reader::RequestReader;
+
+#[cfg(test)]
+mod tests;

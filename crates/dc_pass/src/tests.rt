@@ -1,0 +1,168 @@
+// What each end sends, and what is read of it.
+use crate::{RequestReader, WireCall, WireError, print_answers, print_request};
+use dc_frontend::Shown;
+use dc_teletype::{Answer, Asked};
+use dc_template::Kind;
+use dc_text::{List, Name, Text};
+use dc_words::Line;
+use std::alloc::Global;
+
+fn texts(alloc: Global, items: &[&[u8]]) -> Option<List<Text>> {
+    let mut list = List::new(alloc);
+    for item in items {
+        list.push(Text::from_bytes(alloc, item).ok()?).ok()?;
+    }
+    Some(list)
+}
+
+fn question(
+    alloc: Global,
+    kind: Kind,
+    choices: &[&[u8]],
+    labels: &[&[u8]],
+    value: &[u8],
+) -> Option<Shown> {
+    Some(Shown {
+        name: Name::read(alloc, b"a/n").ok()?,
+        kind,
+        description: Text::from_bytes(alloc, b"N").ok()?,
+        extended: Text::from_bytes(alloc, b"one\ntwo \\n").ok()?,
+        choices: texts(alloc, choices)?,
+        labels: texts(alloc, labels)?,
+        value: Text::from_bytes(alloc, value).ok()?,
+    })
+}
+
+fn questions(alloc: Global) -> Option<List<Shown>> {
+    let mut list = List::new(alloc);
+    for kind in [
+        Kind::Str,
+        Kind::Bool,
+        Kind::Password,
+        Kind::Note,
+        Kind::Txt,
+        Kind::Error,
+        Kind::Title,
+    ] {
+        list.push(question(alloc, kind, &[], &[], b"true").ok_or(()).ok()?)
+            .ok()?;
+    }
+    for kind in [Kind::Select, Kind::Multiselect] {
+        let choices = [b"red".as_slice(), b"light, blue"];
+        let labels = [b"rot".as_slice(), b"hell blau"];
+        list.push(
+            question(alloc, kind, choices.as_slice(), labels.as_slice(), b"red")
+                .ok_or(())
+                .ok()?,
+        )
+        .ok()?;
+    }
+    Some(list)
+}
+
+// How the lines of the text are taken: `.` for one that goes on, `A` for a request, `T` for a line that is told, `!` for an unreadable
+// one.
+fn taken(alloc: Global, text: &[u8]) -> Option<Text> {
+    let mut reader = RequestReader::new(alloc);
+    let mut seen = Text::new(alloc);
+    for line in text.split(|byte| *byte == b'\n') {
+        let line = Line::Whole(Text::from_bytes(alloc, line).ok()?);
+        let mark = match reader.take(line) {
+            Ok(None) => b'.',
+            Ok(Some(WireCall::Tell(_))) => b'T',
+            Ok(Some(WireCall::Ask { .. })) => b'A',
+            Err(WireError::Bad) => b'!',
+            Err(WireError::OutOfMemory) => b'0',
+        };
+        seen.push(mark).ok()?;
+    }
+    Some(seen)
+}
+
+// The request that the text is, printed again.
+fn printed_again(alloc: Global, text: &[u8]) -> Option<Text> {
+    let mut reader = RequestReader::new(alloc);
+    for line in text.split(|byte| *byte == b'\n') {
+        let line = Line::Whole(Text::from_bytes(alloc, line).ok()?);
+        match reader.take(line).ok()? {
+            Some(
+                WireCall::Ask {
+                    title,
+                    backup,
+                    shown,
+                },
+            ) => return print_request(alloc, &title, backup, &shown).ok(),
+            _ => {}
+        }
+    }
+    None
+}
+
+#[test]
+fn each_kind_is_read_as_it_was_printed(rt: HostRuntime) {
+    let alloc = rt.alloc();
+    let title = Text::from_bytes(alloc, b"T").expect(&rt, "ample memory");
+    let shown = questions(alloc).expect(&rt, "ample memory");
+    let text = print_request(alloc, &title, false, &shown).expect(&rt, "ample memory");
+    let again = printed_again(alloc, text.bytes()).expect(&rt, "it is read");
+    assert_eq!(rt; again.bytes(), text.bytes());
+}
+
+#[test]
+fn lines_are_told_apart(rt: HostRuntime) {
+    for (text, marks) in [
+        (
+            b"title\nbackup true\nquestion a/n\nkind string\ndescription N\nextended\nvalue\nask\ntell x".as_slice(),
+            b".......AT".as_slice(),
+        ),
+        (
+            b"title T\nbackup false\nquestion a/n\nkind select\ndescription\nextended\nchoice a\nlabel b\nvalue\nquestion a/m\nkind note\ndescription\nextended\nvalue\nask",
+            b"..............A",
+        ),
+        (b"tell\ntell a\\nb\\\\", b"TT"),
+        (
+            b"title \nzed\n\nask\nvalue x\ntell a\\tb\ntell \\",
+            b"!!!!!!!",
+        ),
+        (b"title\nbackup", b".!"),
+        (b"title\ntell x", b".!"),
+        (b"title\nbackup true\nask", b"..!"),
+        (b"title\nbackup true\nquestion a b", b"..!"),
+        (b"title\nbackup true\nquestion a/n\nkind Select", b"...!"),
+        (
+            b"title\nbackup true\nquestion a/n\nkind select\ndescription\nextended\nchoice a\nvalue",
+            b".......!",
+        ),
+        (
+            b"title\nbackup true\nquestion a/n\nkind note\ndescription\nextended\nlabel a",
+            b"......!",
+        ),
+        (
+            b"title\nbackup true\nquestion a/n\nkind note\ndescription\nextended\nvalue\nask x",
+            b".......!",
+        ),
+    ] {
+        let seen = taken(rt.alloc(), text).expect(&rt, "ample memory");
+        assert_eq!(rt; seen.bytes(), marks);
+    }
+}
+
+#[test]
+fn answers_are_printed(rt: HostRuntime) {
+    let alloc = rt.alloc();
+    let mut answers = List::new(alloc);
+    answers
+        .push(Answer::Value(Text::from_bytes(alloc, b"zed\n").expect(&rt, "ample memory")))
+        .expect(&rt, "ample memory");
+    answers.push(Answer::Keep).expect(&rt, "ample memory");
+    answers
+        .push(Answer::Value(Text::new(alloc)))
+        .expect(&rt, "ample memory");
+    let text = print_answers(alloc, &Asked::Answers(answers)).expect(&rt, "ample memory");
+    assert_eq!(rt;
+        text.bytes(),
+        b"value zed\\n\nkeep\nvalue\ndone\n".as_slice()
+    );
+    let back = print_answers(alloc, &Asked::Back).expect(&rt, "ample memory");
+    assert_eq!(rt; back.bytes(), b"back\n".as_slice());
+}
