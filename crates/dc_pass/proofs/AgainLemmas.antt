@@ -32,11 +32,11 @@ escaped_free : (text : List ℕ) → has_newline (escaped text) ≡ false
 escaped_free [] = refl
 escaped_free (b ∷ text) =
     list_any-append (λ c. c == 10) (escaped_byte b) (escaped text) ∙ (λ i. first b i || escaped_free text i) where
-  first : (b : ℕ) → has_newline (escaped_byte b) ≡ false
-  first b = elim (b == 92) as (λ s. has_newline (cond s (92 ∷ 92 ∷ []) (cond (b == 10) (92 ∷ 110 ∷ []) (b ∷ []))) ≡ false) [
-    | true ↦ refl
-    | false ↦ elim (b == 10) as (λ s. (b == 10) ≡ s → has_newline (cond s (92 ∷ 110 ∷ []) (b ∷ [])) ≡ false) [ true ↦ λ _. refl | false ↦ λ e. ap (λ t. t || false) e ] refl
-  ]
+      first : (b : ℕ) → has_newline (escaped_byte b) ≡ false
+      first b = elim (b == 92) as (λ s. has_newline (cond s (92 ∷ 92 ∷ []) (cond (b == 10) (92 ∷ 110 ∷ []) (b ∷ []))) ≡ false) [
+        | true ↦ refl
+        | false ↦ elim (b == 10) as (λ s. (b == 10) ≡ s → has_newline (cond s (92 ∷ 110 ∷ []) (b ∷ [])) ≡ false) [ true ↦ λ _. refl | false ↦ λ e. ap (λ t. t || false) e ] refl
+      ]
 
 told_free : (text : List ℕ) → has_newline (told_text true text) ≡ false
 told_free [] = refl
@@ -108,15 +108,15 @@ pub taken_run : (b : Begun) (lines : List (List ℕ)) (call : WireCall) → is_b
 taken_run b [] call is e = absurd (cc)
 taken_run b (l ∷ lines) call is e =
     by_step b l lines call is (λ c more e'. taken_run c lines call more e') (makes b l) refl e where
-  by_step : (b : Begun) (l : List ℕ) (lines : List (List ℕ)) (call : WireCall) → is_begun b ≡ true
-      → ((c : Begun) → is_begun c ≡ true → run c lines ≡ Some (Completes call) → AreTaken (lines_begun c) (each line.Whole lines) (call ∷ []) [])
-      → (m : Option Step) → makes b l ≡ m → go_on m (λ more. run more lines) (is_nil lines) ≡ Some (Completes call) → AreTaken (lines_begun b) (each line.Whole (l ∷ lines)) (call ∷ []) []
-  by_step b l lines call is again None m e = absurd (cc)
-  by_step b l lines call is again (Some (Begins c)) m e =
-      (None, lines_begun c, call ∷ [], takes_more b c (line.Whole l) is m, refl, again c (stays_begun b c (line.Whole l) is m) e)
-  by_step b l lines call is again (Some (Completes other)) m e =
-      let p : (lines ≡ []) × (other ≡ call) = completes_is lines other call e in
-      (Some other, [], [], takes_whole b other (line.Whole l) is m, (λ i. sym p.1 i ∷ []), subst (λ (ls : List (List ℕ)). AreTaken [] (each line.Whole ls) [] []) (sym p.0) (refl, refl))
+      by_step : (b : Begun) (l : List ℕ) (lines : List (List ℕ)) (call : WireCall) → is_begun b ≡ true
+          → ((c : Begun) → is_begun c ≡ true → run c lines ≡ Some (Completes call) → AreTaken (lines_begun c) (each line.Whole lines) (call ∷ []) [])
+          → (m : Option Step) → makes b l ≡ m → go_on m (λ more. run more lines) (is_nil lines) ≡ Some (Completes call) → AreTaken (lines_begun b) (each line.Whole (l ∷ lines)) (call ∷ []) []
+      by_step b l lines call is again None m e = absurd (cc)
+      by_step b l lines call is again (Some (Begins c)) m e =
+          (None, lines_begun c, call ∷ [], takes_more b c (line.Whole l) is m, refl, again c (stays_begun b c (line.Whole l) is m) e)
+      by_step b l lines call is again (Some (Completes other)) m e =
+          let p : (lines ≡ []) × (other ≡ call) = completes_is lines other call e in
+          (Some other, [], [], takes_whole b other (line.Whole l) is m, (λ i. sym p.1 i ∷ []), subst (λ (ls : List (List ℕ)). AreTaken [] (each line.Whole ls) [] []) (sym p.0) (refl, refl))
 
 pub request_again : (title : List ℕ) (backup : Bool) (shown : List Shown) → is_call (Ask title backup shown) ≡ true → list_all fits (request_lines title backup shown) ≡ true
     → AreTaken [] (whole_lines (text_of (request_lines title backup shown))) (Ask title backup shown ∷ []) []
@@ -129,10 +129,10 @@ request_again title backup shown is fit =
 whole_apart : (lines : List Line) (call : WireCall) → IsWhole lines call → GoesOn lines → ⊥
 whole_apart lines call whole on =
     let l : each line.Whole (call_lines on.front.call) ≡ each line.Whole (call_lines call) ++ on.next ∷ on.behind =
-        on.front.lines_are ∙ ap (λ (ls : List Line). ls ++ on.next ∷ on.behind) (sym whole.lines_are) in
+    on.front.lines_are ∙ ap (λ (ls : List Line). ls ++ on.next ∷ on.behind) (sym whole.lines_are) in
     let a : Apart (call_lines on.front.call) (call_lines call) on.next on.behind = apart (call_lines on.front.call) (call_lines call) on.next on.behind l in
     let off : None ≡ Some (Completes on.front.call) =
-        sym (run-whole Nothing call (call_lines call) a.others a.bytes (call_run call whole.is)) ∙ sym (ap (run Nothing) a.lines_are) ∙ call_run on.front.call on.front.is in
+    sym (run-whole Nothing call (call_lines call) a.others a.bytes (call_run call whole.is)) ∙ sym (ap (run Nothing) a.lines_are) ∙ call_run on.front.call on.front.is in
     cc
 
 whole_same : (xs ys : List (List ℕ)) → each line.Whole xs ≡ each line.Whole ys → xs ≡ ys

@@ -156,6 +156,7 @@ behind_is word (b ∷ bytes) said e = by_text (unescaped (b ∷ bytes)) refl e w
   told : (text : List ℕ) → b ∷ bytes ≡ escaped text → told_text true text ≡ 32 ∷ b ∷ bytes
   told [] is = absurd (cc)
   told (c ∷ text) is = ap (λ (l : List ℕ). 32 ∷ l) (sym is)
+
   by_text : (o : Option (List ℕ)) → unescaped (b ∷ bytes) ≡ o → option_map (saying word) o ≡ Some said → (said.word ≡ word) × (told_text true said.text ≡ 32 ∷ b ∷ bytes)
   by_text None is e = absurd (cc)
   by_text (Some text) is e =

@@ -117,10 +117,9 @@ part_says (part.OfKind name kind) word text made is e =
     ((λ i. wire_line (codes "question") name ∷ wire_line (codes "kind") (kind_word kind) ∷ wire_line (sym (is_text word (codes "description") c.0) i) text ∷ []), is)
 part_says (part.Described name kind description) word text made is e =
     let c = cond_is_some (bytes_eq word (codes "extended")) (step.More (part.Explained (explained name kind description text))) made e in
-    along (part.Described name kind description) (wire_line word text) _ made c.1
-    (
+    along (part.Described name kind description) (wire_line word text) _ made c.1 (
       (λ i. wire_line (codes "question") name ∷ wire_line (codes "kind") (kind_word kind) ∷ wire_line (codes "description") description
-      ∷ wire_line (sym (is_text word (codes "extended") c.0) i) text ∷ []),
+          ∷ wire_line (sym (is_text word (codes "extended") c.0) i) text ∷ []),
       open_whole (explained name kind description text) (record { name = is; labels = refl; value = refl }),
     )
 part_says (part.Explained shown) word text made is e =
@@ -138,11 +137,10 @@ part_says (part.Chosen shown choice) word text made is e =
     let c = cond_is_some (bytes_eq word (codes "label")) (step.More (part.Explained (with_choice shown choice text))) made e in
     let o : IsOpen shown = open_parts shown is in
     let heads : List (List ℕ) = heading_lines shown.name shown.kind shown.description shown.extended in
-    along (part.Chosen shown choice) (wire_line word text) _ made c.1
-    (
+    along (part.Chosen shown choice) (wire_line word text) _ made c.1 (
       ap (λ (ls : List (List ℕ)). heads ++ ls) (choice_lines-push shown.choices shown.labels choice text o.labels)
-      ∙ (λ i. heads ++ (choice_lines shown.choices shown.labels ++ wire_line (codes "choice") choice ∷ wire_line (sym (is_text word (codes "label") c.0) i) text ∷ []))
-      ∙ ap (λ (ls : List (List ℕ)). heads ++ ls) (sym (append_assoc (choice_lines shown.choices shown.labels) (wire_line (codes "choice") choice ∷ []) (wire_line word text ∷ []))),
+          ∙ (λ i. heads ++ (choice_lines shown.choices shown.labels ++ wire_line (codes "choice") choice ∷ wire_line (sym (is_text word (codes "label") c.0) i) text ∷ []))
+          ∙ ap (λ (ls : List (List ℕ)). heads ++ ls) (sym (append_assoc (choice_lines shown.choices shown.labels) (wire_line (codes "choice") choice ∷ []) (wire_line word text ∷ []))),
       open_whole (with_choice shown choice text) (open_with_choice shown choice text o),
     )
 

@@ -72,11 +72,10 @@ part_step_says title backup shown p line (step.More more) are says made e =
     (ap (λ (ls : List (List ℕ)). before_part title backup shown ++ ls) says.0 ∙ sym (append_assoc (before_part title backup shown) (part_lines p) (line ∷ [])), both_hold _ _ are says.1)
 part_step_says title backup shown p line (step.Whole question) are says made e =
     let same : Begins (Asking title backup (shown ++ question ∷ []) part.Nothing) ≡ made = cc in
-    along (Asking title backup shown p) line _ made same
-    (
+    along (Asking title backup shown p) line _ made same (
       append-nil (before_part title backup (shown ++ question ∷ []))
-      ∙ ap (λ (ls : List (List ℕ)). opening_lines title backup ++ ls) (flat_map-append question_lines shown (question ∷ []) ∙ ap (λ (ls : List (List ℕ)). flat_map question_lines shown ++ ls) (append-nil (question_lines question) ∙ says.0))
-      ∙ sym (append_assoc (before_part title backup shown) (part_lines p) (line ∷ [])),
+          ∙ ap (λ (ls : List (List ℕ)). opening_lines title backup ++ ls) (flat_map-append question_lines shown (question ∷ []) ∙ ap (λ (ls : List (List ℕ)). flat_map question_lines shown ++ ls) (append-nil (question_lines question) ∙ says.0))
+          ∙ sym (append_assoc (before_part title backup shown) (part_lines p) (line ∷ [])),
       both_hold _ _ (list_all-append is_question shown (question ∷ []) ∙ both_hold _ _ are (both_hold _ _ says.1 refl)) refl,
     )
 
@@ -97,16 +96,15 @@ asking_says title backup shown p word text made are is e =
     let a : ((bytes_eq word (codes "ask") && is_nil text && not (is_nil shown)) ≡ true) × (is_between p ≡ true) = both _ _ holds in
     let b : ((bytes_eq word (codes "ask") && is_nil text) ≡ true) × (not (is_nil shown) ≡ true) = both _ _ a.0 in
     let d : (bytes_eq word (codes "ask") ≡ true) × (is_nil text ≡ true) = both _ _ b.0 in
-    along (Asking title backup shown p) (wire_line word text) _ made same
-    (
+    along (Asking title backup shown p) (wire_line word text) _ made same (
       ap (λ (ls : List (List ℕ)). ls ++ codes "ask" ∷ []) (sym (append-nil (before_part title backup shown)))
-      ∙ (λ i. before_part title backup shown ++ sym (between_is p a.1) i ++ wire_line (sym (is_text word (codes "ask") d.0) i) (sym (nil_is text d.1) i) ∷ []),
+          ∙ (λ i. before_part title backup shown ++ sym (between_is p a.1) i ++ wire_line (sym (is_text word (codes "ask") d.0) i) (sym (nil_is text d.1) i) ∷ []),
       both_hold _ _ b.1 are,
     ))
     (λ fails. by_part (part_step p word text) refl (rw fails at e)) where
-  by_part : (found : Option PartStep) → part_step p word text ≡ found → with_part title backup shown found ≡ Some made → Says (Asking title backup shown p) (wire_line word text) made
-  by_part None f e = absurd (cc)
-  by_part (Some s) f e = part_step_says title backup shown p (wire_line word text) s are (part_says p word text s is f) made e
+      by_part : (found : Option PartStep) → part_step p word text ≡ found → with_part title backup shown found ≡ Some made → Says (Asking title backup shown p) (wire_line word text) made
+      by_part None f e = absurd (cc)
+      by_part (Some s) f e = part_step_says title backup shown p (wire_line word text) s are (part_says p word text s is f) made e
 
 pub said_says : (b : Begun) (found : WireLine) (made : Step) → is_begun b ≡ true → said_step b found ≡ Some made → Says b (wire_line found.word found.text) made
 said_says Nothing found made is e = first_says found.word found.text made e

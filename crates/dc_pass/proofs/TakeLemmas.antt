@@ -1,5 +1,5 @@
 -- What a reader takes a line as.
-use Rattle.std.proofs.Common.{◌≡◌, ℕ, Bool, true, false, cond, not, List, [], ◌∷◌, ◌++◌, map as each, Some, None, Ok, Err, Option, refl, sym, ap, subst, ◌∙◌, append_assoc}
+use Rattle.std.proofs.Common.{◌≡◌, ℕ, Bool, true, false, cond, not, List, [], ◌∷◌, ◌++◌, map as each, Some, None, Ok, Err, Result, Option, refl, sym, ap, subst, ◌∙◌, append_assoc}
 use Rattle.std.specs.Prelude.{codes}
 use Rattle.std.specs.List.{flat_map, list_all}
 use Rattle.std.proofs.lemmas.List.{map-append, append-nil}
@@ -12,14 +12,15 @@ use Rattle.dc_template.specs.declared.kinds.Kind.TheVariants.{Note}
 use Rattle.dc_frontend.specs.declared.shown.Shown.{Shown}
 use Rattle.dc_pass.specs.declared.calls.WireCall.{WireCall}
 use Rattle.dc_pass.specs.declared.calls.WireCall.TheVariants.{Ask, Tell}
-use Rattle.dc_pass.specs.declared.calls.WireError.TheVariants.{Bad}
+use Rattle.dc_pass.specs.declared.calls.WireError.{WireError}
+use Rattle.dc_pass.specs.declared.calls.WireError.TheVariants.{Bad, OutOfMemory}
 use Rattle.dc_pass.specs.declared.begun.Begun.{Begun}
 use Rattle.dc_pass.specs.declared.begun.Begun.TheVariants.{Nothing, Titled, Asking}
 use Rattle.dc_pass.specs.declared.begun.Step.{Step}
 use Rattle.dc_pass.specs.declared.begun.Step.TheVariants.{Begins, Completes}
 use Rattle.dc_pass.specs.Wire.{wire_line, question_lines, opening_lines, call_lines, is_call, is_question}
 use Rattle.dc_pass.specs.Reading.{IsFront, GoesOn, IsWhole, AreUnreadable, Takes, AreTaken}
-use Rattle.dc_pass.specs.Machine.{begun_lines, lines_begun, is_begun, is_part, part_lines, explained, step_by, said, maybe_said_step}
+use Rattle.dc_pass.specs.Machine.{begun_lines, lines_begun, is_begun, is_part, part_lines, explained, step_by, Gives}
 use Rattle.dc_pass.proofs.PartLemmas.{Completed, completed}
 use Rattle.dc_pass.proofs.StepLemmas.{SaysLine, line_says}
 use Rattle.dc_pass.proofs.RunLemmas.{makes, go_on, run, run-append, run-whole, begun_run, call_run}
@@ -107,11 +108,27 @@ apart (x ∷ lines) (f ∷ front) l behind e =
 pub takes_bad : (b : Begun) (l : Line) → is_begun b ≡ true → step_by b l ≡ None → AreUnreadable (lines_begun b ++ l ∷ [])
 takes_bad b l is e = λ behind front.
     let a : Apart (call_lines front.call) (begun_lines b) l behind =
-        apart (call_lines front.call) (begun_lines b) l behind (front.lines_are ∙ append_assoc (lines_begun b) (l ∷ []) behind) in
+    apart (call_lines front.call) (begun_lines b) l behind (front.lines_are ∙ append_assoc (lines_begun b) (l ∷ []) behind) in
     let whole : run Nothing (call_lines front.call) ≡ Some (Completes front.call) = call_run front.call front.is in
     let steps : run Nothing (begun_lines b ++ a.bytes ∷ a.others) ≡ run b (a.bytes ∷ a.others) =
-        run-append Nothing b (begun_lines b) (a.bytes ∷ a.others) (begun_run b is) in
+    run-append Nothing b (begun_lines b) (a.bytes ∷ a.others) (begun_run b is) in
     let none : makes b a.bytes ≡ None = subst (λ (x : Line). step_by b x ≡ None) a.line_is e in
     let stopped : run b (a.bytes ∷ a.others) ≡ None = ap (λ m. go_on m (λ more. run more a.others) (is_nil a.others)) none in
     let off : None ≡ Some (Completes front.call) = sym stopped ∙ sym steps ∙ sym (ap (run Nothing) a.lines_are) ∙ whole in
     cc
+
+-- ---- what is taken of a reader's lines
+
+pub takes_err : (b : Begun) (l : Line) (e : WireError) (old new : List Line) (result : Result (Option WireCall) WireError) → result ≡ Err e → lines_begun b ≡ old → is_begun b ≡ true
+    → Gives {S = Step} (Err e) (step_by b l) → new ≡ [] → Takes old l result new
+takes_err b l Bad old new result r o is g n =
+    subst (λ x. Takes old l x new) (sym r) (subst (λ x. AreUnreadable (x ++ l ∷ [])) o (takes_bad b l is g), n)
+takes_err b l OutOfMemory old new result r o is g n = subst (λ x. Takes old l x new) (sym r) n
+
+pub takes_begun : (b more : Begun) (l : Line) (old : List Line) → lines_begun b ≡ old → is_begun b ≡ true → step_by b l ≡ Some (Begins more)
+    → GoesOn (lines_begun more) × (lines_begun more ≡ old ++ l ∷ [])
+takes_begun b more l old o is e = let t : Takes (lines_begun b) l (Ok None) (lines_begun more) = takes_more b more l is e in (t.0, t.1 ∙ ap (λ (x : List Line). x ++ l ∷ []) o)
+
+pub takes_call : (b : Begun) (call : WireCall) (l : Line) (old : List Line) → lines_begun b ≡ old → is_begun b ≡ true → step_by b l ≡ Some (Completes call)
+    → IsWhole (old ++ l ∷ []) call
+takes_call b call l old o is e = let t : Takes (lines_begun b) l (Ok (Some call)) [] = takes_whole b call l is e in subst (λ (x : List Line). IsWhole (x ++ l ∷ []) call) o t.0

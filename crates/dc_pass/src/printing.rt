@@ -41,7 +41,12 @@ fn print_question(alloc: Global, out: &mut Text, shown: &Shown) -> Mem<()>
     ensures { OnOk result (out.new ≡ out.old ++ text_of (question_lines shown.now)) }
 {
     print_heading(alloc, out, shown)?;
-    print_choices(alloc, out, shown.choices.as_slice(), shown.labels.as_slice())?;
+    print_choices(
+        alloc,
+        out,
+        shown.choices.as_slice(),
+        shown.labels.as_slice(),
+    )?;
     append_line(alloc, out, b"value", shown.value.bytes())
 }
 

@@ -17,7 +17,7 @@ pub struct RequestReader {
 }
 
 impl Model for RequestReader {
-    ghost use Rattle.std.specs.Prelude.{List, IsTrue};
+    ghost use Rattle.std.specs.Prelude.{◌≡◌, List, true};
     ghost use Rattle.dc_words.specs.declared.stream.Line.{Line};
     ghost use Rattle.dc_pass.specs.Machine.{lines_begun, is_begun};
 
@@ -25,7 +25,7 @@ impl Model for RequestReader {
 
     ghost view = { λ r. lines_begun r.begun };
 
-    ghost invariant = { λ r. IsTrue (is_begun r.begun) };
+    ghost invariant = { λ r. is_begun r.begun ≡ true };
 }
 
 impl RequestReader {

@@ -15,13 +15,13 @@ returns c =
     let description : List (List ℕ) = wire_line (codes "description") shown.description ∷ [] in
     let extended : List (List ℕ) = wire_line (codes "extended") shown.extended ∷ [] in
     let one : c.append_line.new.out ≡ c.args.out.now ++ text_of name =
-        c.in_ok-append_line.ensures ∙ (λ i. c.args.out.now ++ text_of (wire_line (codes "question") (c.bytes.ensures.value i) ∷ [])) in
+    c.in_ok-append_line.ensures ∙ (λ i. c.args.out.now ++ text_of (wire_line (codes "question") (c.bytes.ensures.value i) ∷ [])) in
     let two : c.append_line-2.new.out ≡ c.args.out.now ++ text_of (name ++ kind) =
-        printed_two c.args.out.now c.append_line.new.out c.append_line-2.new.out name kind one
-        (c.in_ok-append_line-2.ensures ∙ (λ i. c.append_line.new.out ++ text_of (wire_line (codes "kind") (c.word.ensures i) ∷ []))) in
+    printed_two c.args.out.now c.append_line.new.out c.append_line-2.new.out name kind one
+    (c.in_ok-append_line-2.ensures ∙ (λ i. c.append_line.new.out ++ text_of (wire_line (codes "kind") (c.word.ensures i) ∷ []))) in
     let three : c.append_line-3.new.out ≡ c.args.out.now ++ text_of (name ++ kind ++ description) =
-        printed_two c.args.out.now c.append_line-2.new.out c.append_line-3.new.out (name ++ kind) description two
-        (c.in_ok-append_line-3.ensures ∙ (λ i. c.append_line-2.new.out ++ text_of (wire_line (codes "description") (c.bytes-2.ensures i) ∷ []))) in
+    printed_two c.args.out.now c.append_line-2.new.out c.append_line-3.new.out (name ++ kind) description two
+    (c.in_ok-append_line-3.ensures ∙ (λ i. c.append_line-2.new.out ++ text_of (wire_line (codes "description") (c.bytes-2.ensures i) ∷ []))) in
     on_ok_weaker c.append_line-4.result
     (λ e. printed_two c.args.out.now c.append_line-3.new.out c.append_line-4.new.out (name ++ kind ++ description) extended three
     (e ∙ (λ i. c.append_line-3.new.out ++ text_of (wire_line (codes "extended") (c.bytes-3.ensures i) ∷ []))))

@@ -13,8 +13,8 @@ returns c =
     let choices : List (List ℕ) = choice_lines shown.choices shown.labels in
     let one : c.print_heading.new.out ≡ c.args.out.now ++ text_of heads = c.in_ok-print_heading.ensures in
     let two : c.print_choices.new.out ≡ c.args.out.now ++ text_of (heads ++ choices) =
-        printed_two c.args.out.now c.print_heading.new.out c.print_choices.new.out heads choices one
-        (c.in_ok-print_choices.ensures ∙ (λ i. c.print_heading.new.out ++ text_of (choice_lines (c.as_slice.ensures i) (c.as_slice-2.ensures i)))) in
+    printed_two c.args.out.now c.print_heading.new.out c.print_choices.new.out heads choices one
+    (c.in_ok-print_choices.ensures ∙ (λ i. c.print_heading.new.out ++ text_of (choice_lines (c.as_slice.ensures i) (c.as_slice-2.ensures i)))) in
     on_ok_weaker c.append_line.result
     (λ e. printed_two c.args.out.now c.print_choices.new.out c.append_line.new.out (heads ++ choices) (wire_line (codes "value") shown.value ∷ []) two
     (e ∙ (λ i. c.print_choices.new.out ++ text_of (wire_line (codes "value") (c.bytes.ensures i) ∷ []))))
