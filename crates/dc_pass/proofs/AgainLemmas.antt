@@ -1,14 +1,14 @@
 -- What is printed is read again, and lines are taken in one way.
-use Rattle.std.proofs.Common.{◌≡◌, ℕ, Bool, true, false, cond, List, [], ◌∷◌, ◌++◌, length, map as each, Some, None, Ok, Err, Option, refl, sym, ap, subst, ◌∙◌, append_assoc, arith}
-use Rattle.std.specs.Prelude.{codes, ◌||◌, ◌==◌, option_to_list}
-use Rattle.std.specs.List.{flat_map, list_all, list_any}
+use Rattle.std.proofs.Common.{◌≡◌, ℕ, Bool, true, false, cond, List, [], ◌∷◌, ◌++◌, map as each, Some, None, Ok, Err, Option, refl, sym, ap, subst, ◌∙◌, append_assoc}
+use Rattle.std.specs.Prelude.{codes, ◌||◌, ◌==◌}
+use Rattle.std.specs.List.{flat_map, list_all}
 use Rattle.std.proofs.lemmas.List.{append-nil}
 use Rattle.dc_text.specs.Bytes.{is_nil}
 use Rattle.dc_text.specs.Lines.{TextLines, text_lines, onto_first, text_of, has_newline, HaveNoNewline}
 use Rattle.dc_template.proofs.TestLemmas.{both, neither, list_any-append}
 use Rattle.dc_template.specs.Kinds.{kind_word}
 use Rattle.dc_words.specs.Escaped.{escaped, escaped_byte}
-use Rattle.dc_words.specs.Stream.{line_of, whole_lines, max_line}
+use Rattle.dc_words.specs.Stream.{line_of, whole_lines}
 use Rattle.dc_words.specs.declared.stream.Line.{Line}
 use Rattle.dc_words.specs.declared.stream.Line.TheVariants as line
 use Rattle.dc_proto.specs.Replies.{told_text}
@@ -20,9 +20,9 @@ use Rattle.dc_pass.specs.declared.begun.Begun.{Begun}
 use Rattle.dc_pass.specs.declared.begun.Begun.TheVariants.{Nothing}
 use Rattle.dc_pass.specs.declared.begun.Step.{Step}
 use Rattle.dc_pass.specs.declared.begun.Step.TheVariants.{Begins, Completes}
-use Rattle.dc_pass.specs.Wire.{wire_line, fits, choice_lines, heading_lines, question_lines, opening_lines, backup_word, request_lines, call_lines, is_call, is_question}
-use Rattle.dc_pass.specs.Reading.{IsFront, GoesOn, IsWhole, AreUnreadable, Takes, AreTaken, lines_of_call}
-use Rattle.dc_pass.specs.Machine.{lines_begun, is_begun, maybe_said_step, said}
+use Rattle.dc_pass.specs.Wire.{wire_line, fits, choice_lines, heading_lines, question_lines, opening_lines, backup_word, request_lines, call_lines, is_call}
+use Rattle.dc_pass.specs.Reading.{calls, GoesOn, IsWhole, Takes, AreTaken}
+use Rattle.dc_pass.specs.Machine.{lines_begun, is_begun}
 use Rattle.dc_pass.proofs.TakeLemmas.{takes_more, takes_whole, stays_begun, Apart, apart}
 use Rattle.dc_pass.proofs.RunLemmas.{makes, go_on, run, run-whole, call_run}
 
@@ -104,35 +104,35 @@ completes_is [] other call e = (refl, cc)
 completes_is (l ∷ lines) other call e = absurd (cc)
 
 pub taken_run : (b : Begun) (lines : List (List ℕ)) (call : WireCall) → is_begun b ≡ true → run b lines ≡ Some (Completes call)
-    → AreTaken (lines_begun b) (each line.Whole lines) (call ∷ []) []
+    → AreTaken calls (lines_begun b) (each line.Whole lines) (call ∷ []) []
 taken_run b [] call is e = absurd (cc)
 taken_run b (l ∷ lines) call is e =
     by_step b l lines call is (λ c more e'. taken_run c lines call more e') (makes b l) refl e where
       by_step : (b : Begun) (l : List ℕ) (lines : List (List ℕ)) (call : WireCall) → is_begun b ≡ true
-          → ((c : Begun) → is_begun c ≡ true → run c lines ≡ Some (Completes call) → AreTaken (lines_begun c) (each line.Whole lines) (call ∷ []) [])
-          → (m : Option Step) → makes b l ≡ m → go_on m (λ more. run more lines) (is_nil lines) ≡ Some (Completes call) → AreTaken (lines_begun b) (each line.Whole (l ∷ lines)) (call ∷ []) []
+          → ((c : Begun) → is_begun c ≡ true → run c lines ≡ Some (Completes call) → AreTaken calls (lines_begun c) (each line.Whole lines) (call ∷ []) [])
+          → (m : Option Step) → makes b l ≡ m → go_on m (λ more. run more lines) (is_nil lines) ≡ Some (Completes call) → AreTaken calls (lines_begun b) (each line.Whole (l ∷ lines)) (call ∷ []) []
       by_step b l lines call is again None m e = absurd (cc)
       by_step b l lines call is again (Some (Begins c)) m e =
           (None, lines_begun c, call ∷ [], takes_more b c (line.Whole l) is m, refl, again c (stays_begun b c (line.Whole l) is m) e)
       by_step b l lines call is again (Some (Completes other)) m e =
           let p : (lines ≡ []) × (other ≡ call) = completes_is lines other call e in
-          (Some other, [], [], takes_whole b other (line.Whole l) is m, (λ i. sym p.1 i ∷ []), subst (λ (ls : List (List ℕ)). AreTaken [] (each line.Whole ls) [] []) (sym p.0) (refl, refl))
+          (Some other, [], [], takes_whole b other (line.Whole l) is m, (λ i. sym p.1 i ∷ []), subst (λ (ls : List (List ℕ)). AreTaken calls [] (each line.Whole ls) [] []) (sym p.0) (refl, refl))
 
 pub request_again : (title : List ℕ) (backup : Bool) (shown : List Shown) → is_call (Ask title backup shown) ≡ true → list_all fits (request_lines title backup shown) ≡ true
-    → AreTaken [] (whole_lines (text_of (request_lines title backup shown))) (Ask title backup shown ∷ []) []
+    → AreTaken calls [] (whole_lines (text_of (request_lines title backup shown))) (Ask title backup shown ∷ []) []
 request_again title backup shown is fit =
-    subst (λ (ls : List Line). AreTaken [] ls (Ask title backup shown ∷ []) []) (sym (printed_lines (request_lines title backup shown) (request_free title backup shown) fit))
+    subst (λ (ls : List Line). AreTaken calls [] ls (Ask title backup shown ∷ []) []) (sym (printed_lines (request_lines title backup shown) (request_free title backup shown) fit))
     (taken_run Nothing (request_lines title backup shown) (Ask title backup shown) refl (call_run (Ask title backup shown) is))
 
 -- ---- lines are taken in one way
 
-whole_apart : (lines : List Line) (call : WireCall) → IsWhole lines call → GoesOn lines → ⊥
+whole_apart : (lines : List Line) (call : WireCall) → IsWhole calls lines call → GoesOn calls lines → ⊥
 whole_apart lines call whole on =
-    let l : each line.Whole (call_lines on.front.call) ≡ each line.Whole (call_lines call) ++ on.next ∷ on.behind =
+    let l : each line.Whole (call_lines on.front.whole) ≡ each line.Whole (call_lines call) ++ on.next ∷ on.behind =
     on.front.lines_are ∙ ap (λ (ls : List Line). ls ++ on.next ∷ on.behind) (sym whole.lines_are) in
-    let a : Apart (call_lines on.front.call) (call_lines call) on.next on.behind = apart (call_lines on.front.call) (call_lines call) on.next on.behind l in
-    let off : None ≡ Some (Completes on.front.call) =
-    sym (run-whole Nothing call (call_lines call) a.others a.bytes (call_run call whole.is)) ∙ sym (ap (run Nothing) a.lines_are) ∙ call_run on.front.call on.front.is in
+    let a : Apart (call_lines on.front.whole) (call_lines call) on.next on.behind = apart (call_lines on.front.whole) (call_lines call) on.next on.behind l in
+    let off : None ≡ Some (Completes on.front.whole) =
+    sym (run-whole Nothing call (call_lines call) a.others a.bytes (call_run call whole.is)) ∙ sym (ap (run Nothing) a.lines_are) ∙ call_run on.front.whole on.front.is in
     cc
 
 whole_same : (xs ys : List (List ℕ)) → each line.Whole xs ≡ each line.Whole ys → xs ≡ ys
@@ -144,20 +144,20 @@ whole_same (x ∷ xs) (y ∷ ys) e =
     let rest : each line.Whole xs ≡ each line.Whole ys = cc in
     (λ i. here i ∷ whole_same xs ys rest i)
 
-whole_one : (lines : List Line) (a b : WireCall) → IsWhole lines a → IsWhole lines b → a ≡ b
+whole_one : (lines : List Line) (a b : WireCall) → IsWhole calls lines a → IsWhole calls lines b → a ≡ b
 whole_one lines a b one other =
     let same : call_lines a ≡ call_lines b = whole_same (call_lines a) (call_lines b) (one.lines_are ∙ sym other.lines_are) in
     let e : Some (Completes a) ≡ Some (Completes b) = sym (call_run a one.is) ∙ ap (run Nothing) same ∙ call_run b other.is in
     cc
 
-pub takes_one : (old new other : List Line) (l : Line) (a b : Option WireCall) → Takes old l (Ok a) new → Takes old l (Ok b) other → (a ≡ b) × (new ≡ other)
+pub takes_one : (old new other : List Line) (l : Line) (a b : Option WireCall) → Takes calls old l (Ok a) new → Takes calls old l (Ok b) other → (a ≡ b) × (new ≡ other)
 takes_one old new other l None None one two = (refl, one.1 ∙ sym two.1)
-takes_one old new other l None (Some call) one two = absurd (whole_apart (old ++ l ∷ []) call two.0 (subst GoesOn one.1 one.0))
-takes_one old new other l (Some call) None one two = absurd (whole_apart (old ++ l ∷ []) call one.0 (subst GoesOn two.1 two.0))
+takes_one old new other l None (Some call) one two = absurd (whole_apart (old ++ l ∷ []) call two.0 (subst (GoesOn calls) one.1 one.0))
+takes_one old new other l (Some call) None one two = absurd (whole_apart (old ++ l ∷ []) call one.0 (subst (GoesOn calls) two.1 two.0))
 takes_one old new other l (Some a) (Some b) one two = (ap (λ (c : WireCall). Some c) (whole_one (old ++ l ∷ []) a b one.0 two.0), one.1 ∙ sym two.1)
 
-pub takes_apart : (old new other : List Line) (l : Line) (a : Option WireCall) → Takes old l (Ok a) new → Takes old l (Err Bad) other → ⊥
+pub takes_apart : (old new other : List Line) (l : Line) (a : Option WireCall) → Takes calls old l (Ok a) new → Takes calls old l (Err Bad) other → ⊥
 takes_apart old new other l None one bad =
-    let on : GoesOn (old ++ l ∷ []) = subst GoesOn one.1 one.0 in bad.0 (on.next ∷ on.behind) on.front
+    let on : GoesOn calls (old ++ l ∷ []) = subst (GoesOn calls) one.1 one.0 in bad.0 (on.next ∷ on.behind) on.front
 takes_apart old new other l (Some call) one bad =
-    bad.0 [] (record { call = call; is = one.0.is; lines_are = one.0.lines_are ∙ sym (append-nil (old ++ l ∷ [])) })
+    bad.0 [] (record { whole = call; is = one.0.is; lines_are = one.0.lines_are ∙ sym (append-nil (old ++ l ∷ [])) })

@@ -1,7 +1,11 @@
 pub mod AgainLemmas
+pub mod AskLemmas
+pub mod HearLemmas
 pub mod LineLemmas
 pub mod PartLemmas
 pub mod PrintLemmas
+pub mod ReplyLemmas
 pub mod RunLemmas
 pub mod StepLemmas
 pub mod TakeLemmas
+pub mod WayLemmas

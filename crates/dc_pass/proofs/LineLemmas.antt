@@ -5,7 +5,6 @@ use Rattle.std.specs.List.{list_any, before_first, after_first}
 use Rattle.std.proofs.lemmas.Bool.{cases_Bool}
 use Rattle.std.proofs.lemmas.Bool.Decides.{nat_tests}
 use Rattle.std.proofs.lemmas.List.{append-nil}
-use Rattle.dc_text.specs.Lines.{has_newline}
 use Rattle.dc_text.proofs.FirstLemmas.{before_first-here, before_first-later, after_first-here, after_first-later}
 use Rattle.dc_template.proofs.TestLemmas.{apart_at, neither}
 use Rattle.dc_words.specs.Escaped.{escaped, escaped_byte}

@@ -1,5 +1,5 @@
 -- The lines of a call, read one after another from the first.
-use Rattle.std.proofs.Common.{◌≡◌, ◌+◌, ℕ, suc, Bool, true, false, cond, not, ◌&&◌, List, [], ◌∷◌, ◌++◌, length, map as each, Some, None, Option, refl, sym, ap, subst, ◌∙◌, append_assoc, arith}
+use Rattle.std.proofs.Common.{◌≡◌, ℕ, Bool, true, false, cond, not, List, [], ◌∷◌, ◌++◌, length, Some, None, Option, refl, sym, ap, ◌∙◌, append_assoc, arith}
 use Rattle.std.specs.Prelude.{codes}
 use Rattle.std.specs.List.{flat_map, list_all, list_any}
 use Rattle.std.proofs.lemmas.List.{append-nil}
@@ -7,11 +7,10 @@ use Rattle.dc_text.specs.Bytes.{is_nil}
 use Rattle.dc_text.specs.Names.{is_name}
 use Rattle.dc_template.specs.Kinds.{kind_word}
 use Rattle.dc_template.specs.declared.kinds.Kind.{Kind}
-use Rattle.dc_template.proofs.TestLemmas.{both, both_hold}
+use Rattle.dc_template.proofs.TestLemmas.{both}
 use Rattle.dc_frontend.specs.declared.shown.Shown.{Shown}
 use Rattle.dc_pass.specs.declared.calls.WireCall.{WireCall}
 use Rattle.dc_pass.specs.declared.calls.WireCall.TheVariants.{Ask, Tell}
-use Rattle.dc_pass.specs.declared.lines.WireLine.{WireLine}
 use Rattle.dc_pass.specs.declared.begun.Begun.{Begun}
 use Rattle.dc_pass.specs.declared.begun.Begun.TheVariants.{Nothing, Titled, Asking}
 use Rattle.dc_pass.specs.declared.begun.Step.{Step}

@@ -1,5 +1,5 @@
 -- What one more line makes of a call.
-use Rattle.std.proofs.Common.{◌≡◌, ℕ, Bool, true, false, cond, not, ◌&&◌, List, [], ◌∷◌, ◌++◌, map as each, Some, None, Option, refl, sym, ap, subst, ◌∙◌, append_assoc}
+use Rattle.std.proofs.Common.{◌≡◌, ℕ, Bool, true, false, not, ◌&&◌, List, [], ◌∷◌, ◌++◌, map as each, Some, None, Option, refl, sym, ap, subst, ◌∙◌, append_assoc}
 use Rattle.std.specs.Prelude.{codes}
 use Rattle.std.specs.List.{flat_map, list_all}
 use Rattle.std.specs.Str.{bytes_eq}
@@ -11,7 +11,6 @@ use Rattle.dc_template.proofs.TestLemmas.{both, both_hold, list_all-append}
 use Rattle.dc_words.specs.declared.stream.Line.{Line}
 use Rattle.dc_words.specs.declared.stream.Line.TheVariants as line
 use Rattle.dc_frontend.specs.declared.shown.Shown.{Shown}
-use Rattle.dc_pass.specs.declared.calls.WireCall.{WireCall}
 use Rattle.dc_pass.specs.declared.calls.WireCall.TheVariants.{Ask, Tell}
 use Rattle.dc_pass.specs.declared.lines.WireLine.{WireLine}
 use Rattle.dc_pass.specs.declared.begun.Begun.{Begun}
@@ -22,7 +21,7 @@ use Rattle.dc_pass.specs.declared.question_part.QuestionPart.{QuestionPart}
 use Rattle.dc_pass.specs.declared.question_part.QuestionPart.TheVariants as part
 use Rattle.dc_pass.specs.declared.question_part.PartStep.{PartStep}
 use Rattle.dc_pass.specs.declared.question_part.PartStep.TheVariants as step
-use Rattle.dc_pass.specs.Wire.{wire_line, question_lines, opening_lines, call_lines, is_call, is_question, backup_word}
+use Rattle.dc_pass.specs.Wire.{wire_line, question_lines, opening_lines, call_lines, is_call, is_question}
 use Rattle.dc_pass.specs.Machine.{part_lines, is_part, part_step, begun_lines, lines_begun, is_begun, first_step, titled_step, is_between, with_part, asks, asking_step, said_step, maybe_said_step, step_by, said}
 use Rattle.dc_pass.proofs.LineLemmas.{wire_line-said}
 use Rattle.dc_pass.proofs.PartLemmas.{is_text, nil_is, chosen, PartSays, part_says}

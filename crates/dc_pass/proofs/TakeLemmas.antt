@@ -1,5 +1,5 @@
 -- What a reader takes a line as.
-use Rattle.std.proofs.Common.{◌≡◌, ℕ, Bool, true, false, cond, not, List, [], ◌∷◌, ◌++◌, map as each, Some, None, Ok, Err, Result, Option, refl, sym, ap, subst, ◌∙◌, append_assoc}
+use Rattle.std.proofs.Common.{◌≡◌, ℕ, true, not, List, [], ◌∷◌, ◌++◌, map as each, Some, None, Ok, Err, Result, Option, refl, sym, ap, subst, ◌∙◌, append_assoc}
 use Rattle.std.specs.Prelude.{codes}
 use Rattle.std.specs.List.{flat_map, list_all}
 use Rattle.std.proofs.lemmas.List.{map-append, append-nil}
@@ -18,12 +18,12 @@ use Rattle.dc_pass.specs.declared.begun.Begun.{Begun}
 use Rattle.dc_pass.specs.declared.begun.Begun.TheVariants.{Nothing, Titled, Asking}
 use Rattle.dc_pass.specs.declared.begun.Step.{Step}
 use Rattle.dc_pass.specs.declared.begun.Step.TheVariants.{Begins, Completes}
-use Rattle.dc_pass.specs.Wire.{wire_line, question_lines, opening_lines, call_lines, is_call, is_question}
-use Rattle.dc_pass.specs.Reading.{IsFront, GoesOn, IsWhole, AreUnreadable, Takes, AreTaken}
+use Rattle.dc_pass.specs.Wire.{question_lines, opening_lines, call_lines, is_call, is_question}
+use Rattle.dc_pass.specs.Reading.{calls, GoesOn, IsWhole, AreUnreadable, Takes}
 use Rattle.dc_pass.specs.Machine.{begun_lines, lines_begun, is_begun, is_part, part_lines, explained, step_by, Gives}
 use Rattle.dc_pass.proofs.PartLemmas.{Completed, completed}
 use Rattle.dc_pass.proofs.StepLemmas.{SaysLine, line_says}
-use Rattle.dc_pass.proofs.RunLemmas.{makes, go_on, run, run-append, run-whole, begun_run, call_run}
+use Rattle.dc_pass.proofs.RunLemmas.{makes, go_on, run, run-append, begun_run, call_run}
 
 -- ---- each call that is begun goes on
 
@@ -64,24 +64,24 @@ call_on (Asking title backup shown p) is =
           ∙ regroup (opening_lines title backup) (flat_map question_lines shown) (part_lines p) (c.next ∷ c.behind) ask;
     }
 
-pub goes_on : (b : Begun) → is_begun b ≡ true → GoesOn (lines_begun b)
+pub goes_on : (b : Begun) → is_begun b ≡ true → GoesOn calls (lines_begun b)
 goes_on b is =
     let c : CallOn b = call_on b is in
     record {
       next = line.Whole c.next;
       behind = each line.Whole c.behind;
-      front = record { call = c.call; is = c.is; lines_are = ap (each line.Whole) c.lines_are ∙ map-append line.Whole (begun_lines b) (c.next ∷ c.behind) };
+      front = record { whole = c.call; is = c.is; lines_are = ap (each line.Whole) c.lines_are ∙ map-append line.Whole (begun_lines b) (c.next ∷ c.behind) };
     }
 
 -- ---- what a step is taken as
 
-pub takes_more : (b more : Begun) (l : Line) → is_begun b ≡ true → step_by b l ≡ Some (Begins more) → Takes (lines_begun b) l (Ok None) (lines_begun more)
+pub takes_more : (b more : Begun) (l : Line) → is_begun b ≡ true → step_by b l ≡ Some (Begins more) → Takes calls (lines_begun b) l (Ok None) (lines_begun more)
 takes_more b more l is e = let s : SaysLine b l (Begins more) = line_says b l (Begins more) is e in (goes_on more s.1, s.0)
 
 pub stays_begun : (b more : Begun) (l : Line) → is_begun b ≡ true → step_by b l ≡ Some (Begins more) → is_begun more ≡ true
 stays_begun b more l is e = let s : SaysLine b l (Begins more) = line_says b l (Begins more) is e in s.1
 
-pub takes_whole : (b : Begun) (call : WireCall) (l : Line) → is_begun b ≡ true → step_by b l ≡ Some (Completes call) → Takes (lines_begun b) l (Ok (Some call)) []
+pub takes_whole : (b : Begun) (call : WireCall) (l : Line) → is_begun b ≡ true → step_by b l ≡ Some (Completes call) → Takes calls (lines_begun b) l (Ok (Some call)) []
 takes_whole b call l is e = let s : SaysLine b l (Completes call) = line_says b l (Completes call) is e in (record { is = s.1; lines_are = s.0 }, refl)
 
 -- lines that all are whole begin with a line, as it came
@@ -105,30 +105,30 @@ apart (x ∷ lines) (f ∷ front) l behind e =
     let a : Apart lines front l behind = apart lines front l behind rest in
     record { bytes = a.bytes; others = a.others; line_is = a.line_is; behind_are = a.behind_are; lines_are = (λ i. same i ∷ a.lines_are i) }
 
-pub takes_bad : (b : Begun) (l : Line) → is_begun b ≡ true → step_by b l ≡ None → AreUnreadable (lines_begun b ++ l ∷ [])
+pub takes_bad : (b : Begun) (l : Line) → is_begun b ≡ true → step_by b l ≡ None → AreUnreadable calls (lines_begun b ++ l ∷ [])
 takes_bad b l is e = λ behind front.
-    let a : Apart (call_lines front.call) (begun_lines b) l behind =
-    apart (call_lines front.call) (begun_lines b) l behind (front.lines_are ∙ append_assoc (lines_begun b) (l ∷ []) behind) in
-    let whole : run Nothing (call_lines front.call) ≡ Some (Completes front.call) = call_run front.call front.is in
+    let a : Apart (call_lines front.whole) (begun_lines b) l behind =
+    apart (call_lines front.whole) (begun_lines b) l behind (front.lines_are ∙ append_assoc (lines_begun b) (l ∷ []) behind) in
+    let whole : run Nothing (call_lines front.whole) ≡ Some (Completes front.whole) = call_run front.whole front.is in
     let steps : run Nothing (begun_lines b ++ a.bytes ∷ a.others) ≡ run b (a.bytes ∷ a.others) =
     run-append Nothing b (begun_lines b) (a.bytes ∷ a.others) (begun_run b is) in
     let none : makes b a.bytes ≡ None = subst (λ (x : Line). step_by b x ≡ None) a.line_is e in
     let stopped : run b (a.bytes ∷ a.others) ≡ None = ap (λ m. go_on m (λ more. run more a.others) (is_nil a.others)) none in
-    let off : None ≡ Some (Completes front.call) = sym stopped ∙ sym steps ∙ sym (ap (run Nothing) a.lines_are) ∙ whole in
+    let off : None ≡ Some (Completes front.whole) = sym stopped ∙ sym steps ∙ sym (ap (run Nothing) a.lines_are) ∙ whole in
     cc
 
 -- ---- what is taken of a reader's lines
 
 pub takes_err : (b : Begun) (l : Line) (e : WireError) (old new : List Line) (result : Result (Option WireCall) WireError) → result ≡ Err e → lines_begun b ≡ old → is_begun b ≡ true
-    → Gives {S = Step} (Err e) (step_by b l) → new ≡ [] → Takes old l result new
+    → Gives {S = Step} (Err e) (step_by b l) → new ≡ [] → Takes calls old l result new
 takes_err b l Bad old new result r o is g n =
-    subst (λ x. Takes old l x new) (sym r) (subst (λ x. AreUnreadable (x ++ l ∷ [])) o (takes_bad b l is g), n)
-takes_err b l OutOfMemory old new result r o is g n = subst (λ x. Takes old l x new) (sym r) n
+    subst (λ x. Takes calls old l x new) (sym r) (subst (λ x. AreUnreadable calls (x ++ l ∷ [])) o (takes_bad b l is g), n)
+takes_err b l OutOfMemory old new result r o is g n = subst (λ x. Takes calls old l x new) (sym r) n
 
 pub takes_begun : (b more : Begun) (l : Line) (old : List Line) → lines_begun b ≡ old → is_begun b ≡ true → step_by b l ≡ Some (Begins more)
-    → GoesOn (lines_begun more) × (lines_begun more ≡ old ++ l ∷ [])
-takes_begun b more l old o is e = let t : Takes (lines_begun b) l (Ok None) (lines_begun more) = takes_more b more l is e in (t.0, t.1 ∙ ap (λ (x : List Line). x ++ l ∷ []) o)
+    → GoesOn calls (lines_begun more) × (lines_begun more ≡ old ++ l ∷ [])
+takes_begun b more l old o is e = let t : Takes calls (lines_begun b) l (Ok None) (lines_begun more) = takes_more b more l is e in (t.0, t.1 ∙ ap (λ (x : List Line). x ++ l ∷ []) o)
 
 pub takes_call : (b : Begun) (call : WireCall) (l : Line) (old : List Line) → lines_begun b ≡ old → is_begun b ≡ true → step_by b l ≡ Some (Completes call)
-    → IsWhole (old ++ l ∷ []) call
-takes_call b call l old o is e = let t : Takes (lines_begun b) l (Ok (Some call)) [] = takes_whole b call l is e in subst (λ (x : List Line). IsWhole (x ++ l ∷ []) call) o t.0
+    → IsWhole calls (old ++ l ∷ []) call
+takes_call b call l old o is e = let t : Takes calls (lines_begun b) l (Ok (Some call)) [] = takes_whole b call l is e in subst (λ (x : List Line). IsWhole calls (x ++ l ∷ []) call) o t.0

@@ -1,5 +1,5 @@
 -- The reading of a session's lines, a line at a time. No public clause cites this module.
-use Rattle.std.specs.Prelude.{◌≡◌, ⊤, ℕ, Bool, true, false, not, ◌&&◌, ◌||◌, ◌==◌, List, [], ◌∷◌, ◌++◌, length, map as each, Option, Some, None, option_map, Result, Ok, Err, codes, if◌then◌else◌}
+use Rattle.std.specs.Prelude.{◌≡◌, ⊤, ℕ, Bool, true, false, not, ◌&&◌, ◌||◌, ◌==◌, List, [], ◌∷◌, ◌++◌, map as each, Option, Some, None, option_map, Result, Ok, Err, codes, if◌then◌else◌}
 use Rattle.std.specs.List.{list_any, list_all, flat_map, before_first, after_first}
 use Rattle.std.specs.Str.{bytes_eq}
 use Rattle.dc_text.specs.Ascii.{newline, space, backslash, letter_n}
@@ -10,7 +10,6 @@ use Rattle.dc_words.specs.declared.stream.Line.TheVariants as line
 use Rattle.dc_template.specs.Kinds.{kind_of, kind_word}
 use Rattle.dc_template.specs.declared.kinds.Kind.{Kind}
 use Rattle.dc_frontend.specs.declared.shown.Shown.{Shown}
-use Rattle.dc_pass.specs.declared.calls.WireCall.{WireCall}
 use Rattle.dc_pass.specs.declared.calls.WireCall.TheVariants.{Ask, Tell}
 use Rattle.dc_pass.specs.declared.calls.WireError.{WireError}
 use Rattle.dc_pass.specs.declared.calls.WireError.TheVariants.{Bad, OutOfMemory}

@@ -1,48 +1,59 @@
--- How the lines of a session are read: what each line completes, goes on with, or can't be.
-use Rattle.std.specs.Prelude.{◌≡◌, ◌≢◌, ⊤, ℕ, Bool, true, List, [], ◌∷◌, ◌++◌, map as each, Option, Some, None, Result, Ok, Err, option_to_list}
+-- How the lines of the wire are read: what each line completes, goes on with, or can't be.
+use Rattle.std.specs.Prelude.{◌≡◌, ℕ, Bool, true, List, [], ◌∷◌, ◌++◌, map as each, Option, Some, None, Result, Ok, Err, option_to_list}
 use Rattle.dc_words.specs.declared.stream.Line.{Line}
 use Rattle.dc_words.specs.declared.stream.Line.TheVariants.{Whole}
+use Rattle.dc_frontend.specs.declared.shown.Shown.{Shown}
+use Rattle.dc_teletype.specs.declared.teletype.Asked.{Asked}
 use Rattle.dc_pass.specs.declared.calls.WireCall.{WireCall}
 use Rattle.dc_pass.specs.declared.calls.WireError.{WireError}
 use Rattle.dc_pass.specs.declared.calls.WireError.TheVariants.{Bad, OutOfMemory}
-use Rattle.dc_pass.specs.Wire.{call_lines, is_call}
+use Rattle.dc_pass.specs.Wire.{call_lines, is_call, reply_lines, is_reply}
 
--- the lines of a call, as they come
-abbrev pub lines_of_call : WireCall → List Line
-lines_of_call call = each Whole (call_lines call)
+-- a form of what is sent: what may be said, and the lines that say it
+pub record Form (X : Type 0) : Type 0 where
+  pub is : X → Bool
+  pub lines : X → List (List ℕ)
 
--- some call begins with these lines, and these stand behind them in it
-pub record IsFront (lines : List Line) (behind : List Line) : Type 0 where
-  pub call : WireCall
-  pub is : is_call call ≡ true
-  pub lines_are : lines_of_call call ≡ lines ++ behind
+-- what a session sends
+abbrev pub calls : Form WireCall
+calls = record { is = is_call; lines = call_lines }
 
--- these lines are of a call that isn't whole yet
-pub record GoesOn (lines : List Line) : Type 0 where
+-- what the other end sends when these questions were asked
+abbrev pub replies : Bool → List Shown → Form Asked
+replies backup shown = record { is = is_reply backup shown; lines = reply_lines }
+
+-- something of the form begins with these lines, and these stand behind them in it
+pub record IsFront {X : Type 0} (form : Form X) (lines behind : List Line) : Type 0 where
+  pub whole : X
+  pub is : form.is whole ≡ true
+  pub lines_are : each Whole (form.lines whole) ≡ lines ++ behind
+
+-- these lines are of something that isn't whole yet
+pub record GoesOn {X : Type 0} (form : Form X) (lines : List Line) : Type 0 where
   pub next : Line
   pub behind : List Line
-  pub front : IsFront lines (next ∷ behind)
+  pub front : IsFront form lines (next ∷ behind)
 
--- these are the lines of this call
-pub record IsWhole (lines : List Line) (call : WireCall) : Type 0 where
-  pub is : is_call call ≡ true
-  pub lines_are : lines_of_call call ≡ lines
+-- these lines are all of this
+pub record IsWhole {X : Type 0} (form : Form X) (lines : List Line) (whole : X) : Type 0 where
+  pub is : form.is whole ≡ true
+  pub lines_are : each Whole (form.lines whole) ≡ lines
 
--- no call begins with these lines
-abbrev pub AreUnreadable : List Line → Type 0
-AreUnreadable lines = (behind : List Line) → IsFront lines behind → ⊥
+-- nothing of the form begins with these lines
+abbrev pub AreUnreadable : {X : Type 0} → Form X → List Line → Type 0
+AreUnreadable form lines = (behind : List Line) → IsFront form lines behind → ⊥
 
--- What one more line makes of the lines of a call that isn't whole yet: it goes on with the call, completes it, or is the first that no
--- call allows. Behind that, and where memory runs out, there are no lines.
-abbrev pub Takes : List Line → Line → Result (Option WireCall) WireError → List Line → Type 0
-Takes old line (Ok None) new = GoesOn new × (new ≡ old ++ line ∷ [])
-Takes old line (Ok (Some call)) new = IsWhole (old ++ line ∷ []) call × (new ≡ [])
-Takes old line (Err Bad) new = AreUnreadable (old ++ line ∷ []) × (new ≡ [])
-Takes old line (Err OutOfMemory) new = new ≡ []
+-- What one more line makes of lines that aren't whole yet: it goes on with them, completes them, or is the first that the form doesn't
+-- allow. Behind that, and where memory runs out, there are no lines.
+abbrev pub Takes : {X : Type 0} → Form X → List Line → Line → Result (Option X) WireError → List Line → Type 0
+Takes form old line (Ok None) new = GoesOn form new × (new ≡ old ++ line ∷ [])
+Takes form old line (Ok (Some whole)) new = IsWhole form (old ++ line ∷ []) whole × (new ≡ [])
+Takes form old line (Err Bad) new = AreUnreadable form (old ++ line ∷ []) × (new ≡ [])
+Takes form old line (Err OutOfMemory) new = new ≡ []
 
--- these lines, one after another, are taken as these calls
-abbrev pub AreTaken : List Line → List Line → List WireCall → List Line → Type 0
-AreTaken old [] calls new = (calls ≡ []) × (new ≡ old)
-AreTaken old (line ∷ lines) calls new =
-    (taken : Option WireCall) × (between : List Line) × (others : List WireCall)
-    × Takes old line (Ok taken) between × (calls ≡ option_to_list taken ++ others) × AreTaken between lines others new
+-- these lines, one after another, are taken as these
+abbrev pub AreTaken : {X : Type 0} → Form X → List Line → List Line → List X → List Line → Type 0
+AreTaken form old [] all new = (all ≡ []) × (new ≡ old)
+AreTaken {X} form old (line ∷ lines) all new =
+    (taken : Option X) × (between : List Line) × (others : List X)
+    × Takes form old line (Ok taken) between × (all ≡ option_to_list taken ++ others) × AreTaken form between lines others new

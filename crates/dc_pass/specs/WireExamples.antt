@@ -1,10 +1,10 @@
 -- A request and its replies, as they are worked out.
-use Rattle.std.specs.Prelude.{◌≡◌, true, false, List, [], ◌∷◌, codes}
+use Rattle.std.specs.Prelude.{◌≡◌, true, false, [], ◌∷◌, codes}
 use Rattle.dc_template.specs.declared.kinds.Kind.TheVariants.{Str, Select}
 use Rattle.dc_frontend.specs.declared.shown.Shown.{Shown}
 use Rattle.dc_teletype.specs.declared.teletype.Answer.TheVariants.{Keep, Value}
 use Rattle.dc_teletype.specs.declared.teletype.Asked.TheVariants.{Answers, Back}
-use Rattle.dc_pass.specs.Wire.{request_lines, reply_lines}
+use Rattle.dc_pass.specs.Wire.{request_lines, reply_lines, sent_reply}
 
 -- a string without a value
 abbrev pub name_question : Shown
@@ -32,5 +32,5 @@ pub record Examples : Type 0 where
       ≡ codes "title T" ∷ codes "backup false" ∷ codes "question a/c" ∷ codes "kind select" ∷ codes "description Colour" ∷ codes "extended It is\\nseen."
       ∷ codes "choice red" ∷ codes "label rot" ∷ codes "choice blue" ∷ codes "label blau" ∷ codes "value red" ∷ codes "ask" ∷ []
   pub answered : reply_lines (Answers (Value (codes "zed") ∷ [])) ≡ codes "value zed" ∷ codes "done" ∷ []
-  pub kept : reply_lines (Answers (Keep ∷ Value [] ∷ [])) ≡ codes "keep" ∷ codes "value" ∷ codes "done" ∷ []
+  pub kept : reply_lines (sent_reply (Answers (Keep ∷ Value [] ∷ []))) ≡ codes "keep" ∷ codes "value" ∷ codes "done" ∷ []
   pub back : reply_lines Back ≡ codes "back" ∷ []

@@ -9,7 +9,7 @@ ghost use Rattle.dc_pass.specs.declared.calls.WireCall.{WireCall};
 ghost use Rattle.dc_pass.specs.declared.calls.WireCall.TheVariants.{Ask};
 ghost use Rattle.dc_pass.specs.declared.calls.WireError.TheVariants.{Bad};
 ghost use Rattle.dc_pass.specs.Wire.{fits, request_lines, is_call};
-ghost use Rattle.dc_pass.specs.Reading.{Takes, AreTaken};
+ghost use Rattle.dc_pass.specs.Reading.{calls, Takes, AreTaken};
 ghost use Rattle.dc_pass.specs.WireExamples.{Examples};
 
 /// A request and its replies are these lines.
@@ -22,13 +22,13 @@ pub fn lines_are_worked_out()
 pub fn requests_are_read_again()
     ensures { (title : List ℕ) (backup : Bool) (shown : List Shown) → is_call (Ask title backup shown) ≡ true
         → list_all fits (request_lines title backup shown) ≡ true
-        → AreTaken [] (whole_lines (text_of (request_lines title backup shown))) (Ask title backup shown ∷ []) [] }
+        → AreTaken calls [] (whole_lines (text_of (request_lines title backup shown))) (Ask title backup shown ∷ []) [] }
 {}
 
 /// A line is taken in one way, unless memory runs out.
 pub fn lines_are_taken_in_one_way()
     ensures one { (old new other : List Line) (line : Line) (a b : Option WireCall)
-        → Takes old line (Ok a) new → Takes old line (Ok b) other → (a ≡ b) × (new ≡ other) }
+        → Takes calls old line (Ok a) new → Takes calls old line (Ok b) other → (a ≡ b) × (new ≡ other) }
     ensures not_both { (old new other : List Line) (line : Line) (a : Option WireCall)
-        → Takes old line (Ok a) new → Takes old line (Err Bad) other → ⊥ }
+        → Takes calls old line (Ok a) new → Takes calls old line (Err Bad) other → ⊥ }
 {}

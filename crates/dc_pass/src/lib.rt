@@ -6,11 +6,15 @@ mod begun;
 pub mod calls;
 pub mod laws;
 pub mod lines;
+pub mod pass;
 pub mod printing;
 mod question_part;
 pub mod reader;
+mod replies;
+mod sending;
 
 pub use calls::{WireCall, WireError};
+pub use pass::{Pass, PassError};
 pub use printing::{print_answers, print_request};
 pub use reader::RequestReader;
 

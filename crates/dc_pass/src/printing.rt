@@ -2,7 +2,7 @@
 ghost use Rattle.std.specs.Prelude.{◌≡◌, ◌∷◌, ◌++◌, [], IfOk, OnOk, map as each};
 ghost use Rattle.std.specs.List.{flat_map};
 ghost use Rattle.dc_text.specs.Lines.{text_of};
-ghost use Rattle.dc_pass.specs.Wire.{request_lines, reply_lines, question_lines, heading_lines, choice_lines, opening_lines, answer_line, backup_word as backup_word_of};
+ghost use Rattle.dc_pass.specs.Wire.{request_lines, reply_lines, question_lines, heading_lines, choice_lines, opening_lines, answer_line, sent_answer, sent_reply, backup_word as backup_word_of};
 
 use crate::lines::append_line;
 use dc_frontend::Shown;
@@ -81,7 +81,7 @@ fn print_choices(alloc: Global, out: &mut Text, choices: &[Text], labels: &[Text
 /// The lines of a reply: the answers in order, or that the user goes back. An answer whose line would be too long is sent as though the
 /// question kept its value.
 pub fn print_answers(alloc: Global, asked: &Asked) -> Mem<Text>
-    ensures { IfOk result (λ text. text ≡ text_of (reply_lines asked.now)) }
+    ensures { IfOk result (λ text. text ≡ text_of (reply_lines (sent_reply asked.now))) }
 {
     let mut out = Text::new(alloc);
     match asked {
@@ -93,7 +93,7 @@ pub fn print_answers(alloc: Global, asked: &Asked) -> Mem<Text>
 
 // Prints the answers in order, and that they are all.
 fn print_list(alloc: Global, out: &mut Text, answers: &List<Answer>) -> Mem<()>
-    ensures { OnOk result (out.new ≡ out.old ++ text_of (reply_lines (Asked.Answers answers.now))) }
+    ensures { OnOk result (out.new ≡ out.old ++ text_of (reply_lines (sent_reply (Asked.Answers answers.now)))) }
 {
     for answer in answers.as_slice() {
         print_answer(alloc, out, answer)?;
@@ -102,7 +102,7 @@ fn print_list(alloc: Global, out: &mut Text, answers: &List<Answer>) -> Mem<()>
 }
 
 fn print_answer(alloc: Global, out: &mut Text, answer: &Answer) -> Mem<()>
-    ensures { OnOk result (out.new ≡ out.old ++ text_of (answer_line answer.now ∷ [])) }
+    ensures { OnOk result (out.new ≡ out.old ++ text_of (answer_line (sent_answer answer.now) ∷ [])) }
 {
     match answer {
         Answer::Keep => append_line(alloc, out, b"keep", b""),
@@ -111,7 +111,7 @@ fn print_answer(alloc: Global, out: &mut Text, answer: &Answer) -> Mem<()>
 }
 
 fn print_value(alloc: Global, out: &mut Text, value: &Text) -> Mem<()>
-    ensures { OnOk result (out.new ≡ out.old ++ text_of (answer_line (Answer.Value value.now) ∷ [])) }
+    ensures { OnOk result (out.new ≡ out.old ++ text_of (answer_line (sent_answer (Answer.Value value.now)) ∷ [])) }
 {
     let mut line = Text::new(alloc);
     append_line(alloc, &mut line, b"value", value.bytes())?;

@@ -1,6 +1,6 @@
 // The reader of a session's lines.
 ghost use Rattle.std.specs.Prelude.{◌≡◌, []};
-ghost use Rattle.dc_pass.specs.Reading.{Takes};
+ghost use Rattle.dc_pass.specs.Reading.{calls, Takes};
 
 use crate::begun::{Begun, Step};
 use crate::calls::{WireCall, WireError};
@@ -42,7 +42,7 @@ impl RequestReader {
     /// Takes the next line. `None` comes where it goes on with a request that isn't whole yet, and `Bad` where it is unreadable. Behind
     /// an error the reader stands between requests.
     pub fn take(&mut self, line: Line) -> Result<Option<WireCall>, WireError>
-        ensures { Takes self.old line result self.new }
+        ensures { Takes calls self.old line result self.new }
     {
         let begun = mem::replace(&mut self.begun, Begun::Nothing);
         match begun.add(self.alloc, line)? {

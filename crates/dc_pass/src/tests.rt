@@ -166,3 +166,37 @@ fn answers_are_printed(rt: HostRuntime) {
     let back = print_answers(alloc, &Asked::Back).expect(&rt, "ample memory");
     assert_eq!(rt; back.bytes(), b"back\n".as_slice());
 }
+
+// Whether the value is read of a multiselect with these choices.
+#[test]
+fn joined_choices_are_told_apart(rt: HostRuntime) {
+    for (value, is) in [
+        (b"".as_slice(), true),
+        (b"a", true),
+        (b"b", true),
+        (b"a, b", true),
+        (b"a, a", true),
+        (b"a, b, a", true),
+        (b"a, a, b", false),
+        (b"a, a, a", false),
+        (b"b, a", true),
+        (b"b, b", false),
+        (b"a,b", false),
+        (b"a, ", false),
+        (b"c\\, d", true),
+        (b"a, c\\, d", true),
+        (b"c, d", false),
+        (b"b, c\\, d, e", true),
+    ] {
+        let choices = texts(
+            rt.alloc(),
+            [b"a".as_slice(), b"b", b"a", b"c, d", b"e"].as_slice(),
+        )
+        .expect(&rt, "ample memory");
+        let found = crate::replies::are_joined(rt.alloc(), choices.as_slice(), value).expect(
+            &rt,
+            "ample memory",
+        );
+        assert_eq!(rt; found, is);
+    }
+}

@@ -1,4 +1,4 @@
-use Rattle.std.proofs.Common.{◌≡◌, ◌++◌, ◌∷◌, [], List, ℕ, Some, ap, ◌∙◌}
+use Rattle.std.proofs.Common.{◌≡◌, ◌++◌, ◌∷◌, [], List, ℕ, ap, ◌∙◌}
 use Rattle.std.specs.Prelude.{option_map}
 use Rattle.dc_pass.specs.Machine.{unescaped}
 use Rattle.dc_pass.proofs.LineLemmas.{meant_more}
