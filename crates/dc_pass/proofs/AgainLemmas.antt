@@ -42,10 +42,10 @@ told_free : (text : List ℕ) → has_newline (told_text true text) ≡ false
 told_free [] = refl
 told_free (b ∷ text) = escaped_free (b ∷ text)
 
-wire_free : (word text : List ℕ) → has_newline word ≡ false → has_newline (wire_line word text) ≡ false
+pub wire_free : (word text : List ℕ) → has_newline word ≡ false → has_newline (wire_line word text) ≡ false
 wire_free word text h = list_any-append (λ c. c == 10) word (told_text true text) ∙ (λ i. h i || told_free text i)
 
-free-append : (xs ys : List (List ℕ)) → HaveNoNewline xs → HaveNoNewline ys → HaveNoNewline (xs ++ ys)
+pub free-append : (xs ys : List (List ℕ)) → HaveNoNewline xs → HaveNoNewline ys → HaveNoNewline (xs ++ ys)
 free-append [] ys f g = g
 free-append (x ∷ xs) ys f g = (f.0, free-append xs ys f.1 g)
 

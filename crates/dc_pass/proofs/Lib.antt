@@ -1,4 +1,5 @@
 pub mod AgainLemmas
+pub mod AnswerLemmas
 pub mod AskLemmas
 pub mod HearLemmas
 pub mod LineLemmas

@@ -1,5 +1,5 @@
 //! Laws of the wire.
-ghost use Rattle.std.specs.Prelude.{◌≡◌, ℕ, Bool, true, List, [], ◌∷◌, Option, Ok, Err};
+ghost use Rattle.std.specs.Prelude.{◌≡◌, ℕ, Bool, true, List, [], ◌∷◌, Option, Some, Ok, Err};
 ghost use Rattle.std.specs.List.{list_all};
 ghost use Rattle.dc_text.specs.Lines.{text_of};
 ghost use Rattle.dc_words.specs.Stream.{whole_lines};
@@ -8,8 +8,12 @@ ghost use Rattle.dc_frontend.specs.declared.shown.Shown.{Shown};
 ghost use Rattle.dc_pass.specs.declared.calls.WireCall.{WireCall};
 ghost use Rattle.dc_pass.specs.declared.calls.WireCall.TheVariants.{Ask};
 ghost use Rattle.dc_pass.specs.declared.calls.WireError.TheVariants.{Bad};
-ghost use Rattle.dc_pass.specs.Wire.{fits, request_lines, is_call};
-ghost use Rattle.dc_pass.specs.Reading.{calls, Takes, AreTaken};
+ghost use Rattle.dc_teletype.specs.Answered.{HaveAnswers};
+ghost use Rattle.dc_teletype.specs.declared.teletype.Answer.{Answer};
+ghost use Rattle.dc_teletype.specs.declared.teletype.Asked.TheVariants.{Answers, Back};
+ghost use Rattle.dc_pass.specs.Passing.{is_sent, sent_questions, asked_by};
+ghost use Rattle.dc_pass.specs.Wire.{fits, request_lines, reply_lines, sent_reply, answer_all, is_call};
+ghost use Rattle.dc_pass.specs.Reading.{calls, replies, IsWhole, Takes, AreTaken};
 ghost use Rattle.dc_pass.specs.WireExamples.{Examples};
 
 /// A request and its replies are these lines.
@@ -31,4 +35,14 @@ pub fn lines_are_taken_in_one_way()
         → Takes calls old line (Ok a) new → Takes calls old line (Ok b) other → (a ≡ b) × (new ≡ other) }
     ensures not_both { (old new other : List Line) (line : Line) (a : Option WireCall)
         → Takes calls old line (Ok a) new → Takes calls old line (Err Bad) other → ⊥ }
+{}
+
+/// What a dialogue on a terminal can answer is read, of what is printed of it, as that reply: an answer whose line would be too long as
+/// though the value were kept. Where all questions were sent, these are the answers that the session gets.
+pub fn answers_are_read_again()
+    ensures answers { (backup : Bool) (shown : List Shown) (answers : List Answer) → HaveAnswers backup shown answers
+        → IsWhole (replies backup shown) (whole_lines (text_of (reply_lines (sent_reply (Answers answers))))) (sent_reply (Answers answers)) }
+    ensures back { (shown : List Shown) → IsWhole (replies true shown) (whole_lines (text_of (reply_lines (sent_reply Back)))) Back }
+    ensures sent { (shown : List Shown) (answers : List Answer) → list_all is_sent shown ≡ true → answer_all shown answers ≡ true
+        → (sent_questions shown ≡ shown) × (asked_by shown (Some (Answers answers)) ≡ Answers answers) }
 {}
