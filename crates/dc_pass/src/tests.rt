@@ -1,6 +1,7 @@
 // What each end sends, and what is read of it.
-use crate::{RequestReader, WireCall, WireError, print_answers, print_request};
+use crate::{Pass, PassError, RequestReader, WireCall, WireError, print_answers, print_request};
 use dc_frontend::Shown;
+use dc_outside::MemLink;
 use dc_teletype::{Answer, Asked};
 use dc_template::Kind;
 use dc_text::{List, Name, Text};
@@ -198,5 +199,44 @@ fn joined_choices_are_told_apart(rt: HostRuntime) {
             "ample memory",
         );
         assert_eq!(rt; found, is);
+    }
+}
+
+// What the other end's lines come to where a string is asked, printed as a reply, or which line is unreadable.
+fn heard(alloc: Global, input: &[u8], backup: bool) -> Option<Text> {
+    let mut link = MemLink::new(alloc, input, [1].as_slice(), [].as_slice()).ok()?;
+    let mut pass = Pass::new(alloc);
+    let mut shown = List::new(alloc);
+    shown.push(question(alloc, Kind::Str, &[], &[], b"")?).ok()?;
+    match pass.ask(&mut link, &shown, backup, &Text::new(alloc)) {
+        Ok(asked) => print_answers(alloc, &asked).ok(),
+        Err(PassError::Bad { line: 1 }) => Text::from_bytes(alloc, b"bad 1").ok(),
+        Err(PassError::Bad { line: 2 }) => Text::from_bytes(alloc, b"bad 2").ok(),
+        Err(_) => None,
+    }
+}
+
+#[test]
+fn replies_are_heard(rt: HostRuntime) {
+    for (input, backup, came) in [
+        (
+            b"value zed\ndone\n".as_slice(),
+            true,
+            b"value zed\ndone\n".as_slice(),
+        ),
+        (b"value a\\nb\ndone", true, b"value a\\nb\ndone\n"),
+        (b"keep\ndone\n", false, b"keep\ndone\n"),
+        (b"back\n", true, b"back\n"),
+        (b"back\n", false, b"bad 1"),
+        (b"zed\n", true, b"bad 1"),
+        (b"done\n", true, b"bad 1"),
+        (b"value zed\nback\n", true, b"bad 2"),
+        (b"value zed\nkeep\n", true, b"bad 2"),
+        (b"value zed\ndon", true, b"bad 2"),
+        (b"value zed\n", true, b"keep\ndone\n"),
+        (b"", true, b"keep\ndone\n"),
+    ] {
+        let found = heard(rt.alloc(), input, backup).expect(&rt, "an end");
+        assert_eq!(rt; found.bytes(), came);
     }
 }
