@@ -66,7 +66,8 @@ Hears form before old new (Err (Bad line)) now =
     (lines : List TerminalLine) × (last : TerminalLine) × LinesCome old (lines ++ last ∷ []) new × GoesOn form (each seen lines)
     × AreUnreadable form (each seen lines ++ seen last ∷ []) × (line ≡ counted before (length lines + 1)) × (now ≡ line)
 Hears form before old new (Err Failed) now =
-    (lines : List TerminalLine) × (between : TerminalState) × LinesCome old lines between × GoesOn form (each seen lines) × NextLine between new (Err failed.Failed)
+    (lines : List TerminalLine) × (between : TerminalState) × LinesCome old lines between × GoesOn form (each seen lines)
+    × NextLine between new (Err failed.Failed)
     × (now ≡ counted before (length lines))
 Hears form before old new (Err OutOfMemory) now =
     (lines : List TerminalLine) × (between : TerminalState) × LinesCome old lines between × ((new ≡ between) ⊎ NextLine between new (Err failed.OutOfMemory))
@@ -112,7 +113,8 @@ Requests backup title sent before old new (Err (Bad line)) now = IsAsked backup 
 Requests backup title sent before old new (Err Failed) now =
     IsUnasked backup title sent before old new failed.Failed now ⊎ IsAsked backup title sent before old new (Err Failed) now
 Requests backup title sent before old new (Err OutOfMemory) now =
-    IsUntouched before old new now ⊎ (IsUnasked backup title sent before old new failed.OutOfMemory now ⊎ IsAsked backup title sent before old new (Err OutOfMemory) now)
+    IsUntouched before old new now
+    ⊎ (IsUnasked backup title sent before old new failed.OutOfMemory now ⊎ IsAsked backup title sent before old new (Err OutOfMemory) now)
 
 -- the first answer; where there is none the value is kept
 abbrev pub first_answer : List Answer → Answer

@@ -27,7 +27,8 @@ colour_question =
 -- a string asked where the user can go back, a select asked where he can't, and what each may be answered
 pub record Examples : Type 0 where
   pub name : request_lines [] true (name_question ∷ [])
-      ≡ codes "title" ∷ codes "backup true" ∷ codes "question a/n" ∷ codes "kind string" ∷ codes "description N" ∷ codes "extended" ∷ codes "value" ∷ codes "ask" ∷ []
+      ≡ codes "title" ∷ codes "backup true" ∷ codes "question a/n" ∷ codes "kind string" ∷ codes "description N" ∷ codes "extended"
+      ∷ codes "value" ∷ codes "ask" ∷ []
   pub colour : request_lines (codes "T") false (colour_question ∷ [])
       ≡ codes "title T" ∷ codes "backup false" ∷ codes "question a/c" ∷ codes "kind select" ∷ codes "description Colour" ∷ codes "extended It is\\nseen."
       ∷ codes "choice red" ∷ codes "label rot" ∷ codes "choice blue" ∷ codes "label blau" ∷ codes "value red" ∷ codes "ask" ∷ []
