@@ -1,18 +1,19 @@
--- The words behind `set-selections` and `drill`: which of them name these tools.
-use Rattle.std.proofs.Common.{◌≡◌, ℕ, Bool, true, false, List, [], ◌∷◌, map as each, refl, sym, ◌∙◌, ap, subst}
-use Rattle.std.specs.Prelude.{Option, None, Some, option_and_then, codes}
+-- The words behind `set-selections` and `get-selections`: which of them name these tools.
+use Rattle.std.proofs.Common.{◌≡◌, ◌≤◌, ℕ, Bool, true, false, List, [], ◌∷◌, length, map as each, refl, sym, ◌∙◌, ap, inr, arith}
+use Rattle.std.specs.Prelude.{◌==◌, Option, None, Some, Ok, option_and_then, codes}
+use Rattle.std.proofs.lemmas.Bool.Decides.{nat_tests}
 use Rattle.std.specs.List.{filter}
 use Rattle.std.specs.Cmp.Lexicographic.{other_text}
 use Rattle.dc_cli.specs.DatabaseReading.{after, nothing_selected, selection_with, selection_next, is_selections}
 use Rattle.dc_cli.specs.SelectionWords.{selection_option, is_verbose, is_check, is_unseen, IsGiven, NamesSelections}
-use Rattle.dc_cli.specs.Tools.{Names, IsToolWords}
+use Rattle.dc_cli.specs.Tools.{Names, IsToolWords, AreRefusedAt, IsToolAnswer}
 use Rattle.dc_cli.specs.declared.selection_words.SelectionOption.{SelectionOption}
 use Rattle.dc_cli.specs.declared.selection_words.SelectionOption.TheVariants.{Verbose, Check, Unseen}
 use Rattle.dc_cli.specs.declared.selection_words.SelectionSeen.{SelectionSeen}
 use Rattle.dc_cli.specs.declared.tool.Tool.{Tool}
-use Rattle.dc_cli.specs.declared.tool.Tool.TheVariants.{SetSelections}
+use Rattle.dc_cli.specs.declared.tool.Tool.TheVariants.{SetSelections, GetSelections}
 use Rattle.dc_cli.proofs.ReadingLemmas.{ends_words, IsReadBy, after_none}
-use Rattle.dc_cli.proofs.ToolLemmas.{word_of}
+use Rattle.dc_cli.proofs.ToolLemmas.{word_of, some_words}
 
 -- an option that was given or not, and these times more
 abbrev IsGivenMore : Bool → List SelectionOption → Bool → Type 0
@@ -150,3 +151,39 @@ one_selection words verbose check unseen v c u a b =
       told : Option SelectionSeen → Tool
       told None = SetSelections verbose check unseen
       told (Some s) = SetSelections s.verbose s.check s.unseen
+
+-- ---- the words behind `get-selections`
+
+none_by : (words : List (List ℕ)) (tool : Tool) → Names (codes "get-selections" ∷ words) tool → words ≡ []
+none_by words GetSelections named = named.1
+none_by words other named = absurd (other_text (codes "get-selections") (word_of other) refl named.0)
+
+-- nothing stands behind it
+none_behind : (words : List (List ℕ)) → IsToolWords (codes "get-selections" ∷ words) → words ≡ []
+none_behind words is = none_by words is.0 is.1
+
+get_alone : IsToolWords (codes "get-selections" ∷ [])
+get_alone = (GetSelections, (refl, refl))
+
+is_none : (n : ℕ) (none : Bool) → none ≡ (n == 0) → none ≡ true → n ≡ 0
+is_none n none is empty = tested n (sym is ∙ empty) where
+  tested : (n : ℕ) → (n == 0) ≡ true → n ≡ 0
+  tested n e = grind (arith, nat_tests)
+
+is_some_words : (n : ℕ) (none : Bool) → none ≡ (n == 0) → none ≡ false → 1 ≤ n
+is_some_words n none is not = tested n (sym is ∙ not) where
+  tested : (n : ℕ) → (n == 0) ≡ false → 1 ≤ n
+  tested n e = grind (arith, nat_tests)
+
+pub get_taken : (words : List (List ℕ)) (none : Bool) → none ≡ (length words == 0) → none ≡ true → IsToolAnswer (codes "get-selections" ∷ words) (Ok GetSelections)
+get_taken [] none is empty = (refl, refl)
+get_taken (word ∷ words) none is empty = let long : length (word ∷ words) ≡ 0 = is_none (length (word ∷ words)) none is empty in absurd (omega (arith, long))
+
+pub get_refused : (words : List (List ℕ)) (none : Bool) → none ≡ (length words == 0) → none ≡ false → AreRefusedAt (codes "get-selections" ∷ words) 1
+get_refused [] none is not = let short : 1 ≤ 0 = is_some_words 0 none is not in absurd (omega (arith, short))
+get_refused (word ∷ words) none is not = record {
+  refused = λ h. some_words word words (none_behind (word ∷ words) h);
+  within = omega arith;
+  begins = ([], get_alone);
+  ends = inr (λ b. some_words word b.0 (none_behind (word ∷ b.0) b.1));
+}

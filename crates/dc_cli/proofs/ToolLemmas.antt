@@ -8,7 +8,7 @@ use Rattle.std.specs.Cmp.Lexicographic.{same_text, other_text}
 use Rattle.dc_text.specs.Names.{is_name}
 use Rattle.dc_cli.specs.Tools.{IsToolWords, NamesOwner, NamesFiles, Names, AreRefusedAt, IsToolAnswer}
 use Rattle.dc_cli.specs.declared.tool.Tool.{Tool}
-use Rattle.dc_cli.specs.declared.tool.Tool.TheVariants.{Communicate, LoadTemplate, Run, Show, CopyDb, SetSelections, Drill}
+use Rattle.dc_cli.specs.declared.tool.Tool.TheVariants.{Communicate, LoadTemplate, Run, Show, CopyDb, SetSelections, GetSelections, Drill}
 use Rattle.dc_cli.specs.declared.tool.ToolError.{ToolError}
 use Rattle.dc_cli.specs.declared.tool.ToolError.TheVariants.{OutOfMemory}
 
@@ -20,6 +20,7 @@ word_of (Run owner frontend priority command) = codes "run"
 word_of (Show database shown) = codes "show"
 word_of (CopyDb copy) = codes "copydb"
 word_of (SetSelections verbose check unseen) = codes "set-selections"
+word_of GetSelections = codes "get-selections"
 word_of (Drill count) = codes "drill"
 
 -- ---- what each tool takes
@@ -48,9 +49,10 @@ no_tool_by word words (Run owner frontend priority command) none named = none (R
 no_tool_by word words (Show database shown) none named = none (Show database shown) named.0
 no_tool_by word words (CopyDb copy) none named = none (CopyDb copy) named.0
 no_tool_by word words (SetSelections verbose check unseen) none named = none (SetSelections verbose check unseen) named.0
+no_tool_by word words GetSelections none named = none GetSelections named.0
 no_tool_by word words (Drill count) none named = none (Drill count) named.0
 
-some_words : (word : List ℕ) (words : List (List ℕ)) → word ∷ words ≢ []
+pub some_words : (word : List ℕ) (words : List (List ℕ)) → word ∷ words ≢ []
 some_words word words same = cc
 
 communicate_alone : IsToolWords (codes "communicate" ∷ [])
@@ -98,10 +100,11 @@ other_than xs ys e = other_text xs ys (sym e)
 -- no tool has this name
 pub word_refused : (words : List (List ℕ)) (word : List ℕ) → 1 ≤ length words → word ≡ get_or words 0 word
     → bytes_eq word (codes "communicate") ≡ false → bytes_eq word (codes "loadtemplate") ≡ false → bytes_eq word (codes "run") ≡ false
-    → bytes_eq word (codes "show") ≡ false → bytes_eq word (codes "copydb") ≡ false → bytes_eq word (codes "set-selections") ≡ false → bytes_eq word (codes "drill") ≡ false
+    → bytes_eq word (codes "show") ≡ false → bytes_eq word (codes "copydb") ≡ false → bytes_eq word (codes "set-selections") ≡ false
+    → bytes_eq word (codes "get-selections") ≡ false → bytes_eq word (codes "drill") ≡ false
     → AreRefusedAt words 0
-word_refused [] word long is one two three four five six seven = absurd (omega arith)
-word_refused (first ∷ words) word long is one two three four five six seven = record {
+word_refused [] word long is one two three four five six seven eight = absurd (omega arith)
+word_refused (first ∷ words) word long is one two three four five six seven eight = record {
   refused = λ h. no_tool_by first words h.0 none h.1;
   within = omega arith;
   begins = (codes "communicate" ∷ [], communicate_alone);
@@ -117,7 +120,8 @@ word_refused (first ∷ words) word long is one two three four five six seven = 
   none (Show database shown) = not_this (codes "show") four
   none (CopyDb copy) = not_this (codes "copydb") five
   none (SetSelections verbose check unseen) = not_this (codes "set-selections") six
-  none (Drill count) = not_this (codes "drill") seven
+  none GetSelections = not_this (codes "get-selections") seven
+  none (Drill count) = not_this (codes "drill") eight
 
 -- ---- the words behind `communicate`
 

@@ -11,7 +11,7 @@ use Rattle.dc_cli.specs.SelectionWords.{NamesSelections, NamesDrill}
 use Rattle.dc_cli.specs.declared.run_options.RunOption.{RunOption}
 use Rattle.dc_cli.specs.declared.run_options.RunOption.TheVariants.{Owner, Frontend as ForFrontend, Priority as ForPriority}
 use Rattle.dc_cli.specs.declared.tool.Tool.{Tool}
-use Rattle.dc_cli.specs.declared.tool.Tool.TheVariants.{Communicate, LoadTemplate, Run, Show, CopyDb, SetSelections, Drill}
+use Rattle.dc_cli.specs.declared.tool.Tool.TheVariants.{Communicate, LoadTemplate, Run, Show, CopyDb, SetSelections, GetSelections, Drill}
 use Rattle.dc_cli.specs.declared.tool.ToolError.{ToolError}
 use Rattle.dc_cli.specs.declared.tool.ToolError.TheVariants.{Refused, OutOfMemory}
 
@@ -108,6 +108,7 @@ NamesTool word words (Run owner frontend priority command) = (word ≡ codes "ru
 NamesTool word words (Show database shown) = (word ≡ codes "show") × NamesShow words database shown
 NamesTool word words (CopyDb copy) = (word ≡ codes "copydb") × NamesCopy words copy
 NamesTool word words (SetSelections verbose check unseen) = (word ≡ codes "set-selections") × NamesSelections words verbose check unseen
+NamesTool word words GetSelections = (word ≡ codes "get-selections") × (words ≡ [])
 NamesTool word words (Drill count) = (word ≡ codes "drill") × NamesDrill words count
 
 -- communicate [OWNER]
@@ -116,6 +117,7 @@ NamesTool word words (Drill count) = (word ≡ codes "drill") × NamesDrill word
 -- show ..
 -- copydb SOURCE DEST ..
 -- set-selections [-v] [-c] [-u]
+-- get-selections
 -- drill N
 abbrev pub Names : List (List ℕ) → Tool → Type 0
 Names [] tool = ⊥
@@ -151,4 +153,5 @@ owner_of (Run owner frontend priority command) = owner
 owner_of (Show database shown) = codes "unknown"
 owner_of (CopyDb copy) = codes "unknown"
 owner_of (SetSelections verbose check unseen) = codes "unknown"
+owner_of GetSelections = codes "unknown"
 owner_of (Drill count) = codes "drill"

@@ -8,7 +8,7 @@ use crate::copy_words::read_copy;
 use crate::copying::{copies, read_owner};
 use crate::drill_words::read_drill;
 use crate::run_words::read_run;
-use crate::selection_words::read_selections;
+use crate::selection_words::{read_get_selections, read_selections};
 use crate::show_words::read_show;
 use crate::tool::{Tool, ToolError};
 use dc_text::names::is_name;
@@ -34,6 +34,8 @@ pub fn read_tool(alloc: Global, words: &List<Text>) -> Result<Tool, ToolError>
                 read_copy(alloc, rest)
             } else if is_word(tool, b"set-selections") {
                 read_selections(rest)
+            } else if is_word(tool, b"get-selections") {
+                read_get_selections(rest)
             } else if is_word(tool, b"drill") {
                 read_drill(rest)
             } else {

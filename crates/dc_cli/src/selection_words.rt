@@ -1,4 +1,4 @@
-// The words behind `set-selections`.
+// The words behind `set-selections` and `get-selections`.
 ghost use Rattle.std.specs.Prelude.{◌≡◌, ◌∷◌, codes};
 ghost use Rattle.dc_cli.specs.SelectionWords.{selection_option as selection_option_of};
 ghost use Rattle.dc_cli.specs.DatabaseReading.{nothing_selected, selection_next, selection_with};
@@ -93,5 +93,16 @@ pub(crate) fn read_selections(words: &[Text]) -> Result<Tool, ToolError>
             unseen: seen.unseen,
         }),
         Err(place) => Err(ToolError::Refused { word: place }),
+    }
+}
+
+// The words behind `get-selections`, which takes none.
+pub(crate) fn read_get_selections(words: &[Text]) -> Result<Tool, ToolError>
+    ensures { IsToolAnswer (codes "get-selections" ∷ words.now) result }
+{
+    if words.is_empty() {
+        Ok(Tool::GetSelections)
+    } else {
+        Err(ToolError::Refused { word: 1 })
     }
 }

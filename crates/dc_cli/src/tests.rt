@@ -176,6 +176,35 @@ fn options_of_set_selections_say_what_they_spell(rt: HostRuntime) {
 }
 
 #[test]
+fn get_selections_is_taken_alone(rt: HostRuntime) {
+    for (line, place) in [
+        ("get-selections", None),
+        ("get-selections ", Some(1)),
+        ("get-selections -", Some(1)),
+        ("get-selections --installer", Some(1)),
+        ("get-selections get-selections", Some(1)),
+        ("get-selections p", Some(1)),
+        ("get-selections p q", Some(1)),
+        ("get-selection", Some(0)),
+        ("get-selections2", Some(0)),
+        ("Get-selections", Some(0)),
+        ("get", Some(0)),
+        ("", Some(0)),
+    ] {
+        assert_eq!(rt; refused(&rt, rt.alloc(), line), place, "at {line}");
+    }
+    let none = List::new(rt.alloc());
+    match read_tool(rt.alloc(), &none) {
+        Err(ToolError::Refused { word }) => assert_eq!(rt; word, 0),
+        _ => panic!(rt; "no words name a tool"),
+    }
+    match read_tool(rt.alloc(), &words(&rt, rt.alloc(), "get-selections")) {
+        Ok(Tool::GetSelections) => {}
+        _ => panic!(rt; "another tool"),
+    }
+}
+
+#[test]
 fn words_of_drill_are_taken_or_refused_at_their_place(rt: HostRuntime) {
     for (line, place) in [
         ("drill 1", None),

@@ -45,6 +45,8 @@ pub enum Tool {
         /// Whether the questions stay unseen.
         unseen: bool,
     },
+    /// `get-selections` prints all answers as lines that `set-selections` reads (debconf-get-selections(1)).
+    GetSelections,
     /// `drill N` serves so many rounds of commands over databases of its own, and counts.
     Drill {
         count: u32,
