@@ -50,7 +50,7 @@ _dckit() {
     fi
     if [[ $command == dckit ]]; then
         if ((COMP_CWORD == 1)); then
-            _dckit_choose "run communicate loadtemplate show copydb set-selections drill" "$typed"
+            _dckit_choose "run communicate loadtemplate show copydb set-selections get-selections drill" "$typed"
             return
         fi
         command="dckit ${COMP_WORDS[1]}"
@@ -69,6 +69,7 @@ _dckit() {
             if ((place == 1)); then _dckit_choose "$(_dckit_owners)" "$typed"; else _dckit_files '*templates*' "$typed"; fi ;;
         "dckit show" | debconf-show) _dckit_choose "$(_dckit_packages) --db= --listowners --listdbs" "$typed" ;;
         "dckit copydb" | debconf-copydb) _dckit_choose "--pattern= --owner-pattern= --config=Name:" "$typed" ;;
+        debconf-get-selections) _dckit_choose "--installer --help" "$typed" ;;
         *set-selections)
             if [[ $typed == -* || $command == "dckit "* ]]; then
                 _dckit_choose "-v -c -u --verbose --checkonly --unseen" "$typed"
@@ -90,4 +91,4 @@ _dckit() {
     return 0
 }
 
-complete -F _dckit dckit debconf debconf-communicate debconf-loadtemplate debconf-show debconf-copydb debconf-set-selections debconf-escape debconf-apt-progress dpkg-preconfigure dpkg-reconfigure
+complete -F _dckit dckit debconf debconf-communicate debconf-loadtemplate debconf-show debconf-copydb debconf-set-selections debconf-get-selections debconf-escape debconf-apt-progress dpkg-preconfigure dpkg-reconfigure
