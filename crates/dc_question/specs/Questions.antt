@@ -1,6 +1,6 @@
 -- What questions say, over the layers of a store (debconf-devel(7)). A question is an item of the configuration's plan, and its
 -- template is one of the templates' plan.
-use Rattle.std.specs.Prelude.{◌≡◌, ℕ, Bool, List, Option, Some, None, Result, Ok, Err, is_some, option_and_then, if◌then◌else◌}
+use Rattle.std.specs.Prelude.{◌≡◌, ℕ, Bool, List, Option, Some, None, Result, Ok, Err, is_some, option_map, option_and_then, if◌then◌else◌}
 use Rattle.std.specs.FinMap as map
 use Rattle.dc_text.specs.Names.{is_name}
 use Rattle.dc_conf.specs.declared.plans.Plan.{Plan}
@@ -45,6 +45,10 @@ named_template layers at name = if is_name name then look layers at.templates na
 -- the kind of a question
 abbrev pub kind : List LayerState → QuestionContext → List ℕ → Option Kind
 kind layers at name = option_and_then (λ item. kind_by (template layers at item)) (question layers at name)
+
+-- its owners, in byte order
+abbrev pub owners : List LayerState → QuestionContext → List ℕ → Option (List (List ℕ))
+owners layers at name = option_map (λ item. map.keys item.owners) (question layers at name)
 
 -- whether a change of it is taken
 abbrev pub can_change : List LayerState → QuestionContext → List ℕ → Bool

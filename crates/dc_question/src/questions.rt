@@ -1,12 +1,13 @@
 // Questions over a store.
-ghost use Rattle.std.specs.Prelude.{◌≡◌, Err, length, map as each, Some, IfOk};
+ghost use Rattle.std.specs.Prelude.{◌≡◌, Err, length, map as each, option_map, Some, IfOk};
 ghost use Rattle.std.specs.Option.{option_copied};
 ghost use Rattle.dc_question.specs.Asked.{asked, HasPlans, seen};
 ghost use Rattle.dc_question.specs.declared.errors.QuestionError.TheVariants.{NoQuestion};
 ghost use Rattle.dc_conf.specs.Plans.{IsOver};
+ghost use Rattle.dc_item.specs.Owners.{owners_left};
 ghost use Rattle.dc_store.specs.Plans.{look};
 ghost use Rattle.dc_question.specs.Readings.{value_of as value_by};
-ghost use Rattle.dc_question.specs.Questions.{question as question_of, template as template_of, exists as exists_of, kind as kind_of, can_change as can_change_of, value as value_of, field as field_of, expanded_field, choices as choices_of, flag as flag_of, read, Answers};
+ghost use Rattle.dc_question.specs.Questions.{question as question_of, template as template_of, exists as exists_of, kind as kind_of, owners as owners_of, can_change as can_change_of, value as value_of, field as field_of, expanded_field, choices as choices_of, flag as flag_of, read, Answers};
 
 use crate::choices::{ChoicePair, choice_pair};
 use crate::context::QuestionContext;
@@ -14,7 +15,7 @@ use crate::errors::QuestionError;
 use crate::fields::{field, localised};
 use crate::values::{default_value, kind};
 use dc_conf::plans::Plan;
-use dc_item::Item;
+use dc_item::{Item, Owners};
 use dc_layer::Layer;
 use dc_store::Store;
 use dc_template::Kind;
@@ -70,6 +71,14 @@ impl<'q> Questions<'q> {
         ensures { result ≡ seen (asked state self.now) kind_of name.now }
     {
         kind(self.template(self.question(name)?))
+    }
+
+    /// The owners of the question, in byte order: `None` where there is no such question. To go over them takes no memory.
+    pub fn owners(&self, name: &Name) -> Option<Owners<'_>>
+        requires { HasPlans self.now }
+        ensures { option_map owners_left result ≡ seen (asked state self.now) owners_of name.now }
+    {
+        Some(self.question(name)?.owners())
     }
 
     /// Whether a change of the question is taken: the topmost layer that has it is writable, or one above takes a question of its name

@@ -28,7 +28,7 @@ use Rattle.dc_session.specs.declared.stepped.StepError.{StepError}
 use Rattle.dc_session.specs.declared.stepped.StepError.TheVariants as step
 use Rattle.dc_session.proofs.TerminalLaws.{CountsBreak, AsksNobody, breaks_count, course_counts, course_nobody, never_fails}
 use Rattle.dc_cli.specs.declared.tool.Tool.{Tool}
-use Rattle.dc_cli.specs.declared.tool.Tool.TheVariants.{Communicate, LoadTemplate, Run, Show, CopyDb, SetSelections, Drill}
+use Rattle.dc_cli.specs.declared.tool.Tool.TheVariants.{Communicate, LoadTemplate, Run, Show, CopyDb, SetSelections, GetSelections, Drill}
 use Rattle.dc_run.specs.declared.outcome.End.{End}
 use Rattle.dc_run.specs.declared.outcome.End.TheVariants as end
 use Rattle.dc_run.specs.declared.outcome.Outcome.{Outcome}
@@ -358,6 +358,7 @@ tool_links (CopyDb copy) state roots settings now answer said left uses =
     copy_links roots.copy (begun (CopyDb copy) state roots settings) state.world.links now state.code answer said left uses
 tool_links (SetSelections verbose check unseen) state roots settings now answer said left uses =
     taken_links (record { verbose = verbose; check = check; unseen = unseen }) (begun (SetSelections verbose check unseen) state roots settings) state.world.links now state.code answer left uses.0 uses.1
+tool_links GetSelections state roots settings now answer said left uses = printed_links _ answer.ended state.world.links now uses.prints uses.child_is
 tool_links (Drill count) state roots settings now answer said left uses = made_links uses.0.result answer.ended state.world.links now uses.0.prints uses.0.child_is
 
 -- ---- the end of the run
@@ -518,6 +519,8 @@ tool_program (Show database shown) roots start before now code answer said left 
 tool_program (CopyDb copy) roots start before now code answer said left uses = copy_program roots.copy start before now code answer said left uses
 tool_program (SetSelections verbose check unseen) roots start before now code answer said left uses =
     rw uses.0.ended_is (taken_start uses.0.ended _ _ (ap (λ (c : LinkState). c.program.failures) uses.1))
+tool_program GetSelections roots start before now code answer said left uses =
+    subst (λ (c : LinkState). StartCounts answer.ended before.child.program.failures c.program.failures) (sym uses.child_is) (printed_start _ answer.ended before.io now.io before.child.program.failures uses.prints)
 tool_program (Drill count) roots start before now code answer said left uses =
     subst (λ (c : LinkState). StartCounts answer.ended before.child.program.failures c.program.failures) (sym uses.0.child_is) (made_start uses.0.result answer.ended before.io now.io before.child.program.failures uses.0.prints)
 

@@ -87,7 +87,7 @@ use Rattle.dc_run.specs.declared.outcome.ToolAnswer.{ToolAnswer}
 use Rattle.dc_run.specs.declared.outcome.ToolEnd.{ToolEnd}
 use Rattle.dc_run.specs.declared.outcome.ToolEnd.TheVariants as tool
 use Rattle.dc_cli.specs.declared.tool.Tool.{Tool}
-use Rattle.dc_cli.specs.declared.tool.Tool.TheVariants.{Communicate, LoadTemplate, Run, Show, CopyDb, SetSelections, Drill}
+use Rattle.dc_cli.specs.declared.tool.Tool.TheVariants.{Communicate, LoadTemplate, Run, Show, CopyDb, SetSelections, GetSelections, Drill}
 use Rattle.dc_run.proofs.RunLemmas.{ends_so}
 use Rattle.dc_run.specs.Crashes.{AreOfConfiguration, KeepsEachPath}
 
@@ -428,6 +428,8 @@ tool_keeps (Show database shown) roots start old new before given told left uses
 tool_keeps (CopyDb copy) roots start old new before given told left uses = copy_keeps roots.copy start old new before given told left uses
 tool_keeps (SetSelections verbose check unseen) roots start old new before given told left uses =
     taken_keeps (not check) (record { verbose = verbose; check = check; unseen = unseen }) start old.io new.io before given left uses.0
+tool_keeps GetSelections roots start old new before given told left uses =
+    record { disk = ap (λ (l : Resources). l.files.view.disk) uses.left_is; specs = λ saves is. ap (λ (l : Resources). specs_in l.layers) uses.left_is }
 tool_keeps (Drill count) roots start old new before given told left uses =
     record { disk = ap (λ (l : Resources). l.files.view.disk) uses.0.left_is; specs = λ saves is. cc }
 

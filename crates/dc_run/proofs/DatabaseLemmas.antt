@@ -15,7 +15,7 @@ use Rattle.dc_cli.specs.declared.tool.CopyWords.{CopyWords}
 use Rattle.dc_cli.specs.declared.tool.PlacedWord.{PlacedWord}
 use Rattle.dc_cli.specs.declared.tool.Shown.{Shown}
 use Rattle.dc_cli.specs.declared.tool.Tool.{Tool}
-use Rattle.dc_cli.specs.declared.tool.Tool.TheVariants.{Communicate, LoadTemplate, Run, Show, CopyDb, SetSelections, Drill}
+use Rattle.dc_cli.specs.declared.tool.Tool.TheVariants.{Communicate, LoadTemplate, Run, Show, CopyDb, SetSelections, GetSelections, Drill}
 use Rattle.dc_run.specs.Inside.{AreApartIn, IsResolvedFor, IsUnresolvedFor, overlap_in, unknown_end}
 use Rattle.dc_run.specs.Starting.{IsSomeConfiguration, first_unknown, is_known, overlaps, plan_in, roots, wrong_database}
 use Rattle.dc_run.specs.declared.outcome.End.{End}
@@ -137,6 +137,7 @@ unknown_ends (Show None shown) conf root first = inl refl
 unknown_ends (Show (Some database) shown) conf root first = show_end_at conf database shown root first
 unknown_ends (CopyDb copy) conf root first = copy_end_at conf copy root first
 unknown_ends (SetSelections verbose check unseen) conf root first = inl refl
+unknown_ends GetSelections conf root first = inl refl
 unknown_ends (Drill count) conf root first = inl refl
 
 -- ---- roots that are known
@@ -167,6 +168,7 @@ wrong_is (Show None shown) conf plans known are = refl
 wrong_is (Show (Some database) shown) conf plans known are = known_then conf database [] known.0
 wrong_is (CopyDb copy) conf plans known are = copy_wrong conf copy known.0 known.1.1.0 ∙ ap (overlap_in (CopyDb copy)) (sym are)
 wrong_is (SetSelections verbose check unseen) conf plans known are = refl
+wrong_is GetSelections conf plans known are = refl
 wrong_is (Drill count) conf plans known are = refl
 
 no_overlap : (b : Bool) (place : ℕ) → cond b None (Some place) ≡ None → b ≡ true
@@ -183,6 +185,7 @@ apart_in (CopyDb copy) conf plans are none disjoint =
     subst (AreApartIn (CopyDb copy)) (sym are) (no_overlap (are_disjoint (plan_in (CopyDb copy) conf copy.source.word) (plan_in (CopyDb copy) conf copy.dest.word)) copy.dest.place
     (subst (λ all. overlap_in (CopyDb copy) all ≡ None) are none))
 apart_in (SetSelections verbose check unseen) conf plans are none disjoint = disjoint refl
+apart_in GetSelections conf plans are none disjoint = disjoint refl
 apart_in (Drill count) conf plans are none disjoint = disjoint refl
 
 module _ (used : Tool) (conf : Configuration) (all : List (List ℕ)) (are : all ≡ roots used conf) where

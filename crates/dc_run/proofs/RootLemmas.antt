@@ -6,7 +6,7 @@ use Rattle.dc_conf.specs.declared.plans.Plan.{Plan}
 use Rattle.dc_layer.specs.Patterns.{Sought}
 use Rattle.dc_cli.specs.declared.tool.CopyWords.{CopyWords}
 use Rattle.dc_cli.specs.declared.tool.Tool.{Tool}
-use Rattle.dc_cli.specs.declared.tool.Tool.TheVariants.{Communicate, LoadTemplate, Run, Show, CopyDb, SetSelections, Drill}
+use Rattle.dc_cli.specs.declared.tool.Tool.TheVariants.{Communicate, LoadTemplate, Run, Show, CopyDb, SetSelections, GetSelections, Drill}
 use Rattle.dc_run.specs.Inside.{copy_by}
 use Rattle.dc_run.specs.Starting.{plan_in, roots, source_of}
 
@@ -32,6 +32,7 @@ copy_taken (CopyDb other) copy conf plans front dest by_name by_owner is are tak
     let last = last_is front (plan other.source.word ∷ plan conf.templates ∷ []) dest (plan other.dest.word) (sym taken ∙ are) in
     ap (λ (into : Plan). Some (record { dest = into; by_name = by_name; by_owner = by_owner })) last.0
 copy_taken (SetSelections verbose check unseen) copy conf plans front dest by_name by_owner is are taken = absurd (cc)
+copy_taken GetSelections copy conf plans front dest by_name by_owner is are taken = absurd (cc)
 copy_taken (Drill count) copy conf plans front dest by_name by_owner is are taken = absurd (cc)
 
 two_last : (config templates : Plan) (plans one two : List Plan) (first second : Plan) → plans ≡ config ∷ templates ∷ [] → plans ≡ one ++ second ∷ [] → one ≡ two ++ first ∷ [] → (first ≡ config) × (second ≡ templates)
@@ -54,4 +55,5 @@ two_taken (Run owner frontend priority command) conf plans one two config templa
 two_taken (Show database shown) conf plans one two config templates by_name by_owner none are taken next = let both = two_last _ _ plans one two config templates are taken next in (both.0, both.1, refl)
 two_taken (CopyDb copy) conf plans one two config templates by_name by_owner none are taken next = absurd (none copy refl)
 two_taken (SetSelections verbose check unseen) conf plans one two config templates by_name by_owner none are taken next = let both = two_last _ _ plans one two config templates are taken next in (both.0, both.1, refl)
+two_taken GetSelections conf plans one two config templates by_name by_owner none are taken next = let both = two_last _ _ plans one two config templates are taken next in (both.0, both.1, refl)
 two_taken (Drill count) conf plans one two config templates by_name by_owner none are taken next = let both = two_last _ _ plans one two config templates are taken next in (both.0, both.1, refl)

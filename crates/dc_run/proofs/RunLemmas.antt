@@ -16,7 +16,7 @@ use Rattle.dc_session.specs.declared.stepped.StepError.{StepError}
 use Rattle.dc_session.specs.declared.stepped.StepError.TheVariants as step
 use Rattle.dc_cli.specs.Tools.{AreRefusedAt, IsToolWords, Names, NamesTool, IsCommand, owner_of}
 use Rattle.dc_cli.specs.declared.tool.Tool.{Tool}
-use Rattle.dc_cli.specs.declared.tool.Tool.TheVariants.{Communicate, LoadTemplate, Run, Show, CopyDb, SetSelections, Drill}
+use Rattle.dc_cli.specs.declared.tool.Tool.TheVariants.{Communicate, LoadTemplate, Run, Show, CopyDb, SetSelections, GetSelections, Drill}
 use Rattle.dc_cli.specs.declared.tool.CopyWords.{CopyWords}
 use Rattle.dc_cli.specs.declared.tool.PlacedWord.{PlacedWord}
 use Rattle.dc_cli.specs.declared.tool.Shown.{Shown}
@@ -29,12 +29,12 @@ use Rattle.dc_run.specs.declared.starting.Roots.{Roots}
 use Rattle.dc_run.specs.EndLines.{end_line, HasSaid}
 use Rattle.dc_run.specs.Ends.{status_of, tool_end_of, comes_to_save}
 use Rattle.dc_run.specs.Headline.{HasRunTool, HasRunWords}
-use Rattle.dc_run.specs.Jobs.{HasCommunicated, CopiesBy, refused_status, shown_text}
+use Rattle.dc_run.specs.Jobs.{HasCommunicated, CopiesBy, answers_said, refused_status, shown_text}
 use Rattle.dc_run.specs.declared.starting.CopyRoots.{CopyRoots}
 use Rattle.dc_run.specs.Rounds.{Whole, Round, HasDone}
 use Rattle.dc_teletype.specs.TerminalLines.{TypeAhead}
 use Rattle.dc_run.specs.Saves.{Save, Commits}
-use Rattle.dc_run.specs.Inside.{HasCommand, HasLoadedOver, HasServedProgram, HasPrinted, DrillsOver, HasTakenOver, HasDrilledOver, CopiesOver, context_by}
+use Rattle.dc_run.specs.Inside.{HasCommand, HasLoadedOver, HasServedProgram, HasPrinted, HasPrintedAnswers, DrillsOver, HasTakenOver, HasDrilledOver, CopiesOver, context_by}
 use Rattle.dc_run.specs.Running.{HasRunProgram, Awaits}
 use Rattle.dc_run.specs.Starting.{EndsBefore, HasStarted, begun, chosen, chosen_frontend, chosen_priority, keeps_changes, resources_for, session_at}
 use Rattle.dc_run.specs.World.{Links, Stock, World, RunState, before_rounds, links_of, run_state, stock_of}
@@ -200,6 +200,21 @@ module _ (roots : Roots) (settings : Settings) (io new child err new_err : LinkS
         code_is = refl;
       }
 
+module _ (roots : Roots) (settings : Settings) (io new child err new_err : LinkState) (files : FilesState) (layers left_layers : List LayerState) (ahead : TypeAhead) (before : ℕ) (answer : ToolAnswer) where
+  -- answers were printed
+  pub was_said : left_layers ≡ layers → HasPrintedAnswers (answers_said layers (context_by roots settings.lang)) io new err new_err before answer
+      → HasDone GetSelections roots settings (run_state io child err files layers ahead before) (run_state new child new_err files left_layers ahead answer.last_code) answer []
+  was_said same printed = record {
+    told = printed.told.said;
+    left = resources_in (begun GetSelections (run_state io child err files layers ahead before) roots settings);
+    uses = record { prints = printed.prints; tells = printed.told.tells; child_is = refl; left_is = refl; code_is = printed.code_is; waits = printed.waits };
+    stock_is = λ i. stock_of files (same i);
+    said = printed.told.telling;
+    ahead_is = refl;
+    saves_are = refl;
+    code_is = refl;
+  }
+
 module _ (roots : Roots) (settings : Settings) (io new child err : LinkState) (files : FilesState) (layers left_layers : List LayerState) (ahead : TypeAhead) (before : ℕ) (answer : ToolAnswer) where
   -- the numbers of a drill were printed
   pub was_drilled : (count : ℕ) → HasDrilledOver count roots settings layers left_layers io new before answer
@@ -259,6 +274,7 @@ command_of word words (Run owner frontend priority command) named = some_words c
 command_of word words (Show database shown) named = tt
 command_of word words (CopyDb copy) named = tt
 command_of word words (SetSelections verbose check unseen) named = tt
+command_of word words GetSelections named = tt
 command_of word words (Drill count) named = tt
 
 -- the command that words name has a word

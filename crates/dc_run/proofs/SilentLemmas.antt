@@ -19,7 +19,7 @@ use Rattle.dc_session.specs.declared.stepped.StepError.{StepError}
 use Rattle.dc_session.specs.declared.stepped.StepError.TheVariants as step
 use Rattle.dc_session.specs.declared.stepped.Stepped.{Stepped}
 use Rattle.dc_cli.specs.declared.tool.Tool.{Tool}
-use Rattle.dc_cli.specs.declared.tool.Tool.TheVariants.{Communicate, LoadTemplate, Run, Show, CopyDb, SetSelections, Drill}
+use Rattle.dc_cli.specs.declared.tool.Tool.TheVariants.{Communicate, LoadTemplate, Run, Show, CopyDb, SetSelections, GetSelections, Drill}
 use Rattle.dc_run.specs.Jobs.{CopiesBy, Uses}
 use Rattle.dc_run.specs.declared.starting.CopyRoots.{CopyRoots}
 use Rattle.dc_run.specs.declared.starting.Roots.{Roots}
@@ -123,4 +123,5 @@ tool_silent (Run owner frontend priority command) quiet roots start old new befo
 tool_silent (Show database shown) quiet roots start old new before given told left uses = ap (λ (l : Resources). l.err) uses.0.left_is
 tool_silent (CopyDb copy) quiet roots start old new before given told left uses = copy_silent roots.copy start old new before given told left uses
 tool_silent (SetSelections verbose check unseen) quiet roots start old new before given told left uses = absurd quiet
+tool_silent GetSelections quiet roots start old new before given told left uses = ap (λ (l : Resources). l.err) uses.left_is
 tool_silent (Drill count) quiet roots start old new before given told left uses = ap (λ (l : Resources). l.err) uses.0.left_is

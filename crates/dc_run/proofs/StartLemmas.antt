@@ -20,7 +20,7 @@ use Rattle.dc_layer.specs.State.{LayerState}
 use Rattle.dc_save.specs.declared.loading.LoadError.{LoadError}
 use Rattle.dc_shelf.specs.Shelves.{LoadsAll, all_patterns, all_set_up}
 use Rattle.dc_cli.specs.declared.tool.Tool.{Tool}
-use Rattle.dc_cli.specs.declared.tool.Tool.TheVariants.{Communicate, LoadTemplate, Run, Show, CopyDb, SetSelections, Drill}
+use Rattle.dc_cli.specs.declared.tool.Tool.TheVariants.{Communicate, LoadTemplate, Run, Show, CopyDb, SetSelections, GetSelections, Drill}
 use Rattle.dc_run.specs.Inside.{AreApartIn, ArePatternsOf, IsResolvedFor, IsUnbuilt, copy_by}
 use Rattle.dc_run.specs.Starting.{AreApart, EndsBefore, ReadsConf, HasLoaded, HasReadConf, HasStarted, IsConfiguration, IsCopyOver, IsFit, are_patterns, conf_read, conf_text, copy_roots, databases_of, has_files, pattern_words, plan_in, roots, source_of}
 use Rattle.dc_run.specs.Ends.{end_of_conf}
@@ -82,6 +82,7 @@ own_text (Run owner frontend priority command) disk path text answer none reads 
 own_text (Show database shown) disk path text answer none reads = absurd (cc)
 own_text (CopyDb copy) disk path text answer none reads = absurd (cc)
 own_text (SetSelections verbose check unseen) disk path text answer none reads = absurd (cc)
+own_text GetSelections disk path text answer none reads = absurd (cc)
 
 -- and no file is read
 pub unread_conf : (used : Tool) (path : List ℕ) (old : FilesState) → has_files used ≡ false → HasReadConf used path old old
@@ -127,6 +128,7 @@ copied (Run owner frontend priority command) conf by_name by_owner are = refl
 copied (Show database shown) conf by_name by_owner are = refl
 copied (CopyDb copy) conf by_name by_owner are = cc
 copied (SetSelections verbose check unseen) conf by_name by_owner are = refl
+copied GetSelections conf by_name by_owner are = refl
 copied (Drill count) conf by_name by_owner are = refl
 
 -- the roots of a tool, by these patterns
@@ -167,6 +169,7 @@ apart_by (CopyDb copy) conf by_name by_owner taken count are over apart =
     subst (λ (made : Option CopyRoots). IsCopyOver made taken.config count) (sym are.copy_is)
     (over.1.1.0, ap (λ plan. are_disjoint plan (plan_in (CopyDb copy) conf copy.dest.word)) are.config_is ∙ apart)
 apart_by (SetSelections verbose check unseen) conf by_name by_owner taken count are over apart = same_disjoint _ _ _ _ are.config_is are.templates_is apart
+apart_by GetSelections conf by_name by_owner taken count are over apart = same_disjoint _ _ _ _ are.config_is are.templates_is apart
 apart_by (Drill questions) conf by_name by_owner taken count are over apart = same_disjoint _ _ _ _ are.config_is are.templates_is apart
 
 pub apart_used : (used : Tool) (conf : Configuration) (resolved : Resolved) (by_name by_owner : Option Sought) (taken : Roots) (count : ℕ) → AreRootsOf used conf by_name by_owner taken → IsResolvedFor used conf resolved

@@ -32,8 +32,9 @@ use Rattle.dc_run.specs.declared.serving.RunAsking.{RunAsking}
 use Rattle.dc_cli.specs.declared.tool.Tool.{Tool}
 use Rattle.dc_cli.specs.declared.tool.Tool.TheVariants.{Run, Show, CopyDb}
 use Rattle.dc_cli.specs.declared.tool.PlacedWord.{PlacedWord}
-use Rattle.dc_run.specs.Jobs.{Copies, Prints, PrintsMade, copy_status, refusal_lines, refused_status, selections_end}
+use Rattle.dc_run.specs.Jobs.{Copies, Prints, PrintsMade, TellsUnsaid, told_status, refusal_lines, refused_status, selections_end}
 use Rattle.dc_drill.specs.Drilling.{Drills}
+use Rattle.dc_dump.specs.declared.saying.Said.{Said}
 use Rattle.dc_preseed.specs.Selecting.{HasSelected, selections_over}
 use Rattle.dc_preseed.specs.declared.selected.Choices.{Choices}
 use Rattle.dc_text.specs.declared.memory.OutOfMemory.{OutOfMemory as NoMemory}
@@ -240,10 +241,29 @@ CopiesOver roots layers left old new before answer =
 -- the answer of a copy that refused these items, each of which is told, or that ran out of memory
 abbrev pub TellsCopied : {E : Type 0} → Result (List (List ℕ)) E → LinkState → LinkState → ℕ → ToolAnswer → Type 0
 TellsCopied (Ok refused) old new before answer =
-    HasSaid (refusal_lines refused) old new × (answer ≡ record { ended = tool.Done; is_started = false; last_code = before; status = copy_status refused })
+    HasSaid (refusal_lines refused) old new × (answer ≡ record { ended = tool.Done; is_started = false; last_code = before; status = told_status refused })
 TellsCopied (Err error) old new before answer = (new ≡ old) × (answer ≡ record { ended = tool.OutOfMemory; is_started = false; last_code = before; status = 0 })
 
--- ---- set-selections and drill
+-- ---- set-selections, get-selections and drill
+
+-- it was told which questions can't be said, behind a text whose printing ended so
+pub record HasToldUnsaid (names : List (List ℕ)) (ended : ToolEnd) (status : ℕ) (err new_err : LinkState) : Type 0 where
+  pub said : List ℕ
+  pub tells : TellsUnsaid names ended said status
+  pub telling : HasSaid said err new_err
+
+-- the text was printed, or that failed, and it was told what can't be said
+pub record HasPrintedAnswers (answers : Said) (old new err new_err : LinkState) (before : ℕ) (answer : ToolAnswer) : Type 0 where
+  pub prints : Prints answers.text old new answer.ended
+  pub told : HasToldUnsaid answers.left_out answer.ended answer.status err new_err
+  pub code_is : answer.last_code ≡ before
+  pub waits : answer.is_started ≡ false
+
+-- the answer of a text that was made and printed, or for which there was no memory
+abbrev pub PrintsAnswers : {E : Type 0} → Result Said E → LinkState → LinkState → LinkState → LinkState → ℕ → ToolAnswer → Type 0
+PrintsAnswers (Ok answers) old new err new_err before answer = HasPrintedAnswers answers old new err new_err before answer
+PrintsAnswers (Err error) old new err new_err before answer =
+    (new ≡ old) × (new_err ≡ err) × (answer ≡ record { ended = tool.OutOfMemory; is_started = false; last_code = before; status = 0 })
 
 -- the selections that came on the link were taken into these layers, and told on standard error
 pub record HasTakenOver (choices : Choices) (at : QuestionContext) (layers left : List LayerState) (old new err new_err : LinkState)

@@ -1,7 +1,7 @@
 -- What each tool does, from the state in which its databases were loaded.
-use Rattle.std.specs.Prelude.{◌≡◌, ◌⊎◌, ℕ, Bool, false, if◌then◌else◌, Result, List, [], ◌∷◌, ◌++◌, map as each, Option, Some, None, Ok, Err, codes}
+use Rattle.std.specs.Prelude.{◌≡◌, ◌⊎◌, ℕ, Bool, false, if◌then◌else◌, Result, List, [], ◌∷◌, ◌++◌, Option, Some, None, Ok, Err, codes}
 use Rattle.std.specs.List.{flat_map}
-use Rattle.dc_text.specs.Lines.{text_of}
+use Rattle.dc_text.specs.Ascii.{newline}
 use Rattle.dc_conf.specs.Configuration.{Configuration}
 use Rattle.dc_layer.specs.State.{LayerState}
 use Rattle.dc_outside.specs.LinkCalls.{Sends}
@@ -18,13 +18,15 @@ use Rattle.dc_text.specs.declared.memory.OutOfMemory.{OutOfMemory as NoMemory}
 use Rattle.dc_preseed.specs.Selecting.{IsSelected, SelectorState, selections_over}
 use Rattle.dc_preseed.specs.declared.selected.Choices.{Choices}
 use Rattle.dc_drill.specs.Drilling.{Drills}
+use Rattle.dc_dump.specs.Saying.{said_of}
+use Rattle.dc_dump.specs.declared.saying.Said.{Said}
 use Rattle.dc_session.specs.Serving.{IsServed, Resources, resources_in}
 use Rattle.dc_outside.specs.State.{LinkState}
 use Rattle.dc_session.specs.SessionState.{SessionState}
 use Rattle.dc_session.specs.declared.stepped.StepError.{StepError}
 use Rattle.dc_run.specs.declared.outcome.ToolAnswer.{ToolAnswer}
 use Rattle.dc_cli.specs.declared.tool.Tool.{Tool}
-use Rattle.dc_cli.specs.declared.tool.Tool.TheVariants.{Communicate, LoadTemplate, Run, Show, CopyDb, SetSelections, Drill}
+use Rattle.dc_cli.specs.declared.tool.Tool.TheVariants.{Communicate, LoadTemplate, Run, Show, CopyDb, SetSelections, GetSelections, Drill}
 use Rattle.dc_cli.specs.declared.tool.Shown.{Shown}
 use Rattle.dc_cli.specs.declared.tool.Shown.TheVariants.{Questions, Owners, Databases}
 use Rattle.dc_run.specs.declared.outcome.ToolEnd.{ToolEnd}
@@ -88,20 +90,24 @@ abbrev pub copying : SessionState → CopyRoots → Copying
 copying start copy =
     record { source = start.at.config; dest = copy.dest; templates = start.at.templates; by_name = copy.by_name; by_owner = copy.by_owner }
 
+-- a line for each name, with these words behind it
+abbrev pub named_lines : List ℕ → List (List ℕ) → List ℕ
+named_lines words names = flat_map (λ name. name ++ words) names
+
 -- a line for each item that was refused
 abbrev pub refusal_lines : List (List ℕ) → List ℕ
-refusal_lines names = text_of (each (λ name. name ++ codes " can't be changed") names)
+refusal_lines names = named_lines (codes " can't be changed" ++ newline ∷ []) names
 
--- the status is 1 where an item was refused
-abbrev pub copy_status : List (List ℕ) → ℕ
-copy_status [] = 0
-copy_status (name ∷ names) = 1
+-- the status is 1 where an item was told of
+abbrev pub told_status : List (List ℕ) → ℕ
+told_status [] = 0
+told_status (name ∷ names) = 1
 
 -- The items were copied, and it was told which were refused; or memory ran out.
 abbrev pub Copies : Copying → List LayerState → List LayerState → ToolEnd → List ℕ → ℕ → Type 0
 Copies copy old new tool.Done said status =
     (refused : List (List ℕ)) × (store : StoreState) × IsCopied copy (stored old []) store refused × (new ≡ store.layers)
-    × (said ≡ refusal_lines refused) × (status ≡ copy_status refused)
+    × (said ≡ refusal_lines refused) × (status ≡ told_status refused)
 Copies copy old new tool.OutOfMemory said status = said ≡ []
 Copies copy old new ended said status = ⊥
 
@@ -144,6 +150,30 @@ pub record HasTaken (choices : Choices) (start : SessionState) (old new : LinkSt
   pub status_is : answer.status ≡ refused_status state.refused
   pub waits : answer.is_started ≡ false
 
+-- ---- get-selections
+
+-- what is said of all questions of these layers
+abbrev pub answers_said : List LayerState → QuestionContext → Said
+answers_said layers at = said_of layers at (names layers at.config)
+
+-- a line for each question that can't be said
+abbrev pub unsaid_lines : List (List ℕ) → List ℕ
+unsaid_lines names = named_lines (codes " can't be said" ++ newline ∷ []) names
+
+-- It was told which questions can't be said, and the status is 1 where there is one. Where memory ran out, nothing was told.
+abbrev pub TellsUnsaid : List (List ℕ) → ToolEnd → List ℕ → ℕ → Type 0
+TellsUnsaid names tool.OutOfMemory said status = said ≡ []
+TellsUnsaid names ended said status = (said ≡ unsaid_lines names) × (status ≡ told_status names)
+
+-- the answers of all questions were printed, and it was told which can't be said; nothing else was done
+pub record HasSaidAnswers (start : SessionState) (old new : Links) (before : ℕ) (answer : ToolAnswer) (said : List ℕ) (left : Resources) : Type 0 where
+  pub prints : Prints (answers_said start.store.layers start.at).text old.io new.io answer.ended
+  pub tells : TellsUnsaid (answers_said start.store.layers start.at).left_out answer.ended said answer.status
+  pub child_is : new.child ≡ old.child
+  pub left_is : left ≡ resources_in start
+  pub code_is : answer.last_code ≡ before
+  pub waits : answer.is_started ≡ false
+
 -- ---- drill
 
 -- the text was printed in one write; or there was none, for want of memory
@@ -175,4 +205,5 @@ Uses (Show database shown) roots start old new before answer said left = HasShow
 Uses (CopyDb copy) roots start old new before answer said left = CopiesBy roots.copy start old new before answer said left
 Uses (SetSelections verbose check unseen) roots start old new before answer said left =
     HasTaken (record { verbose = verbose; check = check; unseen = unseen }) start old.io new.io before answer left × (new.child ≡ old.child) × (said ≡ [])
+Uses GetSelections roots start old new before answer said left = HasSaidAnswers start old new before answer said left
 Uses (Drill count) roots start old new before answer said left = HasDrilled count start old new before answer left × (said ≡ [])

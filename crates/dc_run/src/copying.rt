@@ -2,7 +2,7 @@
 ghost use Rattle.std.specs.Prelude.{◌≡◌, length, map as each, true};
 ghost use Rattle.dc_conf.specs.Plans.{IsOver, are_disjoint};
 ghost use Rattle.dc_run.specs.Inside.{CopiesOver, HasCopiedOver, TellsCopied, copying_by};
-ghost use Rattle.dc_run.specs.Jobs.{copy_status};
+ghost use Rattle.dc_run.specs.Jobs.{told_status};
 ghost use Rattle.dc_run.specs.Starting.{AreOver, IsCopyOver};
 
 use crate::outcome::{ToolAnswer, ToolEnd};
@@ -72,7 +72,7 @@ fn answer_of<E: Link>(err: &mut E, copied: Mem<List<Name>>, last_code: u8) -> To
                 ended: ToolEnd::Done,
                 is_started: false,
                 last_code,
-                status: status_of_refused(refused.as_slice()),
+                status: status_of_told(refused.as_slice()),
             }
         }
         Err(_) => ToolAnswer {
@@ -84,8 +84,9 @@ fn answer_of<E: Link>(err: &mut E, copied: Mem<List<Name>>, last_code: u8) -> To
     }
 }
 
-fn status_of_refused(names: &[Name]) -> u8
-    ensures { result ≡ copy_status names.now }
+/// The status of a tool that tells of these, which is 1 where there is one.
+pub fn status_of_told(names: &[Name]) -> u8
+    ensures { result ≡ told_status names.now }
 {
     if names.is_empty() { 0 } else { 1 }
 }

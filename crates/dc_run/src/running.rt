@@ -16,6 +16,7 @@ use crate::drilling::drill_layers;
 use crate::finishing::finish_used;
 use crate::loading_templates::load_template_files;
 use crate::outcome::{End, Outcome, ToolAnswer, end_unwaited, outcome_at};
+use crate::saying_answers::say_answers;
 use crate::selecting::select;
 use crate::serving::{RunAsking, communicate, run_program};
 use crate::settings::Settings;
@@ -38,7 +39,8 @@ use std::alloc::Global;
 /// before it reads more. `loadtemplate OWNER FILE ...` loads the templates of files, as debconf-loadtemplate(1) does. `run COMMAND` starts a
 /// program behind the link `child` and serves its commands, as debconf(1) does, with the user asked on `io`. `show` prints what a database holds,
 /// as debconf-show(1) does, and `copydb` copies items from one database into another, as debconf-copydb(1) does. `set-selections` answers questions
-/// before they are asked, as debconf-set-selections(1) does, by the lines that come on the link. Then what changed in the layers is saved, and the
+/// before they are asked, as debconf-set-selections(1) does, by the lines that come on the link, and `get-selections` prints such lines of all answers, as
+/// debconf-get-selections(1) does. Then what changed in the layers is saved, and the
 /// program waited for. `drill N` serves many valid commands over databases of its own, which are nowhere kept, and counts them. An end other
 /// than `Done` is told on `err`.
 pub fn run_words<L: Link, E: Link, C: Child, F: Files>(
@@ -198,6 +200,9 @@ fn use_tool<L: Link, E: Link, C: Child, F: Files>(
                 used,
                 last_code,
             )
+        }
+        Tool::GetSelections => {
+            say_answers(alloc, roots, &settings.lang, io, err, used, last_code)
         }
         Tool::Drill { count } => {
             drill_layers(alloc, *count, roots, settings, io, used, last_code)

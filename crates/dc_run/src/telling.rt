@@ -4,7 +4,7 @@ ghost use Rattle.dc_text.specs.Ascii.{newline};
 ghost use Rattle.dc_session.specs.Refusals.{refusal};
 ghost use Rattle.dc_run.specs.EndLines.{end_line, place_text, HasSaid};
 ghost use Rattle.dc_run.specs.Inside.{end_text, told_line};
-ghost use Rattle.dc_run.specs.Jobs.{refusal_lines};
+ghost use Rattle.dc_run.specs.Jobs.{named_lines, refusal_lines, unsaid_lines};
 ghost use Rattle.dc_run.specs.Kinds.{kind_word as kind_word_of};
 
 use crate::outcome::{End, PatternAt};
@@ -123,12 +123,26 @@ pub fn tell_file<E: Link>(err: &mut E, path: &Text, ended: &FileEnd)
 pub fn tell_refused<E: Link>(err: &mut E, names: &[Name])
     ensures { HasSaid (refusal_lines names.now) (E.link err.old) (E.link err.new) }
 {
+    tell_names(err, names, b" can't be changed\n")
+}
+
+/// Tells of the questions that can't be said in lines of selections, each in a line.
+pub fn tell_unsaid<E: Link>(err: &mut E, names: &[Name])
+    ensures { HasSaid (unsaid_lines names.now) (E.link err.old) (E.link err.new) }
+{
+    tell_names(err, names, b" can't be said\n")
+}
+
+// Says each name, and behind it these words.
+fn tell_names<E: Link>(err: &mut E, names: &[Name], words: &[u8])
+    ensures { HasSaid (named_lines words.now names.now) (E.link err.old) (E.link err.new) }
+{
     match names {
         [] => {}
         [name, others @ ..] => {
             say(err, name.bytes());
-            say(err, b" can't be changed\n");
-            tell_refused(err, others)
+            say(err, words);
+            tell_names(err, others, words)
         }
     }
 }

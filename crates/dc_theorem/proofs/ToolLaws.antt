@@ -1,4 +1,4 @@
--- What comes in determines a run of `show` and one of `copydb`.
+-- What comes in determines a run of `show`, one of `get-selections` and one of `copydb`.
 use Rattle.std.proofs.Common.{◌≡◌, ℕ, List, [], ◌∷◌, ap, sym, subst, ◌∙◌, refl, Option, Some, None}
 use Rattle.std.specs.Prelude.{◌≤◌}
 use Rattle.dc_layer.specs.State.{LayerState}
@@ -11,8 +11,9 @@ use Rattle.dc_session.specs.Serving.{Resources}
 use Rattle.dc_session.specs.SessionState.{SessionState}
 use Rattle.dc_store.specs.Plans.{StoreState, stored}
 use Rattle.dc_tools.specs.Copying.{Copying, after_copies, chosen, refused_names}
+use Rattle.dc_dump.specs.declared.saying.Said.{Said}
 use Rattle.dc_run.specs.Ends.{status_of}
-use Rattle.dc_run.specs.Jobs.{Prints, Copies, CopiesBy, HasCopied, copying, copy_status, refusal_lines, shown_text}
+use Rattle.dc_run.specs.Jobs.{Prints, Copies, CopiesBy, HasCopied, TellsUnsaid, answers_said, copying, told_status, refusal_lines, shown_text, unsaid_lines}
 use Rattle.dc_run.specs.OneRound.{HasUsed}
 use Rattle.dc_run.specs.Starting.{begun, context_of}
 use Rattle.dc_run.specs.World.{Links, World, before_rounds}
@@ -27,7 +28,7 @@ use Rattle.dc_cli.specs.Tools.{Names}
 use Rattle.dc_cli.specs.declared.tool.CopyWords.{CopyWords}
 use Rattle.dc_cli.specs.declared.tool.PlacedWord.{PlacedWord}
 use Rattle.dc_cli.specs.declared.tool.Shown.{Shown}
-use Rattle.dc_cli.specs.declared.tool.Tool.TheVariants.{Show, CopyDb}
+use Rattle.dc_cli.specs.declared.tool.Tool.TheVariants.{Show, GetSelections, CopyDb}
 use Rattle.dc_serve.specs.Said.{said}
 use Rattle.dc_theorem.specs.Runs.{IsClean, LoadAlike, ShowAlike}
 use Rattle.dc_theorem.proofs.EndLemmas.{was_used, unwaited}
@@ -77,18 +78,67 @@ module _ (words : List (List ℕ)) (database : Option PlacedWord) (shown : Shown
         status = shown_status other last again other_clean other_has ∙ sym (shown_status one new outcome clean has);
       }
 
+-- ---- get-selections
+
+module _ (words : List (List ℕ)) (settings : Settings) (disk : Disk) (calls : List FilesCall) where
+  -- what is said of layers by these roots
+  abbrev answers : List LayerState → Roots → Said
+  answers layers roots = answers_said layers (context_of roots settings)
+
+  module _ (old new : World) (outcome : Outcome) (clean : IsClean words settings disk calls old new outcome) (has : HasUsed GetSelections settings old new outcome) where
+    answers_printed : new.links.io.talk ≡ then_pieces old.links.io.talk (Sent (answers has.mid.used has.roots).text ∷ [])
+    answers_printed =
+        ap (λ (l : LinkState). l.talk) (has.io_is ∙ subst (λ (e : ToolEnd). Prints (answers has.mid.used has.roots).text old.links.io has.links.io e)
+        (tool_done words GetSelections settings disk calls old new outcome clean has) has.uses.prints)
+
+    unsaid_told : (has.told ≡ unsaid_lines (answers has.mid.used has.roots).left_out) × (has.answer.status ≡ told_status (answers has.mid.used has.roots).left_out)
+    unsaid_told = subst (λ (e : ToolEnd). TellsUnsaid (answers has.mid.used has.roots).left_out e has.told has.answer.status)
+        (tool_done words GetSelections settings disk calls old new outcome clean has) has.uses.tells
+
+    answers_high : has.mid.files.counts.faults ≤ old.stock.files.counts.faults
+    answers_high = subst (λ (f : FilesState). f.counts.faults ≤ old.stock.files.counts.faults) (ap (λ (l : Resources). l.files) has.uses.left_is)
+        (left_sound words GetSelections settings disk calls old new outcome clean has)
+
+    answers_status : outcome.status ≡ told_status (answers has.mid.used has.roots).left_out
+    answers_status =
+        has.status_is ∙ (λ i. status_of (clean.done i) has.status)
+        ∙ unwaited has.answer.is_started has.links.child new.links.child has.how outcome.end has.answer.status has.status has.uses.waits has.awaits ∙ unsaid_told.1
+
+  pub answers_alike : (one new other last : World) (outcome again : Outcome) → Names words GetSelections
+      → IsClean words settings disk calls one new outcome → IsClean words settings disk calls other last again → ShowAlike one new outcome other last again
+  answers_alike one new other last outcome again named clean other_clean =
+      let has = was_used words settings disk calls one new outcome GetSelections named clean in
+      let other_has = was_used words settings disk calls other last again GetSelections named other_clean in
+      let starts = same_start words GetSelections settings disk calls one new other last outcome again clean other_clean has other_has (answers_high one new outcome clean has) (answers_high other last again other_clean other_has) in
+      let same : answers has.mid.used has.roots ≡ answers other_has.mid.used other_has.roots = λ i. answers (starts.used i) (starts.roots_are i) in
+      record {
+        leave = leave_alike words GetSelections tt settings disk calls one new other last outcome again clean other_clean has other_has
+            (ap (λ (l : Resources). l.layers) has.uses.left_is ∙ starts.used ∙ sym (ap (λ (l : Resources). l.layers) other_has.uses.left_is))
+            (ap (λ (l : Resources). l.files.view) has.uses.left_is ∙ starts.told ∙ sym (ap (λ (l : Resources). l.files.view) other_has.uses.left_is))
+            ((unsaid_told one new outcome clean has).0 ∙ ap (λ (s : Said). unsaid_lines s.left_out) same ∙ sym (unsaid_told other last again other_clean other_has).0)
+            (has.uses.code_is ∙ sym other_has.uses.code_is);
+        printed = record {
+          pieces = Sent (answers has.mid.used has.roots).text ∷ [];
+          other_pieces = Sent (answers other_has.mid.used other_has.roots).text ∷ [];
+          one_is = answers_printed one new outcome clean has;
+          other_is = answers_printed other last again other_clean other_has;
+          same = ap (λ (s : Said). said (Sent s.text ∷ [])) same;
+        };
+        status = answers_status other last again other_clean other_has ∙ sym (ap (λ (s : Said). told_status s.left_out) same) ∙ sym (answers_status one new outcome clean has);
+      }
+
 -- ---- copydb
 
 -- what a copy that did all leaves, tells and has as its status
 record IsWhole (copy : Copying) (old new : List LayerState) (told : List ℕ) (status : ℕ) : Type 0 where
   new_is : new ≡ (after_copies (stored old []) copy (chosen old copy)).layers
   told_is : told ≡ refusal_lines (refused_names (stored old []) copy (chosen old copy))
-  status_is : status ≡ copy_status (refused_names (stored old []) copy (chosen old copy))
+  status_is : status ≡ told_status (refused_names (stored old []) copy (chosen old copy))
 
 whole_copy : (copy : Copying) (old new : List LayerState) (told : List ℕ) (status : ℕ) → Copies copy old new tool.Done told status → IsWhole copy old new told status
 whole_copy copy old new told status copies =
     let is = copies.2 in
-    record { new_is = copies.3 ∙ ap (λ (s : StoreState). s.layers) is.left; told_is = copies.4 ∙ ap refusal_lines is.told; status_is = copies.5 ∙ ap copy_status is.told }
+    record { new_is = copies.3 ∙ ap (λ (s : StoreState). s.layers) is.left; told_is = copies.4 ∙ ap refusal_lines is.told; status_is = copies.5 ∙ ap told_status is.told }
 
 -- the copy of a run, which has what it copies by
 record HasMade (found : Option CopyRoots) (start : SessionState) (links new : Links) (answer : ToolAnswer) (told : List ℕ) (left : Resources) : Type 0 where
@@ -146,5 +196,5 @@ module _ (words : List (List ℕ)) (copy : CopyWords) (settings : Settings) (dis
             (ap (λ (l : Resources). l.files.view) first.made.left_is ∙ starts.told ∙ sym (ap (λ (l : Resources). l.files.view) second.made.left_is))
             (one_whole.told_is ∙ ap refusal_lines refused ∙ sym other_whole.told_is)
             (first.made.code_is ∙ sym second.made.code_is);
-        status = copied_status other last again other_clean other_has ∙ other_whole.status_is ∙ sym (ap copy_status refused) ∙ sym one_whole.status_is ∙ sym (copied_status one new outcome clean has);
+        status = copied_status other last again other_clean other_has ∙ other_whole.status_is ∙ sym (ap told_status refused) ∙ sym one_whole.status_is ∙ sym (copied_status one new outcome clean has);
       }

@@ -85,7 +85,7 @@ pub record RunAlike (one new : World) (outcome : Outcome) (other last : World) (
   pub replies : SayAlike one.links.child new.links.child other.links.child last.links.child
   pub shown : AreShownAlike new.links.io last.links.io
 
--- two runs of `show` printed the same
+-- two runs of `show`, or of `get-selections`, printed the same
 pub record ShowAlike (one new : World) (outcome : Outcome) (other last : World) (again : Outcome) : Type 0 where
   pub leave : LeaveAlike one new outcome other last again
   pub printed : SayAlike one.links.io new.links.io other.links.io last.links.io

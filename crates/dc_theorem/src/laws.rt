@@ -17,7 +17,7 @@ ghost use Rattle.dc_cli.specs.Tools.{Names};
 ghost use Rattle.dc_cli.specs.declared.tool.CopyWords.{CopyWords};
 ghost use Rattle.dc_cli.specs.declared.tool.PlacedWord.{PlacedWord};
 ghost use Rattle.dc_cli.specs.declared.tool.Shown.{Shown};
-ghost use Rattle.dc_cli.specs.declared.tool.Tool.TheVariants.{Communicate, CopyDb, LoadTemplate, Run, SetSelections, Show};
+ghost use Rattle.dc_cli.specs.declared.tool.Tool.TheVariants.{Communicate, CopyDb, GetSelections, LoadTemplate, Run, SetSelections, Show};
 ghost use Rattle.dc_theorem.specs.Runs.{NoneFailed, IsClean, AreTypedAlike, CommunicateAlike, RunAlike, LoadAlike, ShowAlike};
 
 /// The bytes of the link, the disk and what is typed determine a session in which no read of files failed: two from states that are alike
@@ -56,6 +56,9 @@ pub fn what_comes_in_determines_the_run()
         → IsClean words settings disk calls one new outcome → IsClean words settings disk calls other last again → LoadAlike one new outcome other last again }
     ensures show { (words : List (List ℕ)) (database : Option PlacedWord) (shown : Shown) (settings : Settings) (disk : Disk) (calls : List FilesCall)
         (one new other last : World) (outcome again : Outcome) → Names words (Show database shown)
+        → IsClean words settings disk calls one new outcome → IsClean words settings disk calls other last again → ShowAlike one new outcome other last again }
+    ensures get_selections { (words : List (List ℕ)) (settings : Settings) (disk : Disk) (calls : List FilesCall)
+        (one new other last : World) (outcome again : Outcome) → Names words GetSelections
         → IsClean words settings disk calls one new outcome → IsClean words settings disk calls other last again → ShowAlike one new outcome other last again }
     ensures copydb { (words : List (List ℕ)) (copy : CopyWords) (settings : Settings) (disk : Disk) (calls : List FilesCall)
         (one new other last : World) (outcome again : Outcome) → Names words (CopyDb copy)

@@ -3,7 +3,7 @@ use Rattle.dc_frontend.specs.declared.frontend.Frontend.TheVariants.{Noninteract
 use Rattle.dc_proto.specs.declared.priority.Priority.TheVariants.{High}
 use Rattle.dc_session.specs.Asking.{nothing_asked}
 use Rattle.dc_session.specs.SessionState.{no_terminal, nowhere}
-use Rattle.dc_run.proofs.RunLemmas.{communicated, loaded_files, ran_program, was_copied, was_drilled, was_shown, was_taken}
+use Rattle.dc_run.proofs.RunLemmas.{communicated, loaded_files, ran_program, was_copied, was_drilled, was_said, was_shown, was_taken}
 use Rattle.dc_run.proofs.running.use_tool.Goals as goal
 
 pub returns-in-Communicate-clause-does : goal.returns-in-Communicate-clause-does
@@ -46,6 +46,12 @@ returns-in-SetSelections-clause-does g c =
     rw c.in-SetSelections.is
     (was_taken c.args.roots.now c.args.settings.now (g.L.Link.link c.args.io.now) (g.L.Link.link c.select.new.io) (g.C.Link.link c.args.child.now) (g.E.Link.link c.args.err.now) (g.E.Link.link c.select.new.err) _ _ _
     c.args.teletype.now.ahead c.args.last_code c.select.result c.in-SetSelections.verbose c.in-SetSelections.check c.in-SetSelections.unseen c.select.ensures.taken)
+
+pub returns-in-GetSelections-clause-does : goal.returns-in-GetSelections-clause-does
+returns-in-GetSelections-clause-does g c =
+    rw c.in-GetSelections.is
+    (was_said c.args.roots.now c.args.settings.now (g.L.Link.link c.args.io.now) (g.L.Link.link c.say_answers.new.io) (g.C.Link.link c.args.child.now) (g.E.Link.link c.args.err.now) (g.E.Link.link c.say_answers.new.err) _ _ _
+    c.args.teletype.now.ahead c.args.last_code c.say_answers.result c.say_answers.ensures.layers c.say_answers.ensures.printed)
 
 pub returns-in-Drill-clause-does : goal.returns-in-Drill-clause-does
 returns-in-Drill-clause-does g c =

@@ -2,7 +2,7 @@ use Rattle.dc_theorem.proofs.CommunicateLaw.{communicate_alike}
 use Rattle.dc_theorem.proofs.LoadLaw.{load_alike}
 use Rattle.dc_theorem.proofs.RunLaw.{program_alike}
 use Rattle.dc_theorem.proofs.SelectLaw.{select_alike}
-use Rattle.dc_theorem.proofs.ToolLaws.{copy_alike, show_alike}
+use Rattle.dc_theorem.proofs.ToolLaws.{answers_alike, copy_alike, show_alike}
 use Rattle.dc_theorem.proofs.laws.what_comes_in_determines_the_run.Goals as goal
 
 pub returns-clause-communicate : goal.returns-clause-communicate
@@ -16,6 +16,9 @@ returns-clause-loadtemplate c words owner paths settings disk calls one new othe
 
 pub returns-clause-show : goal.returns-clause-show
 returns-clause-show c words database shown settings disk calls one new other last outcome again = show_alike words database shown settings disk calls one new other last outcome again
+
+pub returns-clause-get_selections : goal.returns-clause-get_selections
+returns-clause-get_selections c words settings disk calls one new other last outcome again = answers_alike words settings disk calls one new other last outcome again
 
 pub returns-clause-copydb : goal.returns-clause-copydb
 returns-clause-copydb c words copy settings disk calls one new other last outcome again = copy_alike words copy settings disk calls one new other last outcome again

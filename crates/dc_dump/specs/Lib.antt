@@ -1,0 +1,4 @@
+pub mod AnswerLines
+pub mod Reading
+pub mod Saying
+pub mod Setting
