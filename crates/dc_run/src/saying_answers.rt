@@ -59,7 +59,12 @@ fn all_answers(alloc: Global, roots: &Roots, lang: &Text, store: &mut Store) -> 
 }
 
 // Prints the answers, and tells of those that can't be said.
-fn print_answers<L: Link, E: Link>(io: &mut L, err: &mut E, answers: Mem<Said>, last_code: u8) -> ToolAnswer
+fn print_answers<L: Link, E: Link>(
+    io: &mut L,
+    err: &mut E,
+    answers: Mem<Said>,
+    last_code: u8,
+) -> ToolAnswer
     ensures { PrintsAnswers answers (L.link io.old) (L.link io.new) (E.link err.old) (E.link err.new) last_code result }
 {
     match answers {

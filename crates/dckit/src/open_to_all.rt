@@ -48,10 +48,11 @@ fn configuration<R: SystemFiles<File = File> + Alloc + Clone + Drop>(
     }
 }
 
-// Whether the words are those of a tool that writes no database: `show`, or `set-selections` where lines are only checked.
+// Whether the words are those of a tool that writes no database: `show`, `get-selections`, or `set-selections` where lines are only checked.
 fn writes_none(words: &List<Text>) -> bool {
     match words.as_slice() {
         [tool, ..] if tool.bytes() == b"show".as_slice() => true,
+        [tool, ..] if tool.bytes() == b"get-selections".as_slice() => true,
         [tool, options @ ..] if tool.bytes() == b"set-selections".as_slice() => {
             options.iter().any(|option| is_check(option.bytes()))
         }
