@@ -16,7 +16,7 @@ use Rattle.dc_outside.specs.State.{LinkState}
 use Rattle.dc_outside.specs.Talk.{then_pieces, got, sent}
 use Rattle.dc_serve.proofs.Talks.{then_pieces-nil, then_pieces-then_pieces, got-append}
 use Rattle.dc_run.specs.EndLines.{HasRisen, IsSentInParts, HasSaid}
-use Rattle.dc_run.specs.Jobs.{refusal_lines}
+use Rattle.dc_run.specs.Jobs.{named_lines}
 
 rose_same : (count : ℕ) → count ≤ count
 rose_same count = omega arith
@@ -113,12 +113,11 @@ five_said a b c d e l0 l1 l2 l3 l4 l5 first second third fourth fifth = three_sa
 pub three_said_joined : (a b c end : List ℕ) (l0 l1 l2 l3 : LinkState) → HasSaid a l0 l1 → HasSaid b l1 l2 → HasSaid (c ++ end) l2 l3 → HasSaid (a ++ b ++ c ++ end) l0 l3
 three_said_joined a b c end l0 l1 l2 l3 first second third = subst (λ (l : List ℕ). HasSaid l l0 l3) (sym (append_assoc (a ++ b) c end)) (three_said a b (c ++ end) l0 l1 l2 l3 first second third)
 
--- the first of some items that were refused, and the others
-pub refused_said : (names rest : List (List ℕ)) (name : List ℕ) (old told ended new : LinkState) → 1 ≤ length names → name ≡ get_or names 0 name → rest ≡ take (length names - 1) (drop 1 names)
-    → HasSaid name old told → HasSaid (codes " can't be changed\n") told ended → HasSaid (refusal_lines rest) ended new → HasSaid (refusal_lines names) old new
-refused_said [] rest name old told ended new some is left first second later = absurd (omega arith)
-refused_said (one ∷ names) rest name old told ended new some is left first second later =
-    let line : HasSaid (name ++ codes " can't be changed\n") old ended = said_then name (codes " can't be changed\n") old told ended first second in
-    let all : HasSaid ((name ++ codes " can't be changed\n") ++ refusal_lines rest) old new = said_then (name ++ codes " can't be changed\n") (refusal_lines rest) old ended new line later in
-    subst (λ (t : List ℕ). HasSaid t old new)
-    ((λ i. (is i ++ codes " can't be changed\n") ++ refusal_lines ((left ∙ take_all (length (one ∷ names) - 1) names (omega arith)) i)) ∙ ap (λ (t : List ℕ). t ++ refusal_lines names) (sym (append_assoc one (codes " can't be changed") (newline ∷ [])))) all
+-- the first of some names with words behind each, and the others
+pub named_said : (words : List ℕ) (names rest : List (List ℕ)) (name : List ℕ) (old told ended new : LinkState) → 1 ≤ length names → name ≡ get_or names 0 name → rest ≡ take (length names - 1) (drop 1 names)
+    → HasSaid name old told → HasSaid words told ended → HasSaid (named_lines words rest) ended new → HasSaid (named_lines words names) old new
+named_said words [] rest name old told ended new some is left first second later = absurd (omega arith)
+named_said words (one ∷ names) rest name old told ended new some is left first second later =
+    let line : HasSaid (name ++ words) old ended = said_then name words old told ended first second in
+    let all : HasSaid ((name ++ words) ++ named_lines words rest) old new = said_then (name ++ words) (named_lines words rest) old ended new line later in
+    subst (λ (t : List ℕ). HasSaid t old new) (λ i. (is i ++ words) ++ named_lines words ((left ∙ take_all (length (one ∷ names) - 1) names (omega arith)) i)) all

@@ -1,7 +1,6 @@
 -- What each tool does, from the state in which its databases were loaded.
 use Rattle.std.specs.Prelude.{◌≡◌, ◌⊎◌, ℕ, Bool, false, if◌then◌else◌, Result, List, [], ◌∷◌, ◌++◌, Option, Some, None, Ok, Err, codes}
 use Rattle.std.specs.List.{flat_map}
-use Rattle.dc_text.specs.Ascii.{newline}
 use Rattle.dc_conf.specs.Configuration.{Configuration}
 use Rattle.dc_layer.specs.State.{LayerState}
 use Rattle.dc_outside.specs.LinkCalls.{Sends}
@@ -96,7 +95,7 @@ named_lines words names = flat_map (λ name. name ++ words) names
 
 -- a line for each item that was refused
 abbrev pub refusal_lines : List (List ℕ) → List ℕ
-refusal_lines names = named_lines (codes " can't be changed" ++ newline ∷ []) names
+refusal_lines names = named_lines (codes " can't be changed\n") names
 
 -- the status is 1 where an item was told of
 abbrev pub told_status : List (List ℕ) → ℕ
@@ -158,7 +157,7 @@ answers_said layers at = said_of layers at (names layers at.config)
 
 -- a line for each question that can't be said
 abbrev pub unsaid_lines : List (List ℕ) → List ℕ
-unsaid_lines names = named_lines (codes " can't be said" ++ newline ∷ []) names
+unsaid_lines names = named_lines (codes " can't be said\n") names
 
 -- It was told which questions can't be said, and the status is 1 where there is one. Where memory ran out, nothing was told.
 abbrev pub TellsUnsaid : List (List ℕ) → ToolEnd → List ℕ → ℕ → Type 0
