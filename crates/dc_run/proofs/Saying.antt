@@ -1,7 +1,5 @@
 -- What is said in pieces, one after another.
 use Rattle.std.proofs.Common.{◌≡◌, ◌⊎◌, inl, inr, ℕ, ◌≤◌, List, [], ◌∷◌, ◌++◌, refl, ap, sym, subst, ◌∙◌, append_assoc, arith, drop, take, ◌-◌, get_or, length, Option, Result, Ok, Err}
-use Rattle.std.specs.Prelude.{codes}
-use Rattle.dc_text.specs.Ascii.{newline}
 use Rattle.std.specs.List.{flat_map}
 use Rattle.std.proofs.lemmas.Grind.{flat_map-append}
 use Rattle.std.proofs.lemmas.List.{append-nil, take_all}
