@@ -1,2 +1,5 @@
+pub mod AgainLemmas
 pub mod ReadLemmas
+pub mod RowLemmas
+pub mod SayLemmas
 pub mod SetLemmas

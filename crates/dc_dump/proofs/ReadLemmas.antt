@@ -1,41 +1,38 @@
 -- Lines that are said are read as they are.
 use Rattle.std.proofs.Common.{◌≡◌, ◌≢◌, ℕ, ◌+◌, ◌-◌, suc, length, Bool, true, false, cond, not, List, [], ◌∷◌, ◌++◌, Option, Some, None, refl, sym, ap, subst, ◌∙◌, append_assoc, arith, inl, inr, ⊎_elim, map as each}
-use Rattle.std.specs.Prelude.{◌&&◌, ◌||◌, ◌==◌, nat_lt, nat_le, is_some, Result, Ok, Err, codes, slice_index, if◌then◌else◌}
+use Rattle.std.specs.Prelude.{◌&&◌, ◌||◌, ◌==◌, nat_lt, is_some, Ok, codes, slice_index, if◌then◌else◌}
 use Rattle.std.specs.Io.BufRead.{ends_with_byte}
-use Rattle.std.specs.List.{AllByRecursion, find, list_all, list_any, flat_map}
+use Rattle.std.specs.List.{AllByRecursion, list_all}
 use Rattle.std.specs.Option.{option_map_or}
 use Rattle.std.proofs.lemmas.Bool.{cases_Bool, le-leb}
 use Rattle.std.proofs.lemmas.List.{append-nil}
 use Rattle.std.proofs.lemmas.List.Folds.{list_any-append}
 use Rattle.dc_text.specs.Bytes.{is_space, is_nil}
-use Rattle.dc_text.specs.Lines.{TextLines, has_newline, onto_first, text_lines, text_of, unless_empty}
+use Rattle.dc_text.specs.Lines.{TextLines, has_newline, onto_first, text_lines, text_of}
 use Rattle.dc_text.specs.Names.{is_name}
 use Rattle.dc_text.specs.Settled.{newlines_shown}
-use Rattle.dc_words.specs.Stream.{all_lines, line_of, line_of_rest, rest_of, whole_lines, clipped}
+use Rattle.dc_words.specs.Stream.{all_lines, line_of, line_of_rest, clipped}
 use Rattle.dc_words.specs.Words.{IsPlainWord, IsWordEnd}
-use Rattle.dc_words.specs.declared.stream.Line.{Line}
 use Rattle.dc_words.specs.declared.stream.Line.TheVariants.{Whole, TooLong}
-use Rattle.dc_item.proofs.PrintedBytes.{IsWord, Spaceless, Free, name_word_is, shown_no_newline}
+use Rattle.dc_item.proofs.PrintedBytes.{Spaceless, Free, name_word_is, shown_no_newline}
 use Rattle.dc_template.specs.Kinds.{kind_of, kind_word}
 use Rattle.dc_template.specs.declared.kinds.Kind.{Kind}
 use Rattle.dc_template.specs.declared.kinds.Kind.TheVariants as kinds
-use Rattle.dc_preseed.proofs.JoinLemmas.{joined_one}
 use Rattle.dc_preseed.proofs.PartLemmas.{parts_one}
 use Rattle.dc_preseed.proofs.SelectionLemmas.{one_answer, sound_value, sound_seen}
 use Rattle.dc_preseed.specs.Joining.{is_alone, is_comment, joined, counted, AreJoined, AreJoinedIn}
-use Rattle.dc_preseed.specs.Selections.{Parts, parts_of, AreParts, ComesFirst, IsAnswer, IsSaid, answer, is_seen, is_silent}
-use Rattle.dc_preseed.specs.declared.joining.Joined.{Joined}
+use Rattle.dc_preseed.specs.Selections.{Parts, parts_of, AreParts, ComesFirst, IsSaid, answer, is_seen, is_silent}
 use Rattle.dc_preseed.specs.declared.selections.Selection.{Selection}
 use Rattle.dc_preseed.specs.declared.selections.Selection.TheVariants.{Value, Seen}
-use Rattle.dc_dump.specs.AnswerLines.{begins_with_hash, is_plain, is_sayable, is_short, lines_by, lines_of, lines_said, unseen_line, unseen_lines, value_line}
+use Rattle.dc_dump.specs.AnswerLines.{begins_with_hash, is_plain, is_sayable, is_short, lines_by, lines_of, unseen_line, unseen_lines, value_line}
 use Rattle.dc_dump.specs.Reading.{is_named, StandsAlone, numbered}
 use Rattle.dc_dump.specs.declared.answers.Answer.{Answer}
 
-both : (a b : Bool) → (a && b) ≡ true → (a ≡ true) × (b ≡ true)
+pub both : (a b : Bool) → (a && b) ≡ true → (a ≡ true) × (b ≡ true)
 both true b e = (refl, e)
 both false b e = absurd (cc)
 
-is_false : (a : Bool) → not a ≡ true → a ≡ false
+pub is_false : (a : Bool) → not a ≡ true → a ≡ false
 is_false true e = absurd (cc)
 is_false false e = refl
 
@@ -195,9 +192,9 @@ short_too (line ∷ lines) all short =
     let s = both (is_short line) (list_all is_short lines) short in
     (record { one = all.0.0; short = s.0; alone = all.0.1 }, short_too lines all.1 s.1)
 
-all_behind : (xs ys : List (List ℕ)) → AllByRecursion One xs → AllByRecursion One ys → AllByRecursion One (xs ++ ys)
-all_behind [] ys h k = k
-all_behind (x ∷ xs) ys h k = (h.0, all_behind xs ys h.1 k)
+pub all_behind : (P : List ℕ → Type 0) (xs ys : List (List ℕ)) → AllByRecursion P xs → AllByRecursion P ys → AllByRecursion P (xs ++ ys)
+all_behind P [] ys h k = k
+all_behind P (x ∷ xs) ys h k = (h.0, all_behind P xs ys h.1 k)
 
 module _ (name : List ℕ) (is : is_name name ≡ true) where
   values_one : (kind : Kind) (value : List ℕ) (owners : List (List ℕ)) → list_all is_name owners ≡ true → ends_with_byte 92 value ≡ false
@@ -217,19 +214,16 @@ module _ (name : List ℕ) (is : is_name name ≡ true) where
       → AllByRecursion One (option_map_or (lines_by name answer) kind [])
   lines_one answer None are ends = tt
   lines_one answer (Some kind) are ends =
-      all_behind (each (value_line name kind answer.value) answer.owners) (unseen_lines name answer.seen answer.owners)
+      all_behind One (each (value_line name kind answer.value) answer.owners) (unseen_lines name answer.seen answer.owners)
       (values_one kind answer.value answer.owners are ends) (unseens_one answer.seen answer.owners are)
 
-pub stand_alone : (name : List ℕ) (answer : Answer) → is_named name answer ≡ true → AllByRecursion StandsAlone (lines_said name answer)
-stand_alone name answer named = by_test (is_sayable name answer) refl where
-  by_test : (b : Bool) → is_sayable name answer ≡ b → AllByRecursion StandsAlone (if b then lines_of name answer else [])
-  by_test false e = tt
-  by_test true e =
-      let names = both (is_name name) (list_all is_name answer.owners) named in
-      let rest = both (not (is_nil answer.owners)) (is_plain answer && list_all is_short (lines_of name answer)) (both (is_some answer.kind) _ e).1 in
-      let plain = both (is_plain answer) (list_all is_short (lines_of name answer)) rest.1 in
-      let closed = is_false (ends_with_byte 92 answer.value) (both (list_all (λ owner. not (begins_with_hash owner)) answer.owners) (not (ends_with_byte 92 answer.value)) plain.0).1 in
-      short_too (lines_of name answer) (lines_one name names.0 answer answer.kind names.1 closed) plain.1
+pub stand_alone : (name : List ℕ) (answer : Answer) → is_named name answer ≡ true → is_sayable name answer ≡ true → AllByRecursion StandsAlone (lines_of name answer)
+stand_alone name answer named e =
+    let names = both (is_name name) (list_all is_name answer.owners) named in
+    let rest = both (not (is_nil answer.owners)) (is_plain answer && list_all is_short (lines_of name answer)) (both (is_some answer.kind) _ e).1 in
+    let plain = both (is_plain answer) (list_all is_short (lines_of name answer)) rest.1 in
+    let closed = is_false (ends_with_byte 92 answer.value) (both (list_all (λ owner. not (begins_with_hash owner)) answer.owners) (not (ends_with_byte 92 answer.value)) plain.0).1 in
+    short_too (lines_of name answer) (lines_one name names.0 answer answer.kind names.1 closed) plain.1
 
 -- ---- lines that are joined with no other
 

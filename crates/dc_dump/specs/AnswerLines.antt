@@ -57,7 +57,3 @@ is_short line = nat_le (length line) max_line
 abbrev pub is_sayable : List ℕ → Answer → Bool
 is_sayable name answer =
     is_some answer.kind && (not (is_nil answer.owners) && (is_plain answer && list_all is_short (lines_of name answer)))
-
--- the lines that are said of a question: all of them, or none
-abbrev pub lines_said : List ℕ → Answer → List (List ℕ)
-lines_said name answer = if is_sayable name answer then lines_of name answer else []

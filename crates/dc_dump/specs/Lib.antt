@@ -1,4 +1,4 @@
 pub mod AnswerLines
 pub mod Reading
 pub mod Saying
-pub mod Setting
+pub mod SetAgain

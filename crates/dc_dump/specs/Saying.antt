@@ -1,5 +1,5 @@
 -- What is said of questions (debconf-get-selections(1)), over the layers of a store.
-use Rattle.std.specs.Prelude.{ℕ, Bool, false, not, List, [], Option, option_map, codes}
+use Rattle.std.specs.Prelude.{ℕ, Bool, false, not, List, [], Option, Some, None, option_map, option_and_then, codes, if◌then◌else◌}
 use Rattle.std.specs.FinMap as map
 use Rattle.std.specs.List.{filter, flat_map}
 use Rattle.std.specs.Option.{option_map_or}
@@ -8,7 +8,7 @@ use Rattle.dc_item.specs.Item.{ItemParts}
 use Rattle.dc_layer.specs.State.{LayerState}
 use Rattle.dc_question.specs.Readings.{kind_by, value_of}
 use Rattle.dc_question.specs.Questions.{QuestionContext, question, template}
-use Rattle.dc_dump.specs.AnswerLines.{is_sayable, lines_said}
+use Rattle.dc_dump.specs.AnswerLines.{is_sayable, lines_of}
 use Rattle.dc_dump.specs.declared.answers.Answer.{Answer}
 use Rattle.dc_dump.specs.declared.saying.Said.{Said}
 
@@ -25,9 +25,13 @@ answer_of layers at item = record {
 abbrev pub answer_at : List LayerState → QuestionContext → List ℕ → Option Answer
 answer_at layers at name = option_map (answer_of layers at) (question layers at name)
 
--- the lines of a name, which has none where no question has it
+-- the answer of a name, where it can be said
+abbrev pub said_at : List LayerState → QuestionContext → List ℕ → Option Answer
+said_at layers at name = option_and_then (λ answer. if is_sayable name answer then Some answer else None) (answer_at layers at name)
+
+-- the lines of a name, which has none where nothing is said of it
 abbrev pub lines_at : List LayerState → QuestionContext → List ℕ → List (List ℕ)
-lines_at layers at name = option_map_or (lines_said name) (answer_at layers at name) []
+lines_at layers at name = option_map_or (lines_of name) (said_at layers at name) []
 
 -- a question has the name, and can't be said
 abbrev pub is_left_out : List LayerState → QuestionContext → List ℕ → Bool

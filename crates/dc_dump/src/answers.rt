@@ -1,6 +1,7 @@
 // What questions answer.
-ghost use Rattle.std.specs.Prelude.{◌≡◌, IfOk};
+ghost use Rattle.std.specs.Prelude.{◌≡◌, IfOk, IfSome};
 ghost use Rattle.std.specs.Option.{option_copied};
+ghost use Rattle.dc_item.specs.Item.{IsItem};
 ghost use Rattle.dc_question.specs.Asked.{asked, HasPlans, seen};
 ghost use Rattle.dc_question.specs.Questions.{question as question_of, template as template_of};
 ghost use Rattle.dc_dump.specs.Saying.{answer_of};
@@ -31,17 +32,23 @@ pub(crate) fn question<'q>(questions: &'q Questions, name: &Name) -> Option<&'q 
 // The template of an item.
 fn template<'q>(questions: &'q Questions, item: &Item) -> Option<&'q Item>
     requires { HasPlans questions.now }
-    ensures { option_copied result ≡ seen (asked state questions.now) template_of item.now }
+    ensures value { option_copied result ≡ seen (asked state questions.now) template_of item.now }
+    ensures item { IfSome result (λ template. IsItem template.now) }
 {
     let name = item.field(b"template")?;
-    questions.store.seek(questions.context.templates, name)
+    let template = questions.store.seek(questions.context.templates, name)?;
+    let _owners = template.owners();
+    Some(template)
 }
 
 // The answer of a question of this item.
 pub(crate) fn read_answer(questions: &Questions, item: &Item) -> Mem<Answer>
     requires { HasPlans questions.now }
-    ensures { IfOk result (λ answer. answer ≡ seen (asked state questions.now) answer_of item.now) }
+    ensures answer { IfOk result (λ answer. answer ≡ seen (asked state questions.now) answer_of item.now) }
+    ensures item { IsItem item.now }
+    ensures template { IfSome (seen (asked state questions.now) template_of item.now) IsItem }
 {
+    let _owners = item.owners();
     let template = template(questions, item);
     let lang = questions.context.lang.bytes();
     Ok(Answer {

@@ -2,10 +2,9 @@
 #![tactic(auto)]
 
 pub mod answers;
+pub mod laws;
 mod lines;
-pub mod reading;
 pub mod saying;
-pub mod setting;
 #[cfg(test)]
 mod tests;
 

@@ -2,7 +2,9 @@
 ghost use Rattle.std.specs.Prelude.{◌≡◌, ◌∷◌, ◌++◌, [], IfOk, OnOk, not, if◌then◌else◌};
 ghost use Rattle.dc_text.specs.Lines.{text_of};
 ghost use Rattle.dc_question.specs.Asked.{asked, HasPlans, seen};
-ghost use Rattle.dc_dump.specs.AnswerLines.{is_sayable as is_sayable_of, lines_said};
+ghost use Rattle.dc_dump.specs.AnswerLines.{is_sayable as is_sayable_of, lines_of as lines_of_answer};
+ghost use Rattle.dc_text.specs.Maps.{AreDistinct};
+ghost use Rattle.dc_dump.specs.SetAgain.{IsHeld, SetsAgain};
 ghost use Rattle.dc_dump.specs.Saying.{said_text, left_out as left_out_of, said_of};
 
 use crate::answers::{Answer, question, read_answer};
@@ -23,10 +25,12 @@ pub struct Said {
 /// name, the kind and the value, each newline of which is the pair of a backslash and an n, and where the user hasn't seen the question a line
 /// that says so. Passwords are printed as other values are. A question is left out whole where one of its lines wouldn't be read as it is: where
 /// it has no kind or no owner, where an owner begins with `#`, the value ends with a backslash, or a line is over `MAX_LINE` bytes. A name that
-/// no question has says nothing.
+/// no question has says nothing. Where `set-selections` takes the whole text, it sets the questions again.
 pub fn selections(questions: &Questions<'_>, names: &List<Name>) -> Mem<Said>
     requires { HasPlans questions.now }
-    ensures { IfOk result (λ said. said ≡ seen (asked state questions.now) said_of names.now) }
+    ensures said { IfOk result (λ said. said ≡ seen (asked state questions.now) said_of names.now) }
+    ensures again { IfOk result (λ said. AreDistinct names.now → SetsAgain (asked state questions.now).store.layers (asked state questions.now).context
+        names.now said.text) }
 {
     let mut said = Said {
         text: Text::new(questions.alloc),
@@ -43,10 +47,12 @@ fn say(said: &mut Said, questions: &Questions<'_>, name: &Name) -> Mem<()>
     requires { HasPlans questions.now }
     ensures text { OnOk result (said.new.text ≡ said.old.text ++ seen (asked state questions.now) said_text (name.now ∷ [])) }
     ensures left_out { OnOk result (said.new.left_out ≡ said.old.left_out ++ seen (asked state questions.now) left_out_of (name.now ∷ [])) }
+    ensures held { OnOk result (IsHeld (asked state questions.now).store.layers (asked state questions.now).context name.now) }
 {
     match question(questions, name) {
         None => Ok(()),
         Some(item) => {
+            let _name = name.bytes();
             let answer = read_answer(questions, item)?;
             say_answer(questions.alloc, said, name, &answer)
         }
@@ -55,9 +61,10 @@ fn say(said: &mut Said, questions: &Questions<'_>, name: &Name) -> Mem<()>
 
 // Adds what is said of a question of this answer.
 fn say_answer(alloc: Global, said: &mut Said, name: &Name, answer: &Answer) -> Mem<()>
-    ensures text { OnOk result (said.new.text ≡ said.old.text ++ text_of (lines_said name.now answer.now)) }
+    ensures text { OnOk result (said.new.text ≡ said.old.text
+        ++ text_of (if is_sayable_of name.now answer.now then lines_of_answer name.now answer.now else [])) }
     ensures left_out { OnOk result (said.new.left_out ≡ said.old.left_out
-        ++ (if is_sayable_of name.now answer.now then [] else name.now ∷ [])) }
+        ++ (if not (is_sayable_of name.now answer.now) then name.now ∷ [] else [])) }
 {
     let lines = lines_of(alloc, name, answer)?;
     if is_sayable(name, answer, &lines) {

@@ -1,15 +1,19 @@
-// What is said of questions, over layers in memory.
-ghost use Rattle.std.specs.Prelude.{◌≡◌, length};
+// What is said of questions, over layers in memory, and set again where none stood.
+ghost use Rattle.std.specs.Prelude.{◌≡◌, ◌<◌, length};
+ghost use Rattle.dc_conf.specs.Plans.{IsOver};
 
+use crate::answers::Answer;
+use crate::lines::{is_sayable, lines_of};
 use crate::{Said, selections};
 use dc_conf::{Base, LayerSort, LayerSpec, Plan};
 use dc_item::read_records;
 use dc_layer::{FileLayer, Layer};
-use dc_preseed::set_line;
+use dc_outside::MemLink;
+use dc_preseed::{Choices, take_selections};
 use dc_question::Questions;
 use dc_store::Store;
-use dc_text::Text;
-use dc_text::bytes::split_line;
+use dc_template::Kind;
+use dc_text::{List, Name, Text};
 use std::alloc::Global;
 use std::process::Abort;
 
@@ -35,43 +39,45 @@ fn layer(rt: &impl Abort, alloc: Global, records: &[u8]) -> Box<dyn Layer> {
     Box::new(alloc, layer).expect(rt, "memory")
 }
 
-const TEMPLATES: &[u8] =
-    b"Name: p/a\nType: string\nOwners: p/a\n\nName: p/secret\nType: password\nOwners: p/secret\n\nName: q/a\nType: select\nDefault: one\nOwners: q/a\n";
-
-// The questions, and their templates.
-fn store(rt: &impl Abort, alloc: Global, questions: &[u8]) -> Store
-    ensures { length result.layers.items ≡ 2 }
+// A layer of questions, and one of templates.
+fn two_layers(
+    rt: &impl Abort,
+    alloc: Global,
+    questions: &[u8],
+    templates: &[u8],
+) -> Vec<Box<dyn Layer>>
+    ensures { length result.items ≡ 2 }
 {
     let questions = layer(rt, alloc, questions);
-    let templates = layer(rt, alloc, TEMPLATES);
+    let templates = layer(rt, alloc, templates);
     let mut layers: Vec<Box<dyn Layer>> = Vec::new(alloc);
     layers.push(questions).expect(rt, "memory");
     layers.push(templates).expect(rt, "memory");
-    Store::new(alloc, layers)
+    layers
 }
 
-// What is said of the questions of these records.
-fn said(rt: &impl Abort, alloc: Global, records: &[u8]) -> Said {
-    let mut store = store(rt, alloc, records);
-    let config = Plan {
-        base: Base::Leaf(0),
+// The plan of one layer.
+fn plan(place: usize) -> Plan
+    requires { place < 2 }
+    ensures { IsOver result 2 }
+{
+    Plan {
+        base: Base::Leaf(place),
         backup: None,
         debug: false,
-    };
-    let templates = Plan {
-        base: Base::Leaf(1),
-        backup: None,
-        debug: false,
-    };
+    }
+}
+
+// What is said of the questions of the first of two layers: the text, and behind it each that is left out, with a mark.
+fn told(rt: &impl Abort, alloc: Global, layers: Vec<Box<dyn Layer>>) -> Text
+    requires { length layers.items ≡ 2 }
+{
+    let mut store = Store::new(alloc, layers);
+    let (config, templates) = (plan(0), plan(1));
     let lang = Text::new(alloc);
     let names = store.names(&config).expect(rt, "memory");
     let questions = Questions::new(alloc, &mut store, &config, &templates, &lang);
-    selections(&questions, &names).expect(rt, "memory")
-}
-
-// The text, and behind it each of those left out, with a mark.
-fn told(rt: &impl Abort, said: Said) -> Text {
-    let Said { mut text, left_out } = said;
+    let Said { mut text, left_out } = selections(&questions, &names).expect(rt, "memory");
     for name in left_out.as_slice() {
         text.append(name.bytes()).expect(rt, "memory");
         text.push(b'!').expect(rt, "memory");
@@ -79,76 +85,96 @@ fn told(rt: &impl Abort, said: Said) -> Text {
     text
 }
 
+// What is said once the lines of a text are set where no question stood.
+fn told_again(rt: &impl Abort, alloc: Global, text: &[u8]) -> Text {
+    let mut layers = two_layers(rt, alloc, b"", b"");
+    let mut io = MemLink::new(alloc, text, &[7], &[]).expect(rt, "memory");
+    let mut err = MemLink::new(alloc, b"", &[], &[]).expect(rt, "memory");
+    let (config, templates) = (plan(0), plan(1));
+    let lang = Text::new(alloc);
+    let choices = Choices {
+        verbose: false,
+        check: false,
+        unseen: false,
+    };
+    let selected = take_selections(
+        alloc,
+        &mut io,
+        &mut err,
+        &mut layers,
+        &config,
+        &templates,
+        &lang,
+        choices,
+        0,
+    );
+    assert!(rt; !selected.refused);
+    assert_eq!(rt; layers.len(), 2);
+    told(rt, alloc, layers)
+}
+
+const KNOWN: &[u8] =
+    b"Name: p/a\nType: string\nOwners: p/a\n\nName: p/secret\nType: password\nOwners: p/secret\n\nName: q/a\nType: select\nDefault: one\nOwners: q/a\n";
+
 #[test]
-fn questions_are_said(rt: HostRuntime) {
-    for (records, text) in [
+fn questions_are_said_and_set_again(rt: HostRuntime) {
+    let alloc = rt.alloc();
+    for (records, text, left_out) in [
         (
             "Name: p/a\nTemplate: p/a\nValue: one\nOwners: p\n\nName: p/secret\nTemplate: p/secret\nValue: hush\nOwners: p\n",
             "p p/a string one\np p/a seen false\np p/secret password hush\np p/secret seen false\n",
-        ),
-        ("Name: p/a\nTemplate: p/a\nValue: x\\\nOwners: p\n", "p/a!"),
-        (
-            "Name: p/b\nTemplate: p/a\nValue: two\\nlines\\\\nx\nOwners: p, q\nFlags: seen\n",
-            "p p/b string two\\nlines\\\\nx\nq p/b string two\\nlines\\\\nx\n",
+            "",
         ),
         (
-            "Name: p/c\nTemplate: q/a\nOwners: q, r\n",
-            "q p/c select one\nr p/c select one\nq p/c seen false\n",
+            "Name: p/a\nTemplate: p/a\nValue: x\\\nOwners: p\n",
+            "",
+            "p/a!",
         ),
         (
-            "Name: p/d\nTemplate: p/a\nOwners: p\nFlags: seen\n",
+            "Name: p/b\nTemplate: p/a\nValue: two\\nlines\\\\nx\nOwners: p, q\nFlags: seen\n\nName: p/c\nTemplate: q/a\nOwners: q, r\n",
+            "p p/b string two\\nlines\\\\nx\nq p/b string two\\nlines\\\\nx\nq p/c select one\nr p/c select one\nq p/c seen false\n",
+            "",
+        ),
+        (
+            "Name: p/d\nTemplate: p/a\nOwners: p\nFlags: seen\n\nName: p/e\nTemplate: p/none\nOwners: p\n\nName: p/h\nTemplate: p/a\n",
             "p p/d string \n",
+            "p/e!p/h!",
         ),
-        ("Name: p/e\nTemplate: p/none\nOwners: p\n", "p/e!"),
         (
             "Name: p/f\nTemplate: p/a\nOwners: #p, q\n\nName: p/g\nTemplate: p/a\nOwners: p#\nFlags: seen\n",
-            "p# p/g string \np/f!",
+            "p# p/g string \n",
+            "p/f!",
         ),
-        ("", ""),
     ] {
-        let told = told(&rt, said(&rt, rt.alloc(), records.as_bytes()));
-        assert_eq!(rt; told.bytes(), text.as_bytes());
+        let layers = two_layers(&rt, alloc, records.as_bytes(), KNOWN);
+        let said = told(&rt, alloc, layers);
+        let again = told_again(&rt, alloc, text.as_bytes());
+        assert_eq!(rt; again.bytes(), text.as_bytes());
+        let mut all = again;
+        all.append(left_out.as_bytes()).expect(&rt, "memory");
+        assert_eq!(rt; said.bytes(), all.bytes());
     }
 }
 
-// What is said of the questions that the lines of a text set, where none stood.
-fn said_again(rt: &impl Abort, alloc: Global, text: &[u8]) -> Said {
-    let mut layers: Vec<Box<dyn Layer>> = Vec::new(alloc);
-    layers.push(layer(rt, alloc, b"")).expect(rt, "memory");
-    layers.push(layer(rt, alloc, b"")).expect(rt, "memory");
-    let mut store = Store::new(alloc, layers);
-    let config = Plan {
-        base: Base::Leaf(0),
-        backup: None,
-        debug: false,
+// Whether a question with a value of so many bytes can be said.
+fn can_be_said(rt: &impl Abort, alloc: Global, count: usize) -> bool {
+    let name = Name::read(alloc, b"p/a").expect(rt, "a name");
+    let mut owners = List::new(alloc);
+    owners
+        .push(Name::read(alloc, b"p").expect(rt, "a name"))
+        .expect(rt, "memory");
+    let answer = Answer {
+        owners,
+        kind: Some(Kind::Str),
+        value: Text::from_vec(vec![in alloc; b'x'; count].expect(rt, "memory")),
+        seen: true,
     };
-    let templates = Plan {
-        base: Base::Leaf(1),
-        backup: None,
-        debug: false,
-    };
-    let lang = Text::new(alloc);
-    let mut questions = Questions::new(alloc, &mut store, &config, &templates, &lang);
-    let mut rest = text;
-    while rest.len() > 0 {
-        let (line, behind) = split_line(rest);
-        let _ = set_line(&mut questions, line, false, false).expect(rt, "a line that is taken");
-        rest = behind;
-    }
-    let names = questions.store.names(&config).expect(rt, "memory");
-    selections(&questions, &names).expect(rt, "memory")
+    let lines = lines_of(alloc, &name, &answer).expect(rt, "memory");
+    is_sayable(&name, &answer, &lines)
 }
 
 #[test]
-fn what_is_said_is_said_again(rt: HostRuntime) {
-    for text in [
-        "p p/a string one\np p/a seen false\np p/secret password hush\np p/secret seen false\n",
-        "p p/b string two\\nlines\\\\nx\nq p/b string two\\nlines\\\\nx\n",
-        "q p/c select  one \r\nr p/c select  one \r\nq p/c seen false\n",
-        "p p/d string \n",
-        "",
-    ] {
-        let told = told(&rt, said_again(&rt, rt.alloc(), text.as_bytes()));
-        assert_eq!(rt; told.bytes(), text.as_bytes());
-    }
+fn lines_over_the_limit_are_not_said(rt: HostRuntime) {
+    assert!(rt; can_be_said(&rt, rt.alloc(), 1_048_563));
+    assert!(rt; !can_be_said(&rt, rt.alloc(), 1_048_564));
 }

@@ -1,0 +1,10 @@
+pub mod CheckLemmas
+pub mod FaultLaws
+pub mod ListedFaults
+pub mod PrintedLemmas
+pub mod ReadAgain
+pub mod SoundLemmas
+pub mod StanzaLemmas
+pub mod TestLemmas
+pub mod TrimLemmas
+pub mod ValueLemmas

@@ -1,5 +1,0 @@
-use Rattle.dc_dump.proofs.ReadLemmas.{value_read, unseen_read}
-use Rattle.dc_dump.proofs.reading.lines_are_read_again.Goals as goal
-
-pub returns : goal.returns
-returns c = record { value = value_read; unseen = unseen_read }

@@ -1,5 +1,0 @@
-use Rattle.dc_dump.proofs.ReadLemmas.{stand_alone}
-use Rattle.dc_dump.proofs.reading.lines_stand_alone.Goals as goal
-
-pub returns : goal.returns
-returns c = stand_alone
