@@ -1,6 +1,6 @@
 // What is said of questions, over layers in memory, and set again where none stood.
-ghost use Rattle.std.specs.Prelude.{◌≡◌, ◌<◌, length};
-ghost use Rattle.dc_conf.specs.Plans.{IsOver};
+ghost use Rattle.std.specs.Prelude.{◌≡◌, true, length};
+ghost use Rattle.dc_conf.specs.Plans.{are_disjoint, IsOver};
 
 use crate::answers::Answer;
 use crate::lines::{is_sayable, lines_of};
@@ -56,16 +56,23 @@ fn two_layers(
     layers
 }
 
-// The plan of one layer.
-fn plan(place: usize) -> Plan
-    requires { place < 2 }
-    ensures { IsOver result 2 }
+// The plans of the two: one of questions, and one of templates.
+fn two_plans() -> (Plan, Plan)
+    ensures config { IsOver result.0 2 }
+    ensures templates { IsOver result.1 2 }
+    ensures apart { are_disjoint result.0 result.1 ≡ true }
 {
-    Plan {
-        base: Base::Leaf(place),
+    let config = Plan {
+        base: Base::Leaf(0),
         backup: None,
         debug: false,
-    }
+    };
+    let templates = Plan {
+        base: Base::Leaf(1),
+        backup: None,
+        debug: false,
+    };
+    (config, templates)
 }
 
 // What is said of the questions of the first of two layers: the text, and behind it each that is left out, with a mark.
@@ -73,7 +80,7 @@ fn told(rt: &impl Abort, alloc: Global, layers: Vec<Box<dyn Layer>>) -> Text
     requires { length layers.items ≡ 2 }
 {
     let mut store = Store::new(alloc, layers);
-    let (config, templates) = (plan(0), plan(1));
+    let (config, templates) = two_plans();
     let lang = Text::new(alloc);
     let names = store.names(&config).expect(rt, "memory");
     let questions = Questions::new(alloc, &mut store, &config, &templates, &lang);
@@ -90,7 +97,7 @@ fn told_again(rt: &impl Abort, alloc: Global, text: &[u8]) -> Text {
     let mut layers = two_layers(rt, alloc, b"", b"");
     let mut io = MemLink::new(alloc, text, &[7], &[]).expect(rt, "memory");
     let mut err = MemLink::new(alloc, b"", &[], &[]).expect(rt, "memory");
-    let (config, templates) = (plan(0), plan(1));
+    let (config, templates) = two_plans();
     let lang = Text::new(alloc);
     let choices = Choices {
         verbose: false,
