@@ -1,5 +1,10 @@
+pub mod AnswersLaw
+pub mod BehindLaw
+pub mod CallsLaw
+pub mod CleanLaw
 pub mod CommunicateLaw
 pub mod CountLemmas
+pub mod CountsLater
 pub mod EndLemmas
 pub mod FileCourses
 pub mod LineFiles
@@ -12,3 +17,4 @@ pub mod SelectLaw
 pub mod StartLaws
 pub mod ToolLaws
 pub mod UsedLemmas
+pub mod WriteLaw

@@ -1,0 +1,516 @@
+-- How a run ends at which nothing outside failed.
+use Rattle.std.proofs.Common.{◌≡◌, ◌⊎◌, ◌||◌, ◌&&◌, if◌then◌else◌, inl, inr, ℕ, Bool, true, false, List, [], ◌∷◌, ◌++◌, length, refl, ap, sym, subst, ◌∙◌, arith, map as each}
+use Rattle.std.specs.Prelude.{◌≤◌, ◌<◌, ◌^◌, Option, Some, None, Result, Ok, Err}
+use Rattle.std.specs.Io.KnownBytes.{prepend_known}
+use Rattle.std.specs.List.{AllByRecursion, list_all}
+use Rattle.dc_text.specs.declared.memory.OutOfMemory.{OutOfMemory as NoMemory}
+use Rattle.dc_outside.specs.Counts.{Counts, Rose}
+use Rattle.dc_outside.specs.Disk.{Disk}
+use Rattle.dc_outside.specs.State.{FilesState, FilesView, LinkState}
+use Rattle.dc_outside.specs.Steps.{after_look}
+use Rattle.dc_outside.specs.Talk.{then_pieces, got}
+use Rattle.dc_outside.specs.declared.files.FilesOp.TheVariants.{Read}
+use Rattle.dc_outside.specs.declared.link.LinkError.{LinkError}
+use Rattle.dc_outside.specs.declared.link.LinkError.TheVariants.{Failed, OutOfMemory}
+use Rattle.dc_outside.specs.declared.link.Piece.{Piece}
+use Rattle.dc_conf.specs.ConfFaults.{passes}
+use Rattle.dc_conf.specs.Configuration.{Configuration, IsAnswer, configuration}
+use Rattle.dc_conf.specs.Stanzas.{stanzas, fields_of}
+use Rattle.dc_conf.specs.declared.faults.ConfError.{ConfError}
+use Rattle.dc_conf.specs.declared.faults.ConfError.TheVariants as conf_error
+use Rattle.dc_conf.specs.declared.spec.LayerSort.{LayerSort}
+use Rattle.dc_conf.specs.declared.spec.LayerSort.TheVariants.{File, Tree, Pack}
+use Rattle.dc_conf.specs.declared.spec.LayerSpec.{LayerSpec}
+use Rattle.dc_conf.proofs.LeastLemmas.{not_both}
+use Rattle.dc_layer.specs.Patterns.{is_pattern, is_plain}
+use Rattle.dc_layer.specs.Rules.{rules_of, are_patterns, are_plain, is_absent_or, texts_of}
+use Rattle.dc_layer.specs.State.{LayerState}
+use Rattle.dc_layer.specs.declared.pattern.PatternError.{PatternError}
+use Rattle.dc_layer.specs.declared.pattern.PatternError.TheVariants as pattern
+use Rattle.dc_save.specs.Loading.{IsTextAt, LoadCountsBy, LoadsLayer, LoadCounts}
+use Rattle.dc_save.specs.declared.loading.Loaded.{Loaded}
+use Rattle.dc_save.specs.declared.loading.LoadError.{LoadError}
+use Rattle.dc_save.specs.declared.loading.LoadError.TheVariants as load
+use Rattle.dc_shelf.specs.Shelves.{AreRefusedFor, GoesOn, LoadsAll, all_set_up}
+use Rattle.dc_serve.specs.LinkRun.{Answered}
+use Rattle.dc_serve.specs.declared.outcome.LinkEnd.{LinkEnd}
+use Rattle.dc_serve.specs.declared.outcome.LinkEnd.TheVariants as link
+use Rattle.dc_session.specs.Machine.{Aborts}
+use Rattle.dc_session.specs.Serving.{IsServed, Resources}
+use Rattle.dc_session.specs.SessionState.{SessionState}
+use Rattle.dc_session.specs.declared.stepped.StepError.{StepError}
+use Rattle.dc_session.specs.declared.stepped.StepError.TheVariants as step
+use Rattle.dc_preseed.specs.Selecting.{SelectorState, FinishesLast, Finishes as FinishesSelections, LosesSelection, selections_over}
+use Rattle.dc_preseed.specs.declared.selected.Choices.{Choices}
+use Rattle.dc_tools.specs.Copying.{Copying}
+use Rattle.dc_cli.specs.declared.tool.PlacedWord.{PlacedWord}
+use Rattle.dc_cli.specs.declared.tool.Tool.{Tool}
+use Rattle.dc_cli.specs.declared.tool.Tool.TheVariants.{Communicate, LoadTemplate, Run, Show, CopyDb, SetSelections, GetSelections, Drill}
+use Rattle.dc_cli.proofs.AnswerLemmas.{one_tool}
+use Rattle.dc_run.specs.Ends.{LinksCount, ProgramCounts, end_of, end_of_conf, end_of_load, end_of_pattern, end_unwaited, tool_end_of}
+use Rattle.dc_run.specs.Finishing.{Finishes, FinishesWhere}
+use Rattle.dc_run.specs.Headline.{HasRunTool, HasRunWords}
+use Rattle.dc_run.specs.Jobs.{Copies, CopiesBy, HasTaken, Prints, PrintsMade, Uses, copying, selections_end}
+use Rattle.dc_run.specs.OneRound.{HasUsed}
+use Rattle.dc_run.specs.Running.{Awaits, end_unstarted}
+use Rattle.dc_run.specs.Saves.{Save}
+use Rattle.dc_run.specs.Starting.{EndsBefore, HasLoaded, IsConfiguration, IsRefusedFor, begun, conf_read, conf_text, databases_of, has_files, keeps_changes, loaded_of, pattern_words, wrong_database}
+use Rattle.dc_run.specs.TemplateLoading.{EndsAt, state_after as file_state}
+use Rattle.dc_run.specs.World.{Links, World, before_rounds}
+use Rattle.dc_run.specs.declared.outcome.End.{End}
+use Rattle.dc_run.specs.declared.outcome.End.TheVariants as end
+use Rattle.dc_run.specs.declared.outcome.Outcome.{Outcome}
+use Rattle.dc_run.specs.declared.outcome.PatternAt.TheVariants.{Database, Word}
+use Rattle.dc_run.specs.declared.outcome.ToolAnswer.{ToolAnswer}
+use Rattle.dc_run.specs.declared.outcome.ToolEnd.{ToolEnd}
+use Rattle.dc_run.specs.declared.outcome.ToolEnd.TheVariants as tool
+use Rattle.dc_run.specs.declared.settings.Settings.{Settings}
+use Rattle.dc_run.specs.declared.starting.CopyRoots.{CopyRoots}
+use Rattle.dc_run.specs.declared.starting.Roots.{Roots}
+use Rattle.dc_run.proofs.CountLemmas.{links_counted, program_counted}
+use Rattle.dc_run.proofs.CrashLemmas.{load_reads}
+use Rattle.dc_run.proofs.RunLemmas.{ends_so}
+use Rattle.dc_run.proofs.UsedLemmas.{as_used}
+use Rattle.dc_theorem.specs.Completeness.{IsUndisturbed, IsReadable, EndsWell, FewCame, FewServed}
+use Rattle.dc_theorem.proofs.CountsLater.{Later, rose_behind, rose_between, later_so, later_then, load_kept, turns_kept, tool_later, start_later, end_of_later}
+
+-- ---- patterns
+
+left_false : (a b : Bool) → a || b ≡ false → a ≡ false
+left_false false b is = refl
+left_false true b is = cc
+
+one_false : (a b : Bool) → a && b ≡ false → (a ≡ false) ⊎ (b ≡ false)
+one_false true b is = inr is
+one_false false b is = inl refl
+
+false_here : (a b : Bool) → a ≡ false → a && b ≡ false
+false_here a b is = rw is refl
+
+false_there : (a b : Bool) → b ≡ false → a && b ≡ false
+false_there true b is = is
+false_there false b is = refl
+
+-- what is no pattern isn't plain
+no_pattern : (ignore_case : Bool) (text : List ℕ) → is_pattern ignore_case text ≡ false → is_plain text ≡ false
+no_pattern ignore_case text is = left_false _ _ is
+
+odd_text : (text : Option (List ℕ)) → is_absent_or (is_pattern true) text ≡ false → is_absent_or is_plain text ≡ false
+odd_text None is = is
+odd_text (Some text) is = no_pattern true text is
+
+odd_texts : (texts : List (Option (List ℕ))) → list_all (is_absent_or (is_pattern true)) texts ≡ false → list_all (is_absent_or is_plain) texts ≡ false
+odd_texts [] is = is
+odd_texts (text ∷ texts) is = elim (one_false _ _ is) [
+  | inl here ↦ false_here _ _ (odd_text text here)
+  | inr there ↦ false_there _ _ (odd_texts texts there)
+]
+
+odd_rules : (spec : LayerSpec) → are_patterns (rules_of spec) ≡ false → are_plain (rules_of spec) ≡ false
+odd_rules spec is = odd_texts (texts_of (rules_of spec)) is
+
+odd_database : (spec : LayerSpec) (error : PatternError) → AreRefusedFor spec error → (error ≡ pattern.OutOfMemory → ⊥) → are_plain (rules_of spec) ≡ false
+odd_database spec pattern.Bad refused other = odd_rules spec refused
+odd_database spec pattern.TooLarge refused other = refused
+odd_database spec pattern.OutOfMemory refused other = absurd (other refl)
+
+odd_word : (word : List ℕ) (error : PatternError) → IsRefusedFor word error → is_plain word ≡ false
+odd_word word pattern.Bad refused = no_pattern false word refused
+odd_word word pattern.TooLarge refused = refused.0
+odd_word word pattern.OutOfMemory refused = absurd refused
+
+-- ---- loads
+
+-- what an error of a load tells
+abbrev LoadTells : LoadError → Counts → Counts → Type 0
+LoadTells (load.Failed path) before now = Rose before.faults now.faults
+LoadTells (load.Damaged path line) before now = ⊥
+LoadTells load.OutOfMemory before now = Unit {0}
+
+later_tells : (error : LoadError) (before mid now : Counts) → Later before mid → LoadTells error mid now → LoadTells error before now
+later_tells (load.Failed path) before mid now later rose = rose_behind before.faults mid.faults now.faults later.0 rose
+later_tells (load.Damaged path line) before mid now later none = none
+later_tells load.OutOfMemory before mid now later tells = tells
+
+failed_load : (sort : LayerSort) (files mid : FilesView) (before now : Counts) (path : List ℕ) → LoadCountsBy sort files mid (Err (load.Failed path)) before now → Rose before.faults now.faults
+failed_load File files mid before now path counted = counted.faults
+failed_load Tree files mid before now path counted = counted.faults
+failed_load Pack files mid before now path counted = counted.faults
+
+other_result : (error : LoadError) → ◌≡◌ {A = Result (Unit {0}) LoadError} (Err error) (Ok tt) → ⊥
+other_result error is = cc
+
+module _ (disk : Disk) where
+  fault_tells : (spec : LayerSpec) (layer made : LayerState) (files mid : FilesView) (before counts : Counts) → files.disk ≡ Some disk → IsReadable disk spec
+      → (fault : LoadError) → LoadsLayer files.disk spec layer made (Err fault) → LoadCounts spec files mid (Err fault) before counts → LoadTells fault before counts
+  fault_tells spec layer made files mid before counts told readable (load.Failed path) loads counted = failed_load spec.sort files mid before counts path counted
+  fault_tells spec layer made files mid before counts told readable (load.Damaged path line) loads counted =
+      readable layer made path line (subst (λ (d : Option Disk). LoadsLayer d spec layer made (Err (load.Damaged path line))) told loads)
+  fault_tells spec layer made files mid before counts told readable load.OutOfMemory loads counted = tt
+
+  load_tells : (spec : LayerSpec) (layer made : LayerState) (files mid : FilesView) (before counts now : Counts) (error : LoadError) (more last : Type 0) → files.disk ≡ Some disk → IsReadable disk spec
+      → (more → LoadTells error counts now) → (last → now ≡ counts)
+      → (first : Result Loaded LoadError) → LoadsLayer files.disk spec layer made first → LoadCounts spec files mid first before counts → GoesOn first (Err error) more last → LoadTells error before now
+  load_tells spec layer made files mid before counts now error more last told readable rest stays (Ok loaded) loads counted goes =
+      later_tells error before counts now (later_so before counts (load_kept spec.sort files mid before counts loaded counted)) (rest goes)
+  load_tells spec layer made files mid before counts now error more last told readable rest stays (Err fault) loads counted goes =
+      let same : error ≡ fault = cc in
+      subst (λ (e : LoadError). LoadTells e before now) (sym same)
+      (subst (λ (c : Counts). LoadTells fault before c) (sym (stays goes.1)) (fault_tells spec layer made files mid before counts told readable fault loads counted))
+
+  loads_tell : (specs : List LayerSpec) (old new : List LayerState) (files files_new : FilesView) (before now : Counts) (error : LoadError) → files.disk ≡ Some disk → AllByRecursion (IsReadable disk) specs
+      → LoadsAll specs old new files files_new before now (Err error) → LoadTells error before now
+  loads_tell [] old new files files_new before now error told readable loads = absurd (other_result error loads.0)
+  loads_tell (spec ∷ specs) [] new files files_new before now error told readable loads = absurd loads
+  loads_tell (spec ∷ specs) (layer ∷ old) [] files files_new before now error told readable loads = absurd loads
+  loads_tell (spec ∷ specs) (layer ∷ old) (made ∷ new) files files_new before now error told readable loads =
+      load_tells spec layer made files loads.1 before loads.2 now error (LoadsAll specs old new loads.1 files_new loads.2 now (Err error)) ((new ≡ old) × (files_new ≡ loads.1) × (now ≡ loads.2)) told readable.0
+      (loads_tell specs old new loads.1 files_new loads.2 now error (load_reads files loads.1 spec loads.0 loads.4 ∙ told) readable.1) (λ last. last.2)
+      loads.0 loads.3 loads.5 loads.6
+
+-- ---- tools
+
+-- at least 2^40 bytes came
+abbrev CameLong : LinkState → LinkState → Type 0
+CameLong old new = (pieces : List Piece) × (new.talk ≡ then_pieces old.talk pieces) × (old.input ≡ prepend_known (got pieces) new.input) × (2 ^ 40 ≤ length (got pieces))
+
+-- on the link that a tool serves, where it serves one
+abbrev LongServed : Tool → Links → Links → Type 0
+LongServed (Communicate owner) old new = CameLong old.io new.io
+LongServed (Run owner frontend priority command) old new = CameLong old.child new.child
+LongServed (SetSelections verbose check unseen) old new = CameLong old.io new.io
+LongServed used old new = ⊥
+
+-- what the end of a tool tells: at too long an input that so much came, and at a fault of the files that it was counted
+abbrev EndTells : ToolEnd → Type 0 → Counts → Counts → Type 0
+EndTells tool.TooLong long before now = long
+EndTells (tool.FilesFault path) long before now = Rose before.faults now.faults
+EndTells ended long before now = Unit {0}
+
+module _ (long : Type 0) (before now : Counts) where
+  served_tells : (served ended : LinkEnd StepError) → (ended ≡ served) ⊎ (ended ≡ link.OutOfMemory) → (served ≡ link.TooLong → long) → EndTells (tool_end_of ended) long before now
+  served_tells served link.Done so is = tt
+  served_tells served link.LinkFault so is = tt
+  served_tells served link.TooLong (inl same) is = is (sym same)
+  served_tells served link.TooLong (inr none) is = absurd (let no : ◌≡◌ {A = LinkEnd StepError} link.TooLong link.OutOfMemory = none in cc)
+  served_tells served link.OutOfMemory so is = tt
+  served_tells served (link.Broken step.Term) so is = tt
+  served_tells served (link.Broken step.OutOfMemory) so is = tt
+
+  last_tells : (state left : SelectorState) (ended : LinkEnd NoMemory) → FinishesLast state left ended → EndTells (selections_end ended) long before now
+  last_tells state left ended (inl all) = rw all.1 tt
+  last_tells state left ended (inr none) = rw none.1 tt
+
+  selected_tells : (state left : SelectorState) (served ended : LinkEnd NoMemory) → FinishesSelections served state left ended → (served ≡ link.TooLong → long) → EndTells (selections_end ended) long before now
+  selected_tells state left link.Done ended finishes is = last_tells state left ended finishes
+  selected_tells state left link.LinkFault ended finishes is = rw finishes.1 tt
+  selected_tells state left link.TooLong ended finishes is = rw finishes.1 (is refl)
+  selected_tells state left link.OutOfMemory ended finishes is = rw finishes.1 tt
+  selected_tells state left (link.Broken error) ended finishes is = rw finishes.1 tt
+
+  printed_tells : (text : List ℕ) (ended : ToolEnd) (old new : LinkState) → Prints text old new ended → EndTells ended long before now
+  printed_tells text tool.Done old new prints = tt
+  printed_tells text tool.PrintFault old new prints = tt
+  printed_tells text tool.OutOfMemory old new prints = tt
+  printed_tells text tool.LinkFault old new none = absurd none
+  printed_tells text tool.TermFault old new none = absurd none
+  printed_tells text tool.ChildFault old new none = absurd none
+  printed_tells text tool.TooLong old new none = absurd none
+  printed_tells text (tool.FilesFault path) old new none = absurd none
+
+  made_tells : {E : Type 0} (made : Result (List ℕ) E) (ended : ToolEnd) (old new : LinkState) → PrintsMade made old new ended → EndTells ended long before now
+  made_tells (Ok text) ended old new prints = printed_tells text ended old new prints
+  made_tells (Err error) ended old new none = rw none.0 tt
+
+  copied_tells : (copy : Copying) (old new : List LayerState) (ended : ToolEnd) (said : List ℕ) (status : ℕ) → Copies copy old new ended said status → EndTells ended long before now
+  copied_tells copy old new tool.Done said status copies = tt
+  copied_tells copy old new tool.OutOfMemory said status copies = tt
+  copied_tells copy old new tool.PrintFault said status none = absurd none
+  copied_tells copy old new tool.LinkFault said status none = absurd none
+  copied_tells copy old new tool.TermFault said status none = absurd none
+  copied_tells copy old new tool.ChildFault said status none = absurd none
+  copied_tells copy old new tool.TooLong said status none = absurd none
+  copied_tells copy old new (tool.FilesFault path) said status none = absurd none
+
+  unstarted_tells : (error : LinkError) → EndTells (end_unstarted error) long before now
+  unstarted_tells Failed = tt
+  unstarted_tells OutOfMemory = tt
+
+  -- template files were loaded, from this state on
+  file_tells : (ended : ToolEnd) (state : SessionState) (rest : List (List ℕ)) (new : SessionState) → Later before state.files.counts → now ≡ new.files.counts → EndsAt ended state rest new → EndTells ended long before now
+  file_tells tool.Done state rest new later is ends = tt
+  file_tells (tool.FilesFault path) state rest new later is ends =
+      subst (λ (c : Counts). Rose before.faults c.faults) (sym is) (rose_behind before.faults state.files.counts.faults new.files.counts.faults later.0 ends.2.1.faults)
+  file_tells tool.OutOfMemory state rest new later is ends = tt
+  file_tells tool.LinkFault state rest new later is none = absurd none
+  file_tells tool.TooLong state rest new later is none = absurd none
+  file_tells tool.PrintFault state rest new later is none = absurd none
+  file_tells tool.TermFault state rest new later is none = absurd none
+  file_tells tool.ChildFault state rest new later is none = absurd none
+
+session_long : (start : SessionState) (left : Resources) (old new : LinkState) (ended : LinkEnd StepError) (before code : ℕ) → (served : IsServed start left old new ended before code) → served.served ≡ link.TooLong → CameLong old new
+session_long start left old new ended before code is long =
+    let ran = is.ran in
+    let answered : Answered Aborts link.TooLong start ran.transitions ran.rest ran.pieces old.input before is.state code
+    = subst (λ (e : LinkEnd StepError). Answered Aborts e start ran.transitions ran.rest ran.pieces old.input before is.state code) long ran.answered in
+    (ran.pieces, ran.told_is, ran.took, answered.long)
+
+selections_long : (choices : Choices) (start : SessionState) (old new : LinkState) (before : ℕ) (answer : ToolAnswer) (left : Resources) → (taken : HasTaken choices start old new before answer left) → taken.selected.served ≡ link.TooLong → CameLong old new
+selections_long choices start old new before answer left taken long =
+    let ran = taken.selected.serves.run in
+    let begins : SelectorState = selections_over start.store.layers start.at choices start.err in
+    let answered : Answered LosesSelection link.TooLong begins ran.transitions ran.rest ran.pieces old.input before taken.selected.state answer.last_code
+    = subst (λ (e : LinkEnd NoMemory). Answered LosesSelection e begins ran.transitions ran.rest ran.pieces old.input before taken.selected.state answer.last_code) long ran.answered in
+    (ran.pieces, ran.told_is, ran.took, answered.long)
+
+copy_tells : (found : Option CopyRoots) (start : SessionState) (old new : Links) (before : ℕ) (answer : ToolAnswer) (said : List ℕ) (left : Resources) (long : Type 0) → CopiesBy found start old new before answer said left
+    → EndTells answer.ended long start.files.counts left.files.counts
+copy_tells None start old new before answer said left long none = absurd none
+copy_tells (Some copy) start old new before answer said left long is = copied_tells long start.files.counts left.files.counts (copying start copy) start.store.layers left.layers answer.ended said answer.status is.copies
+
+tool_tells : (used : Tool) (roots : Roots) (start : SessionState) (old new : Links) (before : ℕ) (answer : ToolAnswer) (said : List ℕ) (left : Resources) → Uses used roots start old new before answer said left
+    → EndTells answer.ended (LongServed used old new) start.files.counts left.files.counts
+tool_tells (Communicate owner) roots start old new before answer said left uses =
+    let served = uses.0.served in
+    rw uses.0.ended_is
+    (served_tells (CameLong old.io new.io) start.files.counts left.files.counts served.served uses.0.ended (ends_so served.served served.state left.layers uses.0.ended served.finishes)
+    (session_long start left old.io new.io uses.0.ended before answer.last_code served))
+tool_tells (LoadTemplate owner paths) roots start old new before answer said left uses =
+    let loads = uses.loaded in
+    file_tells ⊥ start.files.counts left.files.counts answer.ended (file_state start loads.turns) loads.rest uses.state (later_so start.files.counts (file_state start loads.turns).files.counts (turns_kept start loads.turns loads.course))
+    (ap (λ (l : Resources). l.files.counts) uses.left_is) loads.ends
+tool_tells (Run owner frontend priority command) roots start old new before answer said left uses = elim uses.0 [
+  | inl none ↦ rw none.ended_is (unstarted_tells (CameLong old.child new.child) start.files.counts left.files.counts none.error)
+  | inr started ↦
+      let served = started.served in
+      rw started.ended_is
+      (served_tells (CameLong old.child new.child) start.files.counts left.files.counts served.served started.ended (ends_so served.served served.state left.layers started.ended served.finishes)
+      (λ long. subst (λ (l : LinkState). CameLong l new.child) started.starts.state (session_long start left started.mid new.child started.ended before answer.last_code served long)))
+]
+tool_tells (Show database shown) roots start old new before answer said left uses = printed_tells ⊥ start.files.counts left.files.counts _ answer.ended old.io new.io uses.0.prints
+tool_tells (CopyDb copy) roots start old new before answer said left uses = copy_tells roots.copy start old new before answer said left ⊥ uses
+tool_tells (SetSelections verbose check unseen) roots start old new before answer said left uses =
+    let selected = uses.0.selected in
+    rw uses.0.ended_is
+    (selected_tells (CameLong old.io new.io) start.files.counts left.files.counts selected.state uses.0.state selected.served uses.0.ended selected.finishes
+    (selections_long (record { verbose = verbose; check = check; unseen = unseen }) start old.io new.io before answer left uses.0))
+tool_tells GetSelections roots start old new before answer said left uses = printed_tells ⊥ start.files.counts left.files.counts _ answer.ended old.io new.io uses.prints
+tool_tells (Drill count) roots start old new before answer said left uses = made_tells ⊥ start.files.counts left.files.counts uses.0.result answer.ended old.io new.io uses.0.prints
+
+-- ---- the end of a run whose tool was used
+
+-- what such an end tells of its tool's end and of the files in the save
+abbrev ComesOf : End → ToolEnd → Counts → Counts → Type 0
+ComesOf end.Done ended before now = Unit {0}
+ComesOf end.OutOfMemory ended before now = Unit {0}
+ComesOf end.LinkFault ended before now = Unit {0}
+ComesOf end.TermFault ended before now = Unit {0}
+ComesOf end.ChildFault ended before now = Unit {0}
+ComesOf end.TooLong ended before now = ended ≡ tool.TooLong
+ComesOf (end.FilesFault path) ended before now = (ended ≡ tool.FilesFault path) ⊎ Rose before.faults now.faults
+ComesOf how ended before now = ⊥
+
+module _ (layers used : List LayerState) (files new : FilesState) (how : End) where
+  saved_comes : (ended : ToolEnd) → Finishes layers used ended files new how → ComesOf how ended files.counts new.counts
+  saved_comes tool.Done (inl saved) = rw saved.end_is tt
+  saved_comes tool.Done (inr (inl unsaved)) = rw unsaved.end_is (inr unsaved.counts.faults)
+  saved_comes tool.Done (inr (inr none)) = rw none.end_is tt
+  saved_comes tool.LinkFault (inl saved) = rw saved.end_is tt
+  saved_comes tool.LinkFault (inr (inl unsaved)) = rw unsaved.end_is tt
+  saved_comes tool.LinkFault (inr (inr none)) = rw none.end_is tt
+  saved_comes tool.TooLong (inl saved) = rw saved.end_is refl
+  saved_comes tool.TooLong (inr (inl unsaved)) = rw unsaved.end_is refl
+  saved_comes tool.TooLong (inr (inr none)) = rw none.end_is tt
+  saved_comes tool.PrintFault broken = rw broken.end_is tt
+  saved_comes tool.TermFault broken = rw broken.end_is tt
+  saved_comes tool.ChildFault broken = rw broken.end_is tt
+  saved_comes tool.OutOfMemory broken = rw broken.end_is tt
+  saved_comes (tool.FilesFault path) broken = rw broken.end_is (inl refl)
+
+  unsaved_comes : (ended : ToolEnd) → ComesOf (end_of ended) ended files.counts new.counts
+  unsaved_comes tool.Done = tt
+  unsaved_comes tool.LinkFault = tt
+  unsaved_comes tool.TooLong = refl
+  unsaved_comes tool.PrintFault = tt
+  unsaved_comes tool.TermFault = tt
+  unsaved_comes tool.ChildFault = tt
+  unsaved_comes tool.OutOfMemory = tt
+  unsaved_comes (tool.FilesFault path) = inl refl
+
+  comes_of : (keeps : Bool) (ended : ToolEnd) → FinishesWhere keeps layers used ended files new how → ComesOf how ended files.counts new.counts
+  comes_of true ended finishes = saved_comes ended finishes
+  comes_of false ended broken = rw broken.end_is (unsaved_comes ended)
+
+module _ (tool_ended : ToolEnd) (before now : Counts) where
+  unwaited_comes : (how : End) → ComesOf how tool_ended before now → ComesOf (end_unwaited how) tool_ended before now
+  unwaited_comes end.Done comes = tt
+  unwaited_comes (end.Usage word) comes = comes
+  unwaited_comes (end.ConfRefused line kind) comes = comes
+  unwaited_comes (end.BadPattern at) comes = comes
+  unwaited_comes (end.PatternTooLarge at) comes = comes
+  unwaited_comes (end.Damaged path line) comes = comes
+  unwaited_comes end.OutOfMemory comes = comes
+  unwaited_comes (end.FilesFault path) comes = comes
+  unwaited_comes end.LinkFault comes = comes
+  unwaited_comes end.TermFault comes = comes
+  unwaited_comes end.ChildFault comes = comes
+  unwaited_comes end.TooLong comes = comes
+
+  awaited_comes : (started : Bool) (old new : LinkState) (how ended : End) (status left : ℕ) → Awaits started old new how ended status left → ComesOf how tool_ended before now → ComesOf ended tool_ended before now
+  awaited_comes true old new how ended status left (inl has) comes = rw has.end_is comes
+  awaited_comes true old new how ended status left (inr failed) comes = rw failed.end_is (unwaited_comes how comes)
+  awaited_comes false old new how ended status left none comes = rw none.end_is comes
+
+-- a wait tells nothing of the link
+pub waited_link : (started : Bool) (old new : LinkState) (how ended : End) (status left : ℕ) → Awaits started old new how ended status left → (new.talk ≡ old.talk) × (new.input ≡ old.input)
+waited_link true old new how ended status left (inl has) = (ap (λ (l : LinkState). l.talk) has.waits, ap (λ (l : LinkState). l.input) has.waits)
+waited_link true old new how ended status left (inr failed) = (ap (λ (l : LinkState). l.talk) failed.waits.state, ap (λ (l : LinkState). l.input) failed.waits.state)
+waited_link false old new how ended status left none = (ap (λ (l : LinkState). l.talk) none.child, ap (λ (l : LinkState). l.input) none.child)
+
+own_link : (mid new : LinkState) → new ≡ mid → (new.talk ≡ mid.talk) × (new.input ≡ mid.input)
+own_link mid new same = (ap (λ (l : LinkState). l.talk) same, ap (λ (l : LinkState). l.input) same)
+
+too_many : (n : ℕ) → n < 2 ^ 40 → 2 ^ 40 ≤ n → ⊥
+too_many n few long = omega (arith, few, long)
+
+few_long : (old mid new : LinkState) → (new.talk ≡ mid.talk) × (new.input ≡ mid.input) → FewCame old new → CameLong old mid → ⊥
+few_long old mid new same few long = too_many (length (got long.0)) (few long.0 (same.0 ∙ long.1) (long.2 ∙ ap (prepend_known (got long.0)) (sym same.1))) long.3
+
+few_served : (used : Tool) (old mid new : Links) → new.io ≡ mid.io → (new.child.talk ≡ mid.child.talk) × (new.child.input ≡ mid.child.input) → FewServed used old new → LongServed used old mid → ⊥
+few_served (Communicate owner) old mid new io child few long = few_long old.io mid.io new.io (own_link mid.io new.io io) few long
+few_served (LoadTemplate owner paths) old mid new io child few long = long
+few_served (Run owner frontend priority command) old mid new io child few long = few_long old.child mid.child new.child child few long
+few_served (Show database shown) old mid new io child few long = long
+few_served (CopyDb copy) old mid new io child few long = long
+few_served (SetSelections verbose check unseen) old mid new io child few long = few_long old.io mid.io new.io (own_link mid.io new.io io) few long
+few_served GetSelections old mid new io child few long = long
+few_served (Drill count) old mid new io child few long = long
+
+-- ---- the whole run
+
+one_conf : (used : Tool) (disk : Disk) (path : List ℕ) (conf other : Configuration) → IsConfiguration used (Some disk) path conf → IsConfiguration used (Some disk) path other → conf ≡ other
+one_conf used disk path conf other first second =
+    first.reads.1 ∙ ap (λ (t : List ℕ). configuration (each fields_of (stanzas (conf_text used t)))) (first.text_is ∙ sym second.text_is) ∙ sym second.reads.1
+
+read_disk : (is : Bool) (files : FilesView) (path : List ℕ) → (if is then after_look files Read path true else files).disk ≡ files.disk
+read_disk true files path = refl
+read_disk false files path = refl
+
+some_none : (word : ℕ) (found : Option ℕ) → found ≡ Some word → found ≡ None → ⊥
+some_none word found some none = cc
+
+module _ (words : List (List ℕ)) (used : Tool) (conf : Configuration) (settings : Settings) (old new : World) (clean : IsUndisturbed words used conf settings old new) where
+  abbrev files : FilesState
+  files = old.stock.files
+
+  same_conf : (other : Configuration) → IsConfiguration used files.view.disk settings.conf_path other → other ≡ conf
+  same_conf other is = one_conf used clean.disk settings.conf_path other conf (subst (λ (d : Option Disk). IsConfiguration used d settings.conf_path other) clean.told is) clean.conf_is.conf_is
+
+  refused_well : (text : List ℕ) (error : ConfError) → clean.conf_is.conf_is.text ≡ text → IsAnswer (conf_text used text) (Err error) → EndsWell used conf (end_of_conf error)
+  refused_well text (conf_error.Refused line kind) same is = absurd
+      (not_both (passes (conf_text used text)) _ (subst (λ (t : List ℕ). AllByRecursion (λ faults. faults ≡ []) (passes (conf_text used t))) same clean.conf_is.conf_is.reads.0) is)
+  refused_well text conf_error.OutOfMemory same is = tt
+
+  word_well : (before : List PlacedWord) (word : PlacedWord) (after : List PlacedWord) → pattern_words used ≡ before ++ word ∷ after → (error : PatternError) → IsRefusedFor word.word error → EndsWell used conf (end_of_pattern (Word word.place) error)
+  word_well before word after whole pattern.Bad refused = record { before = before; word = word; after = after; whole = whole; place_is = refl; not_plain = odd_word word.word pattern.Bad refused }
+  word_well before word after whole pattern.TooLarge refused = record { before = before; word = word; after = after; whole = whole; place_is = refl; not_plain = odd_word word.word pattern.TooLarge refused }
+  word_well before word after whole pattern.OutOfMemory refused = tt
+
+  database_well : (before : List LayerSpec) (spec : LayerSpec) (after : List LayerSpec) (place : ℕ) → databases_of used conf ≡ before ++ spec ∷ after → place ≡ length before → (error : PatternError) → AreRefusedFor spec error → EndsWell used conf (end_of_pattern (Database place) error)
+  database_well before spec after place whole place_is pattern.Bad refused = record { before = before; spec = spec; after = after; whole = whole; place_is = place_is; not_plain = odd_rules spec refused }
+  database_well before spec after place whole place_is pattern.TooLarge refused = record { before = before; spec = spec; after = after; whole = whole; place_is = place_is; not_plain = refused }
+  database_well before spec after place whole place_is pattern.OutOfMemory refused = tt
+
+  unloaded_well : (error : LoadError) → LoadTells error files.counts new.stock.files.counts → EndsWell used conf (end_of_load error)
+  unloaded_well (load.Failed path) rose = clean.none_rose.files rose
+  unloaded_well (load.Damaged path line) none = none
+  unloaded_well load.OutOfMemory tells = tt
+
+  loads_well : (other : Configuration) (error : LoadError) → HasLoaded used settings.conf_path other files new.stock (Err error) → EndsWell used conf (end_of_load error)
+  loads_well other error loaded =
+      let same = same_conf other loaded.conf_is.conf_is.conf_is in
+      unloaded_well error
+      (loads_tell clean.disk (loaded_of used other) (all_set_up (databases_of used other)) new.stock.used (conf_read used files.view settings.conf_path) new.stock.files.view files.counts new.stock.files.counts error
+      (read_disk (has_files used) files.view settings.conf_path ∙ clean.told) (subst (λ (c : Configuration). AllByRecursion (IsReadable clean.disk) (loaded_of used c)) (sym same) clean.readable) loaded.loads)
+
+  before_well : (how : End) → EndsBefore used settings.conf_path files new.stock how → EndsWell used conf how
+  before_well how (inl none) = rw none.end_is tt
+  before_well how (inr (inl unread)) = absurd (clean.none_rose.files unread.counts.faults)
+  before_well how (inr (inr (inl refused))) =
+      rw refused.end_is
+      (refused_well refused.text refused.error (clean.conf_is.conf_is.text_is ∙ sym (subst (λ (d : Option Disk). IsTextAt d settings.conf_path refused.text) clean.told refused.text_is)) refused.refused)
+  before_well how (inr (inr (inr (inl wrong)))) = absurd
+      (some_none wrong.word (wrong_database used conf) (ap (λ (c : Configuration). wrong_database used c) (sym (same_conf wrong.conf wrong.conf_is)) ∙ wrong.wrong) clean.conf_is.databases)
+  before_well how (inr (inr (inr (inr (inl at))))) = rw at.end_is (word_well at.before at.word at.after at.words_are at.error at.refused)
+  before_well how (inr (inr (inr (inr (inr (inl at)))))) =
+      let same = same_conf at.conf at.conf_is.conf_is.conf_is in
+      rw at.end_is
+      (database_well at.refused_at.before at.refused_at.spec at.refused_at.after at.refused.place (ap (λ (c : Configuration). databases_of used c) (sym same) ∙ at.refused_at.whole) at.refused_at.place_is
+      at.refused.error at.refused_at.refused)
+  before_well how (inr (inr (inr (inr (inr (inr at)))))) = rw at.end_is (loads_well at.conf at.error at.loaded)
+
+  module _ (outcome : Outcome) (run : HasUsed used settings old new outcome) where
+    abbrev start : SessionState
+    start = begun used (before_rounds (record old { stock = run.mid })) run.roots settings
+
+    tells : EndTells run.answer.ended (LongServed used old.links run.links) run.mid.files.counts run.left.files.counts
+    tells = tool_tells used run.roots start old.links run.links 0 run.answer run.told run.left run.uses
+
+    never_long : LongServed used old.links run.links → ⊥
+    never_long long =
+        few_served used old.links run.links new.links run.io_is (waited_link run.answer.is_started run.links.child new.links.child run.how outcome.end run.answer.status run.status run.awaits) clean.few long
+
+    begins : Later files.counts run.mid.files.counts
+    begins = start_later used settings.conf_path files run.mid run.roots run.started
+
+    works : Later run.mid.files.counts run.left.files.counts
+    works = tool_later run.roots start old.links run.links 0 run.answer run.told run.left used run.uses
+
+    ends : Later run.left.files.counts new.stock.files.counts
+    ends = end_of_later run.left.layers new.stock.used run.left.files new.stock.files run.how (keeps_changes used) run.answer.ended run.finishes
+
+    never_long_by : run.answer.ended ≡ tool.TooLong → ⊥
+    never_long_by is = never_long (subst (λ (e : ToolEnd). EndTells e (LongServed used old.links run.links) run.mid.files.counts run.left.files.counts) is tells)
+
+    never_failed : (path : List ℕ) → (run.answer.ended ≡ tool.FilesFault path) ⊎ Rose run.left.files.counts.faults new.stock.files.counts.faults → ⊥
+    never_failed path (inl is) =
+        clean.none_rose.files
+        (rose_between files.counts.faults run.mid.files.counts.faults run.left.files.counts.faults new.stock.files.counts.faults begins.0
+        (subst (λ (e : ToolEnd). EndTells e (LongServed used old.links run.links) run.mid.files.counts run.left.files.counts) is tells) ends.0)
+    never_failed path (inr rose) =
+        clean.none_rose.files
+        (rose_behind files.counts.faults run.left.files.counts.faults new.stock.files.counts.faults (later_then files.counts run.mid.files.counts run.left.files.counts begins works).0 rose)
+
+    used_well : (how : End) → ComesOf how run.answer.ended run.left.files.counts new.stock.files.counts → LinksCount how old.links new.links → ProgramCounts how old.links.child.program.failures new.links.child.program.failures → EndsWell used conf how
+    used_well end.Done comes links program = tt
+    used_well end.OutOfMemory comes links program = tt
+    used_well end.LinkFault comes (inl own) program = clean.none_rose.io own.on_io.faults
+    used_well end.LinkFault comes (inr child) program = clean.none_rose.child child.on_child.faults
+    used_well end.TermFault comes links program = clean.none_rose.io links.on_io.faults
+    used_well end.ChildFault comes links program = clean.none_rose.program program
+    used_well end.TooLong comes links program = never_long_by comes
+    used_well (end.FilesFault path) comes links program = never_failed path comes
+    used_well (end.Usage word) none links program = none
+    used_well (end.ConfRefused line kind) none links program = none
+    used_well (end.BadPattern at) none links program = absurd none
+    used_well (end.PatternTooLarge at) none links program = absurd none
+    used_well (end.Damaged path line) none links program = none
+
+    comes : ComesOf outcome.end run.answer.ended run.left.files.counts new.stock.files.counts
+    comes =
+        awaited_comes run.answer.ended run.left.files.counts new.stock.files.counts run.answer.is_started run.links.child new.links.child run.how outcome.end run.answer.status run.status run.awaits
+        (comes_of run.left.layers new.stock.used run.left.files new.stock.files run.how (keeps_changes used) run.answer.ended run.finishes)
+
+  tool_well : (outcome : Outcome) (saves : List Save) → HasRunTool used settings old new outcome saves → EndsWell used conf outcome.end
+  tool_well outcome saves (inl before) = before_well outcome.end before.0
+  tool_well outcome saves (inr worked) =
+      let run = as_used used settings old new outcome saves worked in
+      used_well outcome run outcome.end (comes outcome run) (links_counted used settings old new outcome saves (inr worked)) (program_counted used settings old new outcome saves (inr worked))
+
+  words_well : (outcome : Outcome) (saves : List Save) → HasRunWords words settings old new outcome saves → EndsWell used conf outcome.end
+  words_well outcome saves (inl refused) = absurd (refused.0.refused.refused (used, clean.named))
+  words_well outcome saves (inr ran) = tool_well outcome saves (subst (λ (t : Tool). HasRunTool t settings old new outcome saves) (one_tool words ran.0 used ran.1 clean.named) ran.2)
+
+pub ends_well : (words : List (List ℕ)) (used : Tool) (conf : Configuration) (settings : Settings) (old new : World) (outcome : Outcome) (saves : List Save) → IsUndisturbed words used conf settings old new
+    → HasRunWords words settings old new outcome saves → EndsWell used conf outcome.end
+ends_well words used conf settings old new outcome saves clean ran = words_well words used conf settings old new clean outcome saves ran

@@ -1,0 +1,9 @@
+use Rattle.dc_theorem.proofs.CallsLaw.{fails_at_most}
+use Rattle.dc_theorem.proofs.WriteLaw.{met_none}
+use Rattle.dc_theorem.proofs.completeness.a_run_that_did_all_met_no_fault.Goals as goal
+
+pub returns-clause-files : goal.returns-clause-files
+returns-clause-files c used settings old new outcome run = fails_at_most used settings old new outcome run
+
+pub returns-clause-links : goal.returns-clause-links
+returns-clause-links c words settings old new outcome saves = met_none words settings old new outcome saves
