@@ -9,10 +9,15 @@ pub mod EndLemmas
 pub mod FileCourses
 pub mod LineFiles
 pub mod LoadLaw
+pub mod LoadedTables
+pub mod MovingLaw
+pub mod NamesSeen
 pub mod Recount
+pub mod RootsApart
 pub mod RunLaw
 pub mod SameAnswers
 pub mod SameRuns
+pub mod SavedLayers
 pub mod SelectLaw
 pub mod StartLaws
 pub mod ToolLaws

@@ -119,14 +119,14 @@ never_stops (turn ∷ turns) start course =
     let silent : is_stop turn.did ≡ false = ap is_stop course.0.handled.0 in
     ap (λ (b : Bool). b || stops turns) silent ∙ never_stops turns turn.new course.2
 
-selections_done : (ended : LinkEnd NoMemory) → selections_end ended ≡ tool.Done → ended ≡ link.Done
+pub selections_done : (ended : LinkEnd NoMemory) → selections_end ended ≡ tool.Done → ended ≡ link.Done
 selections_done link.Done is = refl
 selections_done link.LinkFault is = cc
 selections_done link.TooLong is = cc
 selections_done link.OutOfMemory is = cc
 selections_done (link.Broken error) is = cc
 
-served_done : (served : LinkEnd NoMemory) (state left : SelectorState) → Finishes served state left link.Done → served ≡ link.Done
+pub served_done : (served : LinkEnd NoMemory) (state left : SelectorState) → Finishes served state left link.Done → served ≡ link.Done
 served_done link.Done state left finishes = refl
 served_done link.LinkFault state left finishes = cc
 served_done link.TooLong state left finishes = cc
@@ -135,7 +135,7 @@ served_done (link.Broken error) state left finishes = cc
 
 -- all of the input came
 module _ (start new : SelectorState) (turns : List (Transition SelectorState)) (rest : List Line) (talk : List Piece) (input : List ℕ) (before code : ℕ) where
-  whole_input : IsExecution TakesSelection start turns → Answered LosesSelection link.Done start turns rest talk (Some input) before new code → got talk ≡ input
+  pub whole_input : IsExecution TakesSelection start turns → Answered LosesSelection link.Done start turns rest talk (Some input) before new code → got talk ≡ input
   whole_input course answered = elim answered.read [
     | inl stop ↦ absurd (let none : stops turns ≡ false = never_stops turns start course in cc)
     | inr all ↦ all.1.whole
