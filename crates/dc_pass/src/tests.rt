@@ -7,34 +7,41 @@ use dc_template::Kind;
 use dc_text::{List, Name, Text};
 use dc_words::Line;
 use std::alloc::Global;
+use std::process::Abort;
 
-fn texts(alloc: Global, items: &[&[u8]]) -> Option<List<Text>> {
+fn text(rt: &impl Abort, alloc: Global, bytes: &[u8]) -> Text {
+    Text::from_bytes(alloc, bytes).expect(rt, "memory")
+}
+
+fn texts(rt: &impl Abort, alloc: Global, items: &[&[u8]]) -> List<Text> {
     let mut list = List::new(alloc);
     for item in items {
-        list.push(Text::from_bytes(alloc, item).ok()?).ok()?;
+        list.push(text(rt, alloc, item)).expect(rt, "memory");
     }
-    Some(list)
+    list
 }
 
 fn question(
+    rt: &impl Abort,
     alloc: Global,
     kind: Kind,
     choices: &[&[u8]],
     labels: &[&[u8]],
     value: &[u8],
-) -> Option<Shown> {
-    Some(Shown {
-        name: Name::read(alloc, b"a/n").ok()?,
+) -> Shown {
+    Shown {
+        name: Name::read(alloc, b"a/n").expect(rt, "a name"),
         kind,
-        description: Text::from_bytes(alloc, b"N").ok()?,
-        extended: Text::from_bytes(alloc, b"one\ntwo \\n").ok()?,
-        choices: texts(alloc, choices)?,
-        labels: texts(alloc, labels)?,
-        value: Text::from_bytes(alloc, value).ok()?,
-    })
+        description: text(rt, alloc, b"N"),
+        extended: text(rt, alloc, b"one\ntwo \\n"),
+        choices: texts(rt, alloc, choices),
+        labels: texts(rt, alloc, labels),
+        value: text(rt, alloc, value),
+    }
 }
 
-fn questions(alloc: Global) -> Option<List<Shown>> {
+// A question of each kind, those to choose from with choices and labels.
+fn questions(rt: &impl Abort, alloc: Global) -> List<Shown> {
     let mut list = List::new(alloc);
     for kind in [
         Kind::Str,
@@ -45,73 +52,77 @@ fn questions(alloc: Global) -> Option<List<Shown>> {
         Kind::Error,
         Kind::Title,
     ] {
-        list.push(question(alloc, kind, &[], &[], b"true").ok_or(()).ok()?)
-            .ok()?;
+        list.push(question(rt, alloc, kind, &[], &[], b"true"))
+            .expect(rt, "memory");
     }
     for kind in [Kind::Select, Kind::Multiselect] {
         let choices = [b"red".as_slice(), b"light, blue"];
         let labels = [b"rot".as_slice(), b"hell blau"];
-        list.push(
-            question(alloc, kind, choices.as_slice(), labels.as_slice(), b"red")
-                .ok_or(())
-                .ok()?,
-        )
-        .ok()?;
+        list.push(question(
+            rt,
+            alloc,
+            kind,
+            choices.as_slice(),
+            labels.as_slice(),
+            b"red",
+        ))
+        .expect(rt, "memory");
     }
-    Some(list)
+    list
 }
 
 // How the lines of the text are taken: `.` for one that goes on, `A` for a request, `T` for a line that is told, `!` for an unreadable
 // one.
-fn taken(alloc: Global, text: &[u8]) -> Option<Text> {
+fn taken(rt: &impl Abort, alloc: Global, bytes: &[u8]) -> Text {
     let mut reader = RequestReader::new(alloc);
     let mut seen = Text::new(alloc);
-    for line in text.split(|byte| *byte == b'\n') {
-        let line = Line::Whole(Text::from_bytes(alloc, line).ok()?);
-        let mark = match reader.take(line) {
+    for line in bytes.split(|byte| *byte == b'\n') {
+        let mark = match reader.take(Line::Whole(text(rt, alloc, line))) {
             Ok(None) => b'.',
             Ok(Some(WireCall::Tell(_))) => b'T',
             Ok(Some(WireCall::Ask { .. })) => b'A',
             Err(WireError::Bad) => b'!',
             Err(WireError::OutOfMemory) => b'0',
         };
-        seen.push(mark).ok()?;
+        seen.push(mark).expect(rt, "memory");
     }
-    Some(seen)
+    seen
 }
 
-// The request that the text is, printed again.
-fn printed_again(alloc: Global, text: &[u8]) -> Option<Text> {
+// The request that the text is, printed again; without one nothing.
+fn printed_again(rt: &impl Abort, alloc: Global, bytes: &[u8]) -> Text {
     let mut reader = RequestReader::new(alloc);
-    for line in text.split(|byte| *byte == b'\n') {
-        let line = Line::Whole(Text::from_bytes(alloc, line).ok()?);
-        match reader.take(line).ok()? {
-            Some(
-                WireCall::Ask {
-                    title,
-                    backup,
-                    shown,
-                },
-            ) => return print_request(alloc, &title, backup, &shown).ok(),
-            _ => {}
+    for line in bytes.split(|byte| *byte == b'\n') {
+        let took = reader
+            .take(Line::Whole(text(rt, alloc, line)))
+            .expect(rt, "a line of a request");
+        if let Some(
+            WireCall::Ask {
+                title,
+                backup,
+                shown,
+            },
+        ) = took
+        {
+            return print_request(alloc, &title, backup, &shown).expect(rt, "memory");
         }
     }
-    None
+    Text::new(alloc)
 }
 
 #[test]
 fn each_kind_is_read_as_it_was_printed(rt: HostRuntime) {
     let alloc = rt.alloc();
-    let title = Text::from_bytes(alloc, b"T").expect(&rt, "ample memory");
-    let shown = questions(alloc).expect(&rt, "ample memory");
-    let text = print_request(alloc, &title, false, &shown).expect(&rt, "ample memory");
-    let again = printed_again(alloc, text.bytes()).expect(&rt, "it is read");
-    assert_eq!(rt; again.bytes(), text.bytes());
+    let title = text(&rt, alloc, b"T");
+    let shown = questions(&rt, alloc);
+    let printed = print_request(alloc, &title, false, &shown).expect(&rt, "memory");
+    let again = printed_again(&rt, alloc, printed.bytes());
+    assert_eq!(rt; again.bytes(), printed.bytes());
 }
 
 #[test]
 fn lines_are_told_apart(rt: HostRuntime) {
-    for (text, marks) in [
+    for (bytes, marks) in [
         (
             b"title\nbackup true\nquestion a/n\nkind string\ndescription N\nextended\nvalue\nask\ntell x".as_slice(),
             b".......AT".as_slice(),
@@ -143,7 +154,7 @@ fn lines_are_told_apart(rt: HostRuntime) {
             b".......!",
         ),
     ] {
-        let seen = taken(rt.alloc(), text).expect(&rt, "ample memory");
+        let seen = taken(&rt, rt.alloc(), bytes);
         assert_eq!(rt; seen.bytes(), marks);
     }
 }
@@ -153,18 +164,18 @@ fn answers_are_printed(rt: HostRuntime) {
     let alloc = rt.alloc();
     let mut answers = List::new(alloc);
     answers
-        .push(Answer::Value(Text::from_bytes(alloc, b"zed\n").expect(&rt, "ample memory")))
-        .expect(&rt, "ample memory");
-    answers.push(Answer::Keep).expect(&rt, "ample memory");
+        .push(Answer::Value(text(&rt, alloc, b"zed\n")))
+        .expect(&rt, "memory");
+    answers.push(Answer::Keep).expect(&rt, "memory");
     answers
         .push(Answer::Value(Text::new(alloc)))
-        .expect(&rt, "ample memory");
-    let text = print_answers(alloc, &Asked::Answers(answers)).expect(&rt, "ample memory");
+        .expect(&rt, "memory");
+    let printed = print_answers(alloc, &Asked::Answers(answers)).expect(&rt, "memory");
     assert_eq!(rt;
-        text.bytes(),
+        printed.bytes(),
         b"value zed\\n\nkeep\nvalue\ndone\n".as_slice()
     );
-    let back = print_answers(alloc, &Asked::Back).expect(&rt, "ample memory");
+    let back = print_answers(alloc, &Asked::Back).expect(&rt, "memory");
     assert_eq!(rt; back.bytes(), b"back\n".as_slice());
 }
 
@@ -190,29 +201,30 @@ fn joined_choices_are_told_apart(rt: HostRuntime) {
         (b"b, c\\, d, e", true),
     ] {
         let choices = texts(
+            &rt,
             rt.alloc(),
             [b"a".as_slice(), b"b", b"a", b"c, d", b"e"].as_slice(),
-        )
-        .expect(&rt, "ample memory");
+        );
         let found = crate::replies::are_joined(rt.alloc(), choices.as_slice(), value).expect(
-            &rt,
-            "ample memory",
+            &rt, "memory",
         );
         assert_eq!(rt; found, is);
     }
 }
 
 // What the other end's lines come to where a string is asked, printed as a reply, or which line is unreadable.
-fn heard(alloc: Global, input: &[u8], backup: bool) -> Option<Text> {
-    let mut link = MemLink::new(alloc, input, [1].as_slice(), [].as_slice()).ok()?;
+fn heard(rt: &impl Abort, alloc: Global, input: &[u8], backup: bool) -> Text {
+    let mut link = MemLink::new(alloc, input, [1].as_slice(), [].as_slice()).expect(rt, "memory");
     let mut pass = Pass::new(alloc);
     let mut shown = List::new(alloc);
-    shown.push(question(alloc, Kind::Str, &[], &[], b"")?).ok()?;
+    shown
+        .push(question(rt, alloc, Kind::Str, &[], &[], b""))
+        .expect(rt, "memory");
     match pass.ask(&mut link, &shown, backup, &Text::new(alloc)) {
-        Ok(asked) => print_answers(alloc, &asked).ok(),
-        Err(PassError::Bad { line: 1 }) => Text::from_bytes(alloc, b"bad 1").ok(),
-        Err(PassError::Bad { line: 2 }) => Text::from_bytes(alloc, b"bad 2").ok(),
-        Err(_) => None,
+        Ok(asked) => print_answers(alloc, &asked).expect(rt, "memory"),
+        Err(PassError::Bad { line: 1 }) => text(rt, alloc, b"bad 1"),
+        Err(PassError::Bad { line: 2 }) => text(rt, alloc, b"bad 2"),
+        Err(_) => text(rt, alloc, b"failed"),
     }
 }
 
@@ -236,7 +248,7 @@ fn replies_are_heard(rt: HostRuntime) {
         (b"value zed\n", true, b"keep\ndone\n"),
         (b"", true, b"keep\ndone\n"),
     ] {
-        let found = heard(rt.alloc(), input, backup).expect(&rt, "an end");
+        let found = heard(&rt, rt.alloc(), input, backup);
         assert_eq!(rt; found.bytes(), came);
     }
 }
