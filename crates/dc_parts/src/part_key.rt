@@ -1,5 +1,5 @@
 // Keys of parts, each with its number where it is a usual one.
-ghost use Rattle.std.specs.Prelude.{ℕ, List, ◌≡◌, ◌∷◌, ◌<◌, length, Some};
+ghost use Rattle.std.specs.Prelude.{ℕ, List, ◌≡◌, ◌∷◌, ◌<◌, IfSome, length, Some};
 ghost use Rattle.dc_text.specs.Maps.{text_cmp};
 ghost use Rattle.dc_parts.specs.Packed.{usual_key, number_of};
 ghost use Rattle.dc_parts.specs.Usual.{usual_part};
@@ -23,13 +23,47 @@ pub(crate) fn compare(mark: u8, key: &[u8], other: &[u8]) -> Ordering
     }
 }
 
-// The order of two texts. The first bytes tell most apart.
+// The order of two texts. They are short, or differ near their front.
 fn compare_texts(text: &[u8], other: &[u8]) -> Ordering
     ensures { result ≡ text_cmp text.now other.now }
 {
+    let mut rest = text;
+    let mut other_rest = other;
+    while let Some((behind, other_behind)) = behind_equal(rest, other_rest) {
+        rest = behind;
+        other_rest = other_behind;
+    }
+    compare_firsts(rest, other_rest)
+}
+
+// What stands behind the first byte of each, where these are the same.
+fn behind_equal<'a>(text: &'a [u8], other: &'a [u8]) -> Option<(&'a [u8], &'a [u8])>
+    ensures order { IfSome result (λ rests. text_cmp rests.0.now rests.1.now ≡ text_cmp text.now other.now) }
+    ensures shorter { IfSome result (λ rests. length rests.0.now < length text.now) }
+{
     match (text, other) {
-        ([first, ..], [second, ..]) if first != second => first.cmp(second),
-        _ => text.cmp(other),
+        ([first, rest @ ..], [second, other_rest @ ..]) if first == second => {
+            Some((rest, other_rest))
+        }
+        _ => None,
+    }
+}
+
+// The order of two texts, of which one is empty or the first bytes mostly differ.
+fn compare_firsts(text: &[u8], other: &[u8]) -> Ordering
+    ensures { result ≡ text_cmp text.now other.now }
+{
+    match (text.split_first(), other.split_first()) {
+        (None, None) => Ordering::Equal,
+        (None, Some(_)) => Ordering::Less,
+        (Some(_), None) => Ordering::Greater,
+        (Some((first, _)), Some((second, _))) => {
+            if first == second {
+                text.cmp(other)
+            } else {
+                first.cmp(second)
+            }
+        }
     }
 }
 

@@ -1,7 +1,8 @@
 -- Questions that are answered before they are asked.
-use Rattle.std.proofs.Common.{◌≡◌, ℕ, Bool, true, false, cond, not, List, [], ◌∷◌, ◌++◌, Some, None, Err, refl, ap, ◌∙◌, inr}
-use Rattle.std.specs.Prelude.{◌||◌, unwrap_or, codes, if◌then◌else◌}
-use Rattle.std.specs.FinMap.{contains_key, insert}
+use Rattle.std.proofs.Common.{◌≡◌, ℕ, Bool, true, false, cond, not, List, [], ◌∷◌, ◌++◌, Option, Some, None, Err, refl, sym, ap, ◌∙◌, inr}
+use Rattle.std.specs.Prelude.{◌||◌, is_some, option_and_then, unwrap_or, codes, if◌then◌else◌}
+use Rattle.std.specs.Cmp.Lexicographic.{nat_list_cmp_total}
+use Rattle.std.specs.FinMap.{contains_key, insert, get-insert}
 use Rattle.std.specs.List.{All, filter, flat_map, list_any}
 use Rattle.std.specs.Str.{bytes_eq}
 use Rattle.std.proofs.lemmas.List.Elements.{All-nil, All-cons, All-head, All-tail, All-map}
@@ -11,19 +12,22 @@ use Rattle.dc_text.specs.Settled.{settled}
 use Rattle.dc_item.specs.Item.{ItemParts, no_parts}
 use Rattle.dc_item.specs.declared.op.Op.{Op}
 use Rattle.dc_item.specs.declared.op.Op.TheVariants.{Put}
-use Rattle.dc_template.specs.Kinds.{kind_word}
+use Rattle.dc_template.specs.Kinds.{kind_of, kind_word}
 use Rattle.dc_template.specs.declared.kinds.Kind.{Kind}
+use Rattle.dc_template.specs.declared.kinds.Kind.TheVariants.{Str, Bool as BoolOf, Select, Multiselect, Password, Note, Txt, Error, Title}
 use Rattle.dc_conf.specs.Plans.{IsOver, are_disjoint}
 use Rattle.dc_layer.specs.State.{LayerState}
-use Rattle.dc_store.specs.Plans.{StoreState}
+use Rattle.dc_store.specs.Plans.{StoreState, look}
 use Rattle.dc_store.specs.Batches.{Write, AreOver, AllDistinct, AreDistinct, is_refused, names_of, refused_names}
-use Rattle.dc_question.specs.Ownership.{write_beside}
+use Rattle.dc_question.specs.Ownership.{kind_tested, write_beside}
 use Rattle.dc_question.specs.Preseeding.{question_then, answered, made_template, is_known, template_made, preseed_batch, preseeded}
 use Rattle.dc_question.specs.Questions.{QuestionContext, IsSetOver, question}
 use Rattle.dc_question.specs.declared.errors.QuestionError.{QuestionError}
 use Rattle.dc_question.specs.declared.errors.QuestionError.TheVariants.{CantChange}
 use Rattle.dc_question.proofs.ApartLemmas.{apart_too, no_pairs, two_distinct}
+use Rattle.dc_question.specs.Readings.{kind_by}
 use Rattle.dc_question.proofs.FieldLemmas.{with_new, nothing_there}
+use Rattle.dc_question.proofs.KindLemmas.{kind_reads, put_kept}
 use Rattle.dc_question.proofs.RefusalLemmas.{row_refused}
 
 -- ---- items that are made
@@ -41,6 +45,45 @@ typed_template bare typed owned k t word name is_new b w n fresh made owns =
     let is_fresh : is_new ≡ true = fresh ∙ ap (λ (i : ItemParts). not (contains_key i.fields (codes "type"))) b ∙ ap not (nothing_there (codes "type")) in
     let typed' : typed ≡ with_new no_parts (codes "type") (kind_word k) true = made ∙ (λ j. with_new (b j) (codes "type") (w j) (is_fresh j)) in
     owns ∙ (λ j. record (typed' j) { owners = insert (typed' j).owners (n j) tt })
+
+pub new_answered : (bare valued owned flagged : ItemParts) (o n v owner : List ℕ) (unseen is_new : Bool) → bare ≡ question_then None n → owner ≡ o
+    → is_new ≡ not (contains_key bare.fields (codes "value")) → valued ≡ with_new bare (codes "value") (settled v) is_new
+    → owned ≡ record valued { owners = insert valued.owners owner tt }
+    → flagged ≡ record owned { flags = if unseen then owned.flags else insert owned.flags (codes "seen") tt } → flagged ≡ answered None o n v unseen
+new_answered bare valued owned flagged o n v owner unseen is_new b w fresh made owns flags =
+    let bare_of = question_then None n in
+    let none : contains_key bare_of.fields (codes "value") ≡ false
+    = ap is_some (get-insert nat_list_cmp_total no_parts.fields (codes "template") (settled n) (codes "value")) ∙ nothing_there (codes "value") in
+    let is_fresh : is_new ≡ true = fresh ∙ ap (λ (i : ItemParts). not (contains_key i.fields (codes "value"))) b ∙ ap not none in
+    let valued' : valued ≡ with_new bare_of (codes "value") (settled v) true = made ∙ (λ j. with_new (b j) (codes "value") (settled v) (is_fresh j)) in
+    let owned' = owns ∙ (λ j. record (valued' j) { owners = insert (valued' j).owners (w j) tt }) in
+    flags ∙ (λ j. record (owned' j) { flags = if unseen then (owned' j).flags else insert (owned' j).flags (codes "seen") tt })
+
+-- ---- the write that makes a template
+
+word_read : (k : Kind) → option_and_then kind_of (Some (kind_word k)) ≡ Some k
+word_read Str = refl
+word_read BoolOf = refl
+word_read Select = refl
+word_read Multiselect = refl
+word_read Password = refl
+word_read Note = refl
+word_read Txt = refl
+word_read Error = refl
+word_read Title = refl
+
+module _ (ls : List LayerState) (at : QuestionContext) where
+  -- a write of an item to a template that is told by its name
+  abbrev pub put_of : List ℕ → Option Kind → ItemParts → Write
+  put_of name kind item = record { plan = at.templates; name = name; kind = kind; op = Put item; reported_for = name ∷ [] }
+
+  made_kind : (n : List ℕ) (k : Kind) → Some k ≡ kind_tested ls at n (Put (made_template k n))
+  made_kind n k =
+      sym (ap (option_and_then kind_of) (get-insert nat_list_cmp_total no_parts.fields (codes "type") (kind_word k) (codes "type")) ∙ word_read k)
+      ∙ put_kept kind_by kind_reads (Put (made_template k n)) (made_template k n) (look ls at.templates n) refl
+
+  pub template_put : (n name : List ℕ) (k : Kind) (item : ItemParts) → name ≡ n → item ≡ made_template k n → put_of name (Some k) item ≡ template_made ls at n k
+  template_put n name k item m is = λ i. put_of (m i) (made_kind n k i) (is i)
 
 -- ---- the row
 

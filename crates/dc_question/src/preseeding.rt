@@ -1,21 +1,22 @@
 // Questions that are answered before they are asked.
-ghost use Rattle.std.specs.Prelude.{◌≡◌, ◌∷◌, ◌++◌, [], IfOk, OnOk, true, codes};
+ghost use Rattle.std.specs.Prelude.{◌≡◌, ◌∷◌, ◌++◌, [], IfOk, None, OnOk, Some, if◌then◌else◌, true, codes};
 ghost use Rattle.std.specs.Option.{option_copied};
+ghost use Rattle.std.specs.FinMap as map;
 ghost use Rattle.dc_conf.specs.Plans.{are_disjoint};
 ghost use Rattle.dc_question.specs.Asked.{asked, HasPlans, seen, Leaves, SameBut};
 ghost use Rattle.dc_question.specs.Ownership.{write_beside as write_beside_of};
-ghost use Rattle.dc_question.specs.Preseeding.{answered as answered_of, is_known as is_known_of, made_template as made_template_of, preseed_batch as preseed_batch_of, preseeded, question_then as question_then_of, template_made as template_made_of};
+ghost use Rattle.dc_question.specs.Preseeding.{answered as answered_of, made_template as made_template_of, preseed_batch as preseed_batch_of, preseeded, question_then as question_then_of, template_made as template_made_of};
 
-use crate::beside::only;
 use crate::errors::QuestionError;
 use crate::kinds_left::KindsLeft;
 use crate::questions::Questions;
 use dc_item::{Item, ItemBuilder, Op};
 use dc_layer::Layer;
-use dc_store::{Batch, Write};
+use dc_store::{Batch, ReportedFor, Write};
 use dc_template::Kind;
 use dc_text::{FieldKey, FlagName, Mem, Name, OutOfMemory, settle};
 use std::alloc::Global;
+use std::slice::from_ref;
 
 impl<'q> Questions<'q> {
     /// Answers the question before it is asked (debconf-set-selections(1)): it gets the settled value and one more owner, and its flag
@@ -37,8 +38,7 @@ impl<'q> Questions<'q> {
         ensures frame { SameBut name.now (asked state self.old) (asked state self.new) }
     {
         let mut batch = self.preseed_batch(owner, name, kind, value, unseen)?;
-        let names = only(self.alloc, name)?;
-        self.do_batch(names.as_slice(), &mut batch)
+        self.do_batch(from_ref(name), &mut batch)
     }
 
     // The writes that answer a question.
@@ -53,20 +53,13 @@ impl<'q> Questions<'q> {
         requires over { HasPlans self.now }
         ensures { IfOk result (λ batch. batch ≡ seen (asked state self.now) preseed_batch_of owner.now name.now kind value.now unseen) }
     {
-        let item = answered(self.alloc, self.question(name), owner, name, value, unseen)?;
-        if self.is_known(name) {
+        let old = self.question(name);
+        let item = answered(self.alloc, old, owner, name, value, unseen)?;
+        if old.is_some() || self.named_template(name.bytes()).is_some() {
             self.lone_batch(name, Op::Put(item))
         } else {
             self.made_batch(name, kind, Op::Put(item))
         }
-    }
-
-    // Whether the question is there, or a template of its name.
-    fn is_known(&self, name: &Name) -> bool
-        requires over { HasPlans self.now }
-        ensures { result ≡ seen (asked state self.now) is_known_of name.now }
-    {
-        self.exists(name) || self.named_template(name.bytes()).is_some()
     }
 
     // A write to a question alone.
@@ -87,7 +80,7 @@ impl<'q> Questions<'q> {
     {
         let first = self.template_made(name, kind)?;
         let second = self.write_after(&first, name, op)?;
-        let mut batch = Batch::new(self.alloc);
+        let mut batch = Batch::with_capacity(self.alloc, 2)?;
         batch.push(first)?;
         batch.push(second)?;
         Ok(batch)
@@ -99,7 +92,20 @@ impl<'q> Questions<'q> {
         ensures { IfOk result (λ w. w ≡ seen (asked state self.now) template_made_of name.now kind) }
     {
         let item = made_template(self.alloc, kind, name)?;
-        self.template_write(name.copy()?, Op::Put(item), only(self.alloc, name)?)
+        Ok(self.own_template_write(name.copy()?, Some(kind), Op::Put(item)))
+    }
+
+    // A write to a template of a known kind, which is done for the question of its name.
+    fn own_template_write(&self, name: Name, kind: Option<Kind>, op: Op) -> Write<'q>
+        ensures { result ≡ record { plan = self.now.context.templates; name = name; kind = kind; op = op; reported_for = name ∷ [] } }
+    {
+        Write {
+            plan: self.context.templates,
+            name,
+            kind,
+            op,
+            reported_for: ReportedFor::Itself,
+        }
     }
 }
 
@@ -114,13 +120,46 @@ fn answered(
 ) -> Mem<Item>
     ensures { IfOk result (λ item. item ≡ answered_of (option_copied old.entry) owner.now name.now value.now unseen) }
 {
-    let mut item = question_then(alloc, old, name)?;
+    match old {
+        Some(item) => answered_again(alloc, item, owner, value, unseen),
+        None => answered_new(alloc, owner, name, value, unseen),
+    }
+}
+
+// The item of a question that is there, with its answer.
+fn answered_again(alloc: Global, old: &Item, owner: &Name, value: &[u8], unseen: bool) -> Mem<Item>
+    ensures { IfOk result (λ item. item ≡ answered_of (Some old.now) owner.now [] value.now unseen) }
+{
+    let mut item = old.copy()?;
     item.apply(&Op::SetField(FieldKey::known(alloc, b"value")?, settle(alloc, value)?))?;
     item.apply(&Op::AddOwner(owner.copy()?))?;
     if !unseen {
         item.apply(&Op::SetFlag(seen_flag(alloc)?, true))?;
     }
     Ok(item)
+}
+
+// The item of a new question of the template of its name, with its answer. Its parts are put in the order in which they stand.
+fn answered_new(alloc: Global, owner: &Name, name: &Name, value: &[u8], unseen: bool) -> Mem<Item>
+    ensures { IfOk result (λ item. item ≡ answered_of None owner.now name.now value.now unseen) }
+{
+    let mut builder = bare_question(alloc, name)?;
+    let _ = builder.put_written_field(b"value", value)?;
+    builder.put_owner(owner.bytes())?;
+    put_seen(&mut builder, unseen)?;
+    builder.take()
+}
+
+// Sets the flag `seen`, unless that isn't wanted.
+fn put_seen(builder: &mut ItemBuilder, unseen: bool) -> Mem<()>
+    ensures { OnOk result (builder.new ≡ record builder.old {
+      flags = if unseen then builder.old.flags else map.insert builder.old.flags (codes "seen") tt;
+    }) }
+{
+    if unseen {
+        return Ok(());
+    }
+    builder.put_flag(b"seen")
 }
 
 /// The name of the flag `seen`.
@@ -133,16 +172,13 @@ pub fn seen_flag(alloc: Global) -> Mem<FlagName>
     }
 }
 
-// The item of a question that is there, or of a new one of the template of its name.
-fn question_then(alloc: Global, old: Option<&Item>, name: &Name) -> Mem<Item>
-    ensures { IfOk result (λ item. item ≡ question_then_of (option_copied old.entry) name.now) }
+// What stands in a new question of the template of its name.
+fn bare_question(alloc: Global, name: &Name) -> Mem<ItemBuilder>
+    ensures { IfOk result (λ builder. builder ≡ question_then_of None name.now) }
 {
-    if let Some(item) = old {
-        return item.copy();
-    }
     let mut builder = ItemBuilder::new(alloc);
     let _ = builder.put_written_field(b"template", name.bytes())?;
-    builder.take()
+    Ok(builder)
 }
 
 // The item of a template that is made for a question: its type, and the question as its owner.

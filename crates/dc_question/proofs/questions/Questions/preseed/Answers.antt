@@ -1,4 +1,4 @@
-use Rattle.std.proofs.Common.{◌≡◌, length, map as each, sym, subst, ◌∙◌}
+use Rattle.std.proofs.Common.{◌≡◌, length, map as each, sym, subst}
 use Rattle.std.specs.List.{All}
 use Rattle.dc_item.specs.declared.op.Op.TheVariants.{Put}
 use Rattle.dc_store.specs.Batches.{AreOver, AllDistinct, names_of}
@@ -25,7 +25,7 @@ do_batch-requires-clause-distinct g c =
     subst AllDistinct (sym c.in_ok-batch.ensures) (row_distinct layers at c.args.name.now c.args.kind op (is_known layers at c.args.name.now) c.requires.apart)
 
 pub returns-clause-does : goal.returns-clause-does
-returns-clause-does g c = does_row c.do_batch.result _ _ _ _ _ _ (c.as_slice.ensures ∙ c.in_ok-names.ensures) c.in_ok-batch.ensures c.do_batch.ensures.does
+returns-clause-does g c = does_row c.do_batch.result _ _ _ _ _ _ c.from_ref.ensures.value c.in_ok-batch.ensures c.do_batch.ensures.does
 
 pub returns-clause-frame : goal.returns-clause-frame
 returns-clause-frame g c =
@@ -38,6 +38,3 @@ returns-clause-frame g c =
 
 pub returns-in_err-batch-clause-frame : goal.returns-in_err-batch-clause-frame
 returns-in_err-batch-clause-frame g c = same_asked _ _
-
-pub returns-in_err-names-clause-frame : goal.returns-in_err-names-clause-frame
-returns-in_err-names-clause-frame g c = same_asked _ _
