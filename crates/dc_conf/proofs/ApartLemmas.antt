@@ -5,13 +5,13 @@ use Rattle.std.specs.List.{AllByRecursion, filter, list_any}
 use Rattle.std.specs.Option.{option_map_or}
 use Rattle.std.proofs.lemmas.Bool.{not-false, not-true, and_parts}
 use Rattle.dc_conf.specs.declared.drivers.Driver.{Driver}
-use Rattle.dc_conf.specs.declared.drivers.Driver.TheVariants.{File, DirTree, PackageDir, Stack}
+use Rattle.dc_conf.specs.declared.drivers.Driver.TheVariants.{File, DirTree, PackageDir, Stack, Backup, Debug}
 use Rattle.dc_conf.specs.declared.faults.ConfKind.TheVariants.{MissingField, SamePlace}
 use Rattle.dc_conf.specs.declared.fields.Field.{Field}
 use Rattle.dc_conf.specs.declared.spec.LayerSpec.{LayerSpec}
 use Rattle.dc_conf.specs.Stanzas.{Stanza, field_at, first_line}
 use Rattle.dc_conf.specs.Values.{rules_of}
-use Rattle.dc_conf.specs.ConfFaults.{along, fault_if, is_there, is_stack_driver, is_stack, lacks_field, driver_in, place_by, place_in, sort_in, place_of, paths_at, paths_in, meet, share_place, database_faults, head_faults, second_pass}
+use Rattle.dc_conf.specs.ConfFaults.{along, fault_if, is_there, is_made_by, is_made, lacks_field, driver_in, place_by, place_in, sort_in, place_of, paths_at, paths_in, meet, share_place, database_faults, head_faults, second_pass}
 use Rattle.dc_conf.specs.Configuration.{spec_of, configuration, places_meet, are_apart}
 use Rattle.dc_conf.proofs.CleanLemmas.{IsClean, no_fault, clean_database, driver_is}
 use Rattle.dc_conf.proofs.TestLemmas.{nil-append, neither, list_any-append}
@@ -35,15 +35,17 @@ there (Some field) e = (field, refl)
 field_there : (key : List ℕ) (s : Stanza) → (not (is_there key s) || false) ≡ false → is_some (field_at key s) ≡ true
 field_there key s e = ap is_some (there (field_at key s) (not-false (is_there key s) (neither (not (is_there key s)) false e).0)).1
 
-place_there : (s : Stanza) (d : Driver) → is_stack_driver (Some d) ≡ false → lacks_field (rules_of (Some d)) s ≡ false → is_some (place_by (Some d) s) ≡ true
+place_there : (s : Stanza) (d : Driver) → is_made_by (Some d) ≡ false → lacks_field (rules_of (Some d)) s ≡ false → is_some (place_by (Some d) s) ≡ true
 place_there s File off lacks = field_there (codes "filename") s lacks
 place_there s DirTree off lacks = field_there (codes "directory") s lacks
 place_there s PackageDir off lacks = field_there (codes "directory") s lacks
 place_there s Stack off lacks = absurd (cc)
+place_there s Backup off lacks = absurd (cc)
+place_there s Debug off lacks = absurd (cc)
 
--- the paths of a database that is no stack are those of its place
+-- the paths of a database that isn't made of others are those of its place
 abbrev HasPaths : Stanza → Type 0
-HasPaths s = is_stack s ≡ false → paths_in s ≡ paths_at (sort_in s) (place_of s)
+HasPaths s = is_made s ≡ false → paths_in s ≡ paths_at (sort_in s) (place_of s)
 
 has_paths : (before : List Stanza) (s : Stanza) → IsClean before s → HasPaths s
 has_paths before s clean off =
@@ -51,7 +53,7 @@ has_paths before s clean off =
     let lacks : lacks_field (rules_of (Some found.0)) s ≡ false =
     subst (λ r. lacks_field (rules_of r) s ≡ false) found.1 (no_fault (lacks_field (rules_of (driver_in s)) s) (first_line s) MissingField clean.lacks) in
     let placed : is_some (place_in s) ≡ true =
-    ap (λ r. is_some (place_by r s)) found.1 ∙ place_there s found.0 (sym (ap is_stack_driver found.1) ∙ off) lacks in
+    ap (λ r. is_some (place_by r s)) found.1 ∙ place_there s found.0 (sym (ap is_made_by found.1) ∙ off) lacks in
     ap (λ b. cond b (paths_at (sort_in s) (place_of s)) []) placed
 
 any_none : {X : Type 0} (p : X → Bool) → ((x : X) → p x ≡ false) → (xs : List X) → list_any p xs ≡ false
@@ -100,29 +102,29 @@ all_placed : (before ss : List Stanza) → Runs before ss → AllByRecursion Has
 all_placed before [] run = tt
 all_placed before (s ∷ ss) run = let on = runs_on before ss s run in (has_paths before s on.0, all_placed (before ++ s ∷ []) ss on.1)
 
-same_meetings : (s : Stanza) (ss : List Stanza) → is_stack s ≡ false → HasPaths s → AllByRecursion HasPaths ss
-    → list_any (places_meet (spec_of s)) (each spec_of (filter (λ stanza. not (is_stack stanza)) ss)) ≡ list_any (share_place s) (filter (λ stanza. not (is_stack stanza)) ss)
+same_meetings : (s : Stanza) (ss : List Stanza) → is_made s ≡ false → HasPaths s → AllByRecursion HasPaths ss
+    → list_any (places_meet (spec_of s)) (each spec_of (filter (λ stanza. not (is_made stanza)) ss)) ≡ list_any (share_place s) (filter (λ stanza. not (is_made stanza)) ss)
 same_meetings s [] off own all = refl
 same_meetings s (t ∷ ss) off own all =
-    elim (is_stack t) as (λ b. is_stack t ≡ b
-    → list_any (places_meet (spec_of s)) (each spec_of (cond (not b) (t ∷ filter (λ stanza. not (is_stack stanza)) ss) (filter (λ stanza. not (is_stack stanza)) ss)))
-    ≡ list_any (share_place s) (cond (not b) (t ∷ filter (λ stanza. not (is_stack stanza)) ss) (filter (λ stanza. not (is_stack stanza)) ss))) [
+    elim (is_made t) as (λ b. is_made t ≡ b
+    → list_any (places_meet (spec_of s)) (each spec_of (cond (not b) (t ∷ filter (λ stanza. not (is_made stanza)) ss) (filter (λ stanza. not (is_made stanza)) ss)))
+    ≡ list_any (share_place s) (cond (not b) (t ∷ filter (λ stanza. not (is_made stanza)) ss) (filter (λ stanza. not (is_made stanza)) ss))) [
       | true ↦ λ is. same_meetings s ss off own all.1
       | false ↦ λ is. λ i. list_any (λ path. list_any (meet path) (sym (all.0 is) i)) (sym (own off) i) || same_meetings s ss off own all.1 i
     ] refl
 
-apart_along : (before ss : List Stanza) → Runs before ss → are_apart (each spec_of (filter (λ stanza. not (is_stack stanza)) ss)) ≡ true
+apart_along : (before ss : List Stanza) → Runs before ss → are_apart (each spec_of (filter (λ stanza. not (is_made stanza)) ss)) ≡ true
 apart_along before [] run = refl
 apart_along before (s ∷ ss) run =
     let on = runs_on before ss s run in
-    let others : are_apart (each spec_of (filter (λ stanza. not (is_stack stanza)) ss)) ≡ true = apart_along (before ++ s ∷ []) ss on.1 in
-    elim (is_stack s) as (λ b. is_stack s ≡ b → are_apart (each spec_of (cond (not b) (s ∷ filter (λ stanza. not (is_stack stanza)) ss) (filter (λ stanza. not (is_stack stanza)) ss))) ≡ true) [
+    let others : are_apart (each spec_of (filter (λ stanza. not (is_made stanza)) ss)) ≡ true = apart_along (before ++ s ∷ []) ss on.1 in
+    elim (is_made s) as (λ b. is_made s ≡ b → are_apart (each spec_of (cond (not b) (s ∷ filter (λ stanza. not (is_made stanza)) ss) (filter (λ stanza. not (is_made stanza)) ss))) ≡ true) [
       | true ↦ λ is. others
       | false ↦ λ is.
-          let none : list_any (places_meet (spec_of s)) (each spec_of (filter (λ stanza. not (is_stack stanza)) ss)) ≡ false =
+          let none : list_any (places_meet (spec_of s)) (each spec_of (filter (λ stanza. not (is_made stanza)) ss)) ≡ false =
           same_meetings s ss is (has_paths before s on.0) (all_placed (before ++ s ∷ []) ss on.1)
-          ∙ any_kept (share_place s) (λ stanza. not (is_stack stanza)) ss (none_later s before [] ss on.1) in
-          ap (λ t. not t && are_apart (each spec_of (filter (λ stanza. not (is_stack stanza)) ss))) none ∙ others
+          ∙ any_kept (share_place s) (λ stanza. not (is_made stanza)) ss (none_later s before [] ss on.1) in
+          ap (λ t. not t && are_apart (each spec_of (filter (λ stanza. not (is_made stanza)) ss))) none ∙ others
     ] refl
 
 pub databases_apart : (head : Stanza) (ss : List Stanza) → second_pass (head ∷ ss) ≡ [] → are_apart (configuration (head ∷ ss)).specs ≡ true

@@ -1,13 +1,13 @@
 -- What stanzas without faults have.
 use Rattle.std.proofs.Common.{◌≡◌, ℕ, Bool, true, false, cond, not, List, [], ◌∷◌, ◌++◌, Option, Some, None, refl, sym, ap, ◌∙◌, subst}
-use Rattle.std.specs.Prelude.{codes, nat_le, length, ◌&&◌, ◌||◌}
+use Rattle.std.specs.Prelude.{codes, ◌&&◌, ◌||◌}
 use Rattle.std.specs.List.{AllByRecursion, find, flat_map, list_any}
 use Rattle.std.specs.Option.{option_map_or}
 use Rattle.std.specs.Str.{bytes_eq}
 use Rattle.std.proofs.lemmas.Bool.{not-false}
 use Rattle.std.proofs.lemmas.Slice.Eq.{bytes_eq-Decides}
 use Rattle.dc_conf.specs.declared.drivers.Driver.{Driver}
-use Rattle.dc_conf.specs.declared.drivers.Driver.TheVariants.{File, DirTree, PackageDir, Stack}
+use Rattle.dc_conf.specs.declared.drivers.Driver.TheVariants.{File, DirTree, PackageDir, Stack, Backup, Debug}
 use Rattle.dc_conf.specs.declared.faults.Fault.{Fault}
 use Rattle.dc_conf.specs.declared.faults.ConfKind.{ConfKind}
 use Rattle.dc_conf.specs.declared.faults.ConfKind.TheVariants.{TooMany, NoName, NoDriver, UnknownDriver, MissingField, BadValue}
@@ -17,7 +17,7 @@ use Rattle.dc_conf.specs.declared.spec.LayerSort.TheVariants as sort
 use Rattle.dc_conf.specs.Stanzas.{Stanza, field_at, first_line}
 use Rattle.dc_conf.specs.Values.{is_extension, is_mode, driver_of, rules_of}
 use Rattle.dc_conf.specs.Configuration.{spec_of, mode_by, extension_by, takes_extension, takes_mode, fits_sort}
-use Rattle.dc_conf.specs.ConfFaults.{fault_if, along, missing, lacks_field, rules_in, is_bad, unknown_driver, bad_values, driver_in, sort_by, sort_in, is_stack_driver, repeated_name, same_place, lone_faults, database_faults, head_faults, second_pass}
+use Rattle.dc_conf.specs.ConfFaults.{fault_if, along, missing, lacks_field, rules_in, is_bad, unknown_driver, bad_values, driver_in, sort_by, sort_in, is_made_by, repeated_name, same_place, is_too_many, lone_faults, database_faults, head_faults, second_pass}
 use Rattle.dc_conf.specs.Machine.{TakesMode, HasMode, AreModes}
 use Rattle.dc_conf.proofs.TestLemmas.{nil-append, find_all, neither}
 
@@ -45,12 +45,12 @@ pub record IsClean (before : List Stanza) (s : Stanza) : Type 0 where
 
 pub clean_database : (before : List Stanza) (s : Stanza) → database_faults before s ≡ [] → IsClean before s
 clean_database before s e =
-    let many : List Fault = fault_if (nat_le 16 (length before)) (first_line s) TooMany in
+    let many : List Fault = fault_if (is_too_many before s) (first_line s) TooMany in
     let unnamed : List Fault = missing (codes "name") s NoName in
     let undriven : List Fault = missing (codes "driver") s NoDriver in
     let lacking : List Fault = fault_if (lacks_field (rules_in s) s) (first_line s) MissingField in
-    let all = nil-append (lone_faults (length before) s ++ repeated_name before s) (same_place before s) e in
-    let lone = nil-append (lone_faults (length before) s) (repeated_name before s) all.0 in
+    let all = nil-append (lone_faults (is_too_many before s) s ++ repeated_name before s) (same_place before s) e in
+    let lone = nil-append (lone_faults (is_too_many before s) s) (repeated_name before s) all.0 in
     let five = nil-append (many ++ unnamed ++ undriven ++ lacking ++ unknown_driver s) (bad_values s) lone.0 in
     let four = nil-append (many ++ unnamed ++ undriven ++ lacking) (unknown_driver s) five.0 in
     let three = nil-append (many ++ unnamed ++ undriven) lacking four.0 in
@@ -100,18 +100,20 @@ value_is before s clean d is key takes only =
           (find_all (λ f. is_bad (rules_of (Some d)) f ≡ false) (λ f. bytes_eq f.key key) s field good e))
     ] refl
 
-mode_of : (before : List Stanza) (s : Stanza) → IsClean before s → (d : Driver) → driver_in s ≡ Some d → is_stack_driver (Some d) ≡ false
+mode_of : (before : List Stanza) (s : Stanza) → IsClean before s → (d : Driver) → driver_in s ≡ Some d → is_made_by (Some d) ≡ false
     → TakesMode (sort_by (Some d)) s
 mode_of before s clean File is off = value_is before s clean File is (codes "mode") is_mode (λ value. alone_takes (is_mode value))
 mode_of before s clean DirTree is off = refl
 mode_of before s clean PackageDir is off = value_is before s clean PackageDir is (codes "mode") is_mode (λ value. alone_takes (is_mode value))
 mode_of before s clean Stack is off = absurd (cc)
+mode_of before s clean Backup is off = absurd (cc)
+mode_of before s clean Debug is off = absurd (cc)
 
 pub mode_is : (before : List Stanza) (s : Stanza) → IsClean before s → HasMode s
 mode_is before s clean off =
     let found = driver_is before s clean in
     subst (λ r. TakesMode (sort_by r) s) (sym found.1)
-    (mode_of before s clean found.0 found.1 (sym (ap is_stack_driver found.1) ∙ off))
+    (mode_of before s clean found.0 found.1 (sym (ap is_made_by found.1) ∙ off))
 
 -- ---- what its sort takes
 
@@ -131,6 +133,8 @@ extension_of before s clean PackageDir is =
     value_or is_extension (codes ".dat") (field_at (codes "extension") s) refl
     (value_is before s clean PackageDir is (codes "extension") is_extension (λ value. alone_takes (is_extension value)))
 extension_of before s clean Stack is = refl
+extension_of before s clean Backup is = refl
+extension_of before s clean Debug is = refl
 
 mode_fits : (sort : LayerSort) (s : Stanza) → takes_mode sort (mode_by sort s) ≡ true
 mode_fits sort.File s = refl

@@ -10,3 +10,7 @@ pub mod RiseLemmas
 pub mod TestLemmas
 pub mod SoundLemmas
 pub mod ResolvedLemmas
+pub mod Ways
+pub mod NodeLemmas
+pub mod RowLemmas
+pub mod PlanLemmas

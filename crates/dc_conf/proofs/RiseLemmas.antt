@@ -2,15 +2,15 @@
 use Rattle.std.proofs.Common.{◌≡◌, ℕ, ◌≤◌, Bool, true, false, List, [], ◌∷◌, ◌++◌, Option, Some, None, refl, sym, ap, ◌∙◌, arith}
 use Rattle.std.specs.List.{AllByRecursion, flat_map, list_any}
 use Rattle.std.specs.Option.{option_map_or}
-use Rattle.std.specs.Prelude.{codes, nat_le, length, not}
-use Rattle.dc_conf.specs.declared.drivers.Driver.TheVariants.{File, DirTree, PackageDir, Stack}
+use Rattle.std.specs.Prelude.{codes, not}
+use Rattle.dc_conf.specs.declared.drivers.Driver.TheVariants.{File, DirTree, PackageDir, Stack, Backup, Debug}
 use Rattle.dc_conf.specs.declared.faults.Fault.{Fault}
 use Rattle.dc_conf.specs.declared.faults.ConfKind.{ConfKind}
 use Rattle.dc_conf.specs.declared.faults.ConfKind.TheVariants.{TooMany, NoConfig, NoTemplates, NoName, NoDriver, UnknownDriver, MissingField, BadValue, Twice, SamePlace}
 use Rattle.dc_conf.specs.declared.fields.Field.{Field}
 use Rattle.dc_conf.specs.Stanzas.{Stanza, field_at, first_line}
 use Rattle.dc_conf.specs.Values.{driver_of}
-use Rattle.dc_conf.specs.ConfFaults.{fault_if, along, missing, at_field, is_there, lacks_field, rules_in, is_bad, unknown_driver, bad_values, is_named, driver_in, place_by, share_place, same_place, lone_faults, database_faults, head_faults, second_pass}
+use Rattle.dc_conf.specs.ConfFaults.{fault_if, along, missing, at_field, is_there, lacks_field, rules_in, is_bad, unknown_driver, bad_values, is_named, driver_in, place_by, share_place, same_place, is_too_many, lone_faults, database_faults, head_faults, second_pass}
 use Rattle.dc_conf.specs.Machine.{IsBetween, Rise, earlier_of, least_of}
 use Rattle.dc_conf.proofs.LeastLemmas.{least_in, least_keeps, least_of-append}
 use Rattle.dc_conf.proofs.TestLemmas.{all_each, all-append, find_all}
@@ -58,12 +58,14 @@ module _ (low high : ℕ) where
           | DirTree ↦ at_field_within (codes "directory") s (λ field. shares) SamePlace is
           | PackageDir ↦ at_field_within (codes "directory") s (λ field. shares) SamePlace is
           | Stack ↦ tt
+          | Backup ↦ tt
+          | Debug ↦ tt
         ]
       ]
 
-  lone_within : (count : ℕ) (s : Stanza) → IsBetween low high s → AllByRecursion Within (lone_faults count s)
-  lone_within count s is =
-      let a : AllByRecursion Within (fault_if (nat_le 16 count) (first_line s) TooMany) = at_first (nat_le 16 count) s TooMany is in
+  lone_within : (many : Bool) (s : Stanza) → IsBetween low high s → AllByRecursion Within (lone_faults many s)
+  lone_within many s is =
+      let a : AllByRecursion Within (fault_if many (first_line s) TooMany) = at_first many s TooMany is in
       let b : AllByRecursion Within (missing (codes "name") s NoName) = at_first (not (is_there (codes "name") s)) s NoName is in
       let c : AllByRecursion Within (missing (codes "driver") s NoDriver) = at_first (not (is_there (codes "driver") s)) s NoDriver is in
       let d : AllByRecursion Within (fault_if (lacks_field (rules_in s) s) (first_line s) MissingField) = at_first (lacks_field (rules_in s) s) s MissingField is in
@@ -74,7 +76,7 @@ module _ (low high : ℕ) where
   pub database_within : (before : List Stanza) (s : Stanza) → IsBetween low high s → AllByRecursion Within (database_faults before s)
   database_within before s is =
       all-append Within _ _
-      (all-append Within _ _ (lone_within (length before) s is) (at_field_within (codes "name") s (λ field. is_named before field.value) Twice is))
+      (all-append Within _ _ (lone_within (is_too_many before s) s is) (at_field_within (codes "name") s (λ field. is_named before field.value) Twice is))
       (same_within before s is)
 
   pub head_within : (s : Stanza) → IsBetween low high s → AllByRecursion Within (head_faults s)

@@ -1,22 +1,28 @@
 -- What the configuration of stanzas without faults is like.
 use Rattle.std.proofs.Common.{◌≡◌, ℕ, Bool, true, false, cond, not, ◌&&◌, List, [], ◌∷◌, ◌++◌, map as each, Option, Some, None, refl, sym, ap, ◌∙◌, subst, append_assoc}
-use Rattle.std.specs.Prelude.{codes, ◌||◌, is_some, option_map}
-use Rattle.std.specs.List.{AllByRecursion, filter, find, flat_map, list_all, list_any}
+use Rattle.std.specs.Prelude.{codes, ◌||◌}
+use Rattle.std.specs.List.{AllByRecursion, filter, flat_map, list_all, list_any}
 use Rattle.std.specs.Option.{option_map_or}
 use Rattle.std.specs.Str.{bytes_eq}
 use Rattle.std.proofs.lemmas.Bool.{not-false, and_parts}
 use Rattle.std.proofs.lemmas.Slice.Eq.{bytes_eq-Decides}
+use Rattle.dc_conf.specs.declared.drivers.Driver.{Driver}
+use Rattle.dc_conf.specs.declared.drivers.Driver.TheVariants.{File, DirTree, PackageDir, Stack, Backup, Debug}
 use Rattle.dc_conf.specs.declared.faults.Fault.{Fault}
-use Rattle.dc_conf.specs.declared.faults.ConfKind.TheVariants.{NoName, NoConfig, NoTemplates, Twice, UnknownDatabase, Nested, SharedDatabase}
+use Rattle.dc_conf.specs.declared.faults.ConfKind.TheVariants.{NoName, NoConfig, NoTemplates, MissingField, Twice, UnknownDatabase, Cycle, SharedDatabase}
 use Rattle.dc_conf.specs.declared.fields.Field.{Field}
-use Rattle.dc_conf.specs.declared.spec.StackSpec.{StackSpec}
+use Rattle.dc_conf.specs.declared.nodes.Node.{Node}
+use Rattle.dc_conf.specs.declared.spec.LayerSpec.{LayerSpec}
 use Rattle.dc_conf.specs.Stanzas.{Stanza, field_at, first_line}
-use Rattle.dc_conf.specs.Values.{names_in}
-use Rattle.dc_conf.specs.ConfFaults.{along, fault_if, missing, is_there, has_name, is_named, is_stack, members, value_at, repeats, share, stack_named, reached_by, names_faults, stack_faults, unknown_database, shared_database, database_faults, head_faults, second_pass, third_pass, fourth_pass}
-use Rattle.dc_conf.specs.Configuration.{spec_of, stack_of, configuration, holders_of, is_spec_of, have_names_apart, are_apart, fits_sort, is_sound}
-use Rattle.dc_conf.proofs.CleanLemmas.{IsClean, no_fault, find_passes, sort_fits}
+use Rattle.dc_conf.specs.Values.{names_in, rules_of}
+use Rattle.dc_conf.specs.ConfFaults.{along, at_field, fault_if, missing, is_there, has_name, is_named, is_made, is_made_by, value_at, driver_in, lacks_field, form_by, node_of, nodes_of, naming_faults, one_faults, stack_faults, backup_faults, made_faults, unknown_database, shared_database, database_faults, head_faults, second_pass, third_pass, fourth_pass}
+use Rattle.dc_conf.specs.Configuration.{Configuration, spec_of, configuration, is_spec_of, is_held, is_well_made, have_names_apart, are_apart, fits_sort, is_sound}
+use Rattle.dc_conf.specs.Nodes.{repeats, is_among, is_node, names_of, named_in, leads_to, reaches, names_meet, two_meet}
+use Rattle.dc_conf.proofs.CleanLemmas.{IsClean, no_fault, driver_is, sort_fits}
 use Rattle.dc_conf.proofs.ApartLemmas.{there, Runs, runs_on, databases_apart}
-use Rattle.dc_conf.proofs.TestLemmas.{nil-append, neither, list_any-append, find_all}
+use Rattle.dc_conf.proofs.NodeLemmas.{no_cycle}
+use Rattle.dc_conf.proofs.RowLemmas.{one_named}
+use Rattle.dc_conf.proofs.TestLemmas.{nil-append, neither, list_any-append}
 
 -- ---- names
 
@@ -86,164 +92,232 @@ repeats_kept q (s ∷ ss) e =
 
 -- ---- sorts
 
-all_fit : (before ss : List Stanza) → Runs before ss → list_all fits_sort (each spec_of (filter (λ stanza. not (is_stack stanza)) ss)) ≡ true
+all_fit : (before ss : List Stanza) → Runs before ss → list_all fits_sort (each spec_of (filter (λ stanza. not (is_made stanza)) ss)) ≡ true
 all_fit before [] run = refl
 all_fit before (s ∷ ss) run =
     let on = runs_on before ss s run in
     let others = all_fit (before ++ s ∷ []) ss on.1 in
-    elim (is_stack s) as (λ b. list_all fits_sort (each spec_of (cond (not b) (s ∷ filter (λ stanza. not (is_stack stanza)) ss) (filter (λ stanza. not (is_stack stanza)) ss))) ≡ true) [
+    elim (is_made s) as (λ b. list_all fits_sort (each spec_of (cond (not b) (s ∷ filter (λ stanza. not (is_made stanza)) ss) (filter (λ stanza. not (is_made stanza)) ss))) ≡ true) [
       | true ↦ others
-      | false ↦ ap (λ t. t && list_all fits_sort (each spec_of (filter (λ stanza. not (is_stack stanza)) ss))) (sort_fits before s on.0) ∙ others
+      | false ↦ ap (λ t. t && list_all fits_sort (each spec_of (filter (λ stanza. not (is_made stanza)) ss))) (sort_fits before s on.0) ∙ others
     ]
 
--- ---- what a name reaches
+-- ---- databases and how they are made
 
-abbrev is_alone : Stanza → Bool
-is_alone stanza = not (is_stack stanza)
+each-append : {X Y : Type 0} (f : X → Y) (xs ys : List X) → each f (xs ++ ys) ≡ each f xs ++ each f ys
+each-append f [] ys = refl
+each-append f (x ∷ xs) ys = ap (λ zs. f x ∷ zs) (each-append f xs ys)
 
-spec_named : (ss : List Stanza) (n : List ℕ) → AllByRecursion HasName ss
-    → is_spec_of (each spec_of (filter (λ stanza. not (is_stack stanza)) ss)) n ≡ list_any (λ s. is_alone s && has_name n s) ss
-spec_named [] n all = refl
-spec_named (s ∷ ss) n all =
-    let others = spec_named ss n all.1 in
-    elim (is_stack s) as (λ b. is_spec_of (each spec_of (cond (not b) (s ∷ filter (λ stanza. not (is_stack stanza)) ss) (filter (λ stanza. not (is_stack stanza)) ss))) n
-    ≡ ((not b && has_name n s) || list_any (λ s. is_alone s && has_name n s) ss)) [
-      | true ↦ others
-      | false ↦ λ i. sym (has_name_is s all.0 n) i || others i
-    ]
+names_are : (ss : List Stanza) → names_of (nodes_of ss) ≡ each name ss
+names_are [] = refl
+names_are (s ∷ ss) = ap (λ ns. name s ∷ ns) (names_are ss)
 
--- a name that is no stack's is one of a database that holds items itself
-lone_named : (ss : List Stanza) (n : List ℕ) → is_named ss n ≡ true → stack_named ss n ≡ None → list_any (λ s. is_alone s && has_name n s) ss ≡ true
-lone_named [] n is none = absurd (cc)
-lone_named (s ∷ ss) n is none =
-    elim (is_stack s) as (λ b. cond (has_name n s && b) (Some s) (stack_named ss n) ≡ None → ((not b && has_name n s) || list_any (λ s. is_alone s && has_name n s) ss) ≡ true) [
-      | true ↦ λ e. elim (has_name n s) as (λ h. (h || is_named ss n) ≡ true → cond (h && true) (Some s) (stack_named ss n) ≡ None → list_any (λ s. is_alone s && has_name n s) ss ≡ true) [
-        | true ↦ λ here f. absurd (cc)
-        | false ↦ λ here f. lone_named ss n here f
-      ] is e
-      | false ↦ λ e. elim (has_name n s) as (λ h. (h || is_named ss n) ≡ true → cond (h && false) (Some s) (stack_named ss n) ≡ None → (h || list_any (λ s. is_alone s && has_name n s) ss) ≡ true) [
-        | true ↦ λ here f. refl
-        | false ↦ λ here f. lone_named ss n here f
-      ] is e
-    ] none
+-- no name stands twice
+pub alone : (head : Stanza) (ss : List Stanza) → second_pass (head ∷ ss) ≡ [] → repeats (names_of (nodes_of ss)) ≡ false
+alone head ss e = ap repeats (names_are ss) ∙ none_repeats [] ss (nil-append (head_faults head) (along database_faults [] ss) e).1
 
-none_is : {X : Type 0} (r : Option X) → is_some r ≡ false → r ≡ None
-none_is None e = refl
-none_is (Some x) e = absurd (cc)
+none_among : (p : List ℕ → Bool) (names : List (List ℕ)) (n : List ℕ) → list_any p names ≡ false → is_among names n ≡ true → p n ≡ false
+none_among p [] n none is = absurd (cc)
+none_among p (m ∷ names) n none is =
+    let both = neither (p m) (list_any p names) none in
+    elim (bytes_eq n m) as (λ t. bytes_eq n m ≡ t → (t || is_among names n) ≡ true → p n ≡ false) [
+      | true ↦ λ same f. ap p ((bytes_eq-Decides n m).0 same) ∙ both.0
+      | false ↦ λ same f. none_among p names n both.1 f
+    ] refl is
 
-abbrev specs_in : List Stanza → (List ℕ → Bool)
-specs_in ss n = is_spec_of (each spec_of (filter (λ stanza. not (is_stack stanza)) ss)) n
+all_there : (nodes : List Node) (names : List (List ℕ)) → list_any (λ n. not (is_node nodes n)) names ≡ false → list_all (is_node nodes) names ≡ true
+all_there nodes [] none = refl
+all_there nodes (n ∷ names) none =
+    let both = neither (not (is_node nodes n)) (list_any (λ n. not (is_node nodes n)) names) none in
+    λ i. not-false (is_node nodes n) both.0 i && all_there nodes names both.1 i
 
-all_specs : (ss : List Stanza) (names : List (List ℕ)) → AllByRecursion HasName ss → list_any (λ n. not (is_named ss n)) names ≡ false
-    → list_any (λ n. is_some (stack_named ss n)) names ≡ false → list_all (specs_in ss) names ≡ true
-all_specs ss [] all known alone = refl
-all_specs ss (n ∷ names) all known alone =
-    let knows = neither (not (is_named ss n)) (list_any (λ n. not (is_named ss n)) names) known in
-    let lone = neither (is_some (stack_named ss n)) (list_any (λ n. is_some (stack_named ss n)) names) alone in
-    let here : specs_in ss n ≡ true = spec_named ss n all ∙ lone_named ss n (not-false (is_named ss n) knows.0) (none_is (stack_named ss n) lone.0) in
-    ap (λ t. t && list_all (specs_in ss) names) here ∙ all_specs ss names all knows.1 lone.1
+-- what the fields name is there and doesn't lead back, and no two meet
+record IsNamed (nodes : List Node) (n : List ℕ) (names : List (List ℕ)) : Type 0 where
+  there : list_any (λ other. not (is_node nodes other)) names ≡ false
+  away : list_any (λ other. leads_to nodes other n) names ≡ false
+  apart : two_meet nodes names ≡ false
 
--- the faults of each stack
-no_faults : (ss all : List Stanza) → flat_map (stack_faults all) ss ≡ [] → AllByRecursion (λ s. stack_faults all s ≡ []) ss
-no_faults [] all e = tt
-no_faults (s ∷ ss) all e = let parts = nil-append (stack_faults all s) (flat_map (stack_faults all) ss) e in (parts.0, no_faults ss all parts.1)
+naming_clean : (nodes : List Node) (n : List ℕ) (names : List (List ℕ)) (line : ℕ) → naming_faults nodes n names line ≡ []
+    → (list_any (λ other. not (is_node nodes other)) names ≡ false) × (list_any (λ other. leads_to nodes other n) names ≡ false)
+naming_clean nodes n names line e =
+    let unknown : Bool = list_any (λ other. not (is_node nodes other)) names in
+    let back : Bool = list_any (λ other. leads_to nodes other n) names in
+    let parts = nil-append (fault_if unknown line UnknownDatabase) (fault_if back line Cycle) e in
+    (no_fault unknown line UnknownDatabase parts.0, no_fault back line Cycle parts.1)
 
-members_good : (ss : List Stanza) (t : Stanza) → AllByRecursion HasName ss → is_stack t ≡ true → stack_faults ss t ≡ [] → list_all (specs_in ss) (members t) ≡ true
-members_good ss t all stack e =
-    let clean : option_map_or (λ (field : Field). names_faults ss (names_in field.value) field.line) (field_at (codes "stack") t) [] ≡ [] =
-    sym (ap (λ b. cond b (option_map_or (λ (field : Field). names_faults ss (names_in field.value) field.line) (field_at (codes "stack") t) []) []) stack) ∙ e in
-    elim (field_at (codes "stack") t) as (λ r. option_map_or (λ (field : Field). names_faults ss (names_in field.value) field.line) r [] ≡ []
-    → list_all (specs_in ss) (names_in (option_map_or (λ (field : Field). field.value) r [])) ≡ true) [
-      | None ↦ λ f. refl
-      | Some field ↦ λ f.
-          let names : List (List ℕ) = names_in field.value in
-          let unknown : List Fault = fault_if (list_any (λ n. not (is_named ss n)) names) field.line UnknownDatabase in
-          let nested : List Fault = fault_if (list_any (λ n. is_some (stack_named ss n)) names) field.line Nested in
-          let shared : List Fault = fault_if (repeats names) field.line SharedDatabase in
-          let two = nil-append (unknown ++ nested) shared f in
-          let one = nil-append unknown nested two.0 in
-          all_specs ss names all (no_fault (list_any (λ n. not (is_named ss n)) names) field.line UnknownDatabase one.0)
-          (no_fault (list_any (λ n. is_some (stack_named ss n)) names) field.line Nested one.1)
-    ] clean
+-- a field that the driver needs is there
+needed_there : (key : List ℕ) (s : Stanza) → not (is_there key s) ≡ false → (field : Field) × (field_at key s ≡ Some field)
+needed_there key s e = there (field_at key s) (not-false (is_there key s) e)
 
-reached_good : (ss : List Stanza) (n : List ℕ) → AllByRecursion HasName ss → AllByRecursion (λ s. stack_faults ss s ≡ []) ss → is_named ss n ≡ true
-    → list_all (specs_in ss) (reached_by ss n) ≡ true
-reached_good ss n all clean is =
-    elim (stack_named ss n) as (λ r. stack_named ss n ≡ r → list_all (specs_in ss) (option_map_or members r (n ∷ [])) ≡ true) [
-      | None ↦ λ e. ap (λ t. t && true) (spec_named ss n all ∙ lone_named ss n is e)
-      | Some t ↦ λ e.
-          let passes : (has_name n t && is_stack t) ≡ true = find_passes (λ s. has_name n s && is_stack s) ss t e in
-          members_good ss t all (and_parts (has_name n t) (is_stack t) passes).1 (find_all (λ s. stack_faults ss s ≡ []) (λ s. has_name n s && is_stack s) ss t clean e)
-    ] refl
+value_of : (key : List ℕ) (s : Stanza) (field : Field) → field_at key s ≡ Some field → value_at key s ≡ field.value
+value_of key s field e = ap (λ r. option_map_or (λ (f : Field). f.value) r []) e
 
--- ---- the same of the configuration
+stack_named : (nodes : List Node) (s : Stanza) → lacks_field (rules_of (Some Stack)) s ≡ false → stack_faults nodes s ≡ []
+    → IsNamed nodes (name s) (names_in (value_at (codes "stack") s))
+stack_named nodes s lacks e =
+    let found = needed_there (codes "stack") s (neither (not (is_there (codes "stack") s)) false lacks).0 in
+    let names : List (List ℕ) = names_in found.0.value in
+    let whole : naming_faults nodes (name s) names found.0.line ++ fault_if (two_meet nodes names) found.0.line SharedDatabase ≡ [] =
+    sym (ap (λ r. option_map_or (λ (field : Field). naming_faults nodes (name s) (names_in field.value) field.line
+    ++ fault_if (two_meet nodes (names_in field.value)) field.line SharedDatabase) r []) found.1) ∙ e in
+    let parts = nil-append (naming_faults nodes (name s) names found.0.line) (fault_if (two_meet nodes names) found.0.line SharedDatabase) whole in
+    let clean = naming_clean nodes (name s) names found.0.line parts.0 in
+    subst (λ v. IsNamed nodes (name s) (names_in v)) (sym (value_of (codes "stack") s found.0 found.1))
+    (record { there = clean.0; away = clean.1; apart = no_fault (two_meet nodes names) found.0.line SharedDatabase parts.1 })
 
-stack_found : (ss : List Stanza) (n : List ℕ) → AllByRecursion HasName ss
-    → find (λ (stack : StackSpec). bytes_eq stack.name n) (each stack_of (filter is_stack ss)) ≡ option_map stack_of (stack_named ss n)
-stack_found [] n all = refl
-stack_found (s ∷ ss) n all =
-    let others = stack_found ss n all.1 in
-    elim (is_stack s) as (λ b. find (λ (stack : StackSpec). bytes_eq stack.name n) (each stack_of (cond b (s ∷ filter is_stack ss) (filter is_stack ss)))
-    ≡ option_map stack_of (cond (has_name n s && b) (Some s) (stack_named ss n))) [
-      | true ↦ subst (λ h. cond h (Some (stack_of s)) (find (λ (stack : StackSpec). bytes_eq stack.name n) (each stack_of (filter is_stack ss)))
-          ≡ option_map stack_of (cond (has_name n s && true) (Some s) (stack_named ss n))) (has_name_is s all.0 n)
-          (elim (has_name n s) as (λ h. cond h (Some (stack_of s)) (find (λ (stack : StackSpec). bytes_eq stack.name n) (each stack_of (filter is_stack ss)))
-          ≡ option_map stack_of (cond (h && true) (Some s) (stack_named ss n))) [
-            | true ↦ refl
-            | false ↦ others
-          ])
-      | false ↦ elim (has_name n s) as (λ h. find (λ (stack : StackSpec). bytes_eq stack.name n) (each stack_of (filter is_stack ss))
-          ≡ option_map stack_of (cond (h && false) (Some s) (stack_named ss n))) [
-            | true ↦ others
-            | false ↦ others
-          ]
-    ]
+one_named_there : (nodes : List Node) (key : List ℕ) (s : Stanza) → not (is_there key s) ≡ false → one_faults nodes key s ≡ []
+    → (not (is_node nodes (value_at key s)) ≡ false) × (leads_to nodes (value_at key s) (name s) ≡ false)
+one_named_there nodes key s has e =
+    let found = needed_there key s has in
+    let whole : naming_faults nodes (name s) (found.0.value ∷ []) found.0.line ≡ [] =
+    sym (ap (λ r. option_map_or (λ (field : Field). naming_faults nodes (name s) (field.value ∷ []) field.line) r []) found.1) ∙ e in
+    let clean = naming_clean nodes (name s) (found.0.value ∷ []) found.0.line whole in
+    subst (λ v. (not (is_node nodes v) ≡ false) × (leads_to nodes v (name s) ≡ false)) (sym (value_of key s found.0 found.1))
+    ((neither (not (is_node nodes found.0.value)) false clean.0).0, (neither (leads_to nodes found.0.value (name s)) false clean.1).0)
 
-mapped : (r : Option Stanza) (n : List ℕ) → option_map_or (λ (stack : StackSpec). stack.members) (option_map stack_of r) (n ∷ []) ≡ option_map_or members r (n ∷ [])
-mapped None n = refl
-mapped (Some s) n = refl
+debug_named : (nodes : List Node) (s : Stanza) → lacks_field (rules_of (Some Debug)) s ≡ false → one_faults nodes (codes "db") s ≡ []
+    → IsNamed nodes (name s) (value_at (codes "db") s ∷ [])
+debug_named nodes s lacks e =
+    let one = one_named_there nodes (codes "db") s (neither (not (is_there (codes "db") s)) false lacks).0 e in
+    record { there = ap (λ b. b || false) one.0; away = ap (λ b. b || false) one.1; apart = refl }
 
-holders_are : (head : Stanza) (ss : List Stanza) (n : List ℕ) → AllByRecursion HasName ss → holders_of (configuration (head ∷ ss)) n ≡ reached_by ss n
-holders_are head ss n all = ap (λ r. option_map_or (λ (stack : StackSpec). stack.members) r (n ∷ [])) (stack_found ss n all) ∙ mapped (stack_named ss n) n
+backup_named : (nodes : List Node) (s : Stanza) → lacks_field (rules_of (Some Backup)) s ≡ false → backup_faults nodes s ≡ []
+    → IsNamed nodes (name s) (value_at (codes "db") s ∷ value_at (codes "backupdb") s ∷ [])
+backup_named nodes s lacks e =
+    let db : List ℕ = value_at (codes "db") s in
+    let first : List Fault = one_faults nodes (codes "db") s in
+    let second : List Fault = one_faults nodes (codes "backupdb") s in
+    let shared : List Fault = at_field (codes "backupdb") s (λ field. names_meet nodes db field.value) SharedDatabase in
+    let have = neither (not (is_there (codes "db") s)) (not (is_there (codes "backupdb") s) || false) lacks in
+    let has = (neither (not (is_there (codes "backupdb") s)) false have.1).0 in
+    let two = nil-append (first ++ second) shared e in
+    let one = nil-append first second two.0 in
+    let a = one_named_there nodes (codes "db") s have.0 one.0 in
+    let b = one_named_there nodes (codes "backupdb") s has one.1 in
+    let found = needed_there (codes "backupdb") s has in
+    let apart : names_meet nodes db (value_at (codes "backupdb") s) ≡ false =
+    ap (names_meet nodes db) (value_of (codes "backupdb") s found.0 found.1)
+    ∙ no_fault (names_meet nodes db found.0.value) found.0.line SharedDatabase
+    (sym (ap (λ r. option_map_or (λ (field : Field). fault_if (names_meet nodes db field.value) field.line SharedDatabase) r []) found.1) ∙ two.1) in
+    record {
+      there = λ i. a.0 i || (b.0 i || false);
+      away = λ i. a.1 i || (b.1 i || false);
+      apart = λ i. (apart i || false) || (false || false);
+    }
+
+form_named : (nodes : List Node) (s : Stanza) (d : Driver) → lacks_field (rules_of (Some d)) s ≡ false → made_faults nodes (Some d) s ≡ []
+    → IsNamed nodes (name s) (named_in (form_by (Some d) s))
+form_named nodes s File lacks e = record { there = refl; away = refl; apart = refl }
+form_named nodes s DirTree lacks e = record { there = refl; away = refl; apart = refl }
+form_named nodes s PackageDir lacks e = record { there = refl; away = refl; apart = refl }
+form_named nodes s Stack lacks e = stack_named nodes s lacks e
+form_named nodes s Backup lacks e = backup_named nodes s lacks e
+form_named nodes s Debug lacks e = debug_named nodes s lacks e
+
+database_named : (nodes : List Node) (before : List Stanza) (s : Stanza) → IsClean before s → made_faults nodes (driver_in s) s ≡ []
+    → IsNamed nodes (name s) (named_in (node_of s).form)
+database_named nodes before s clean e =
+    let found = driver_is before s clean in
+    subst (λ r. IsNamed nodes (name s) (named_in (form_by r s))) (sym found.1)
+    (form_named nodes s found.0
+    (subst (λ r. lacks_field (rules_of r) s ≡ false) found.1 (no_fault (lacks_field (rules_of (driver_in s)) s) (first_line s) MissingField clean.lacks))
+    (subst (λ r. made_faults nodes r s ≡ []) found.1 e))
+
+-- a database is made well
+well_made : (before after : List Stanza) (s : Stanza) → repeats (names_of (nodes_of (before ++ s ∷ after))) ≡ false
+    → IsNamed (nodes_of (before ++ s ∷ after)) (name s) (named_in (node_of s).form) → is_well_made (nodes_of (before ++ s ∷ after)) (node_of s) ≡ true
+well_made before after s none named =
+    let nodes : List Node = nodes_of (before ++ s ∷ after) in
+    let names : List (List ℕ) = named_in (node_of s).form in
+    let split : nodes ≡ nodes_of before ++ node_of s ∷ nodes_of after = each-append node_of before (s ∷ after) in
+    let single : ((c : List ℕ) → list_any (λ m. bytes_eq (name s) m.name && is_among (named_in m.form) c) nodes ≡ is_among names c) =
+    λ c. ap (list_any (λ m. bytes_eq (name s) m.name && is_among (named_in m.form) c)) split
+    ∙ one_named nodes (λ m. is_among (named_in m.form) c) (nodes_of before) (nodes_of after) (node_of s) (sym (ap (λ ns. repeats (names_of ns)) split) ∙ none) in
+    let away : reaches nodes (name s) (name s) ≡ false =
+    no_cycle nodes (name s)
+    (λ c e. none_among (λ other. leads_to nodes other (name s)) names c named.away
+    (sym (single c) ∙ (and_parts (is_node nodes c) (list_any (λ m. bytes_eq (name s) m.name && is_among (named_in m.form) c) nodes) e).1)) in
+    λ i. all_there nodes names named.there i && (not (away i) && not (named.apart i))
+
+all_well_made : (all before some : List Stanza) → all ≡ before ++ some → repeats (names_of (nodes_of all)) ≡ false → Runs before some
+    → flat_map (λ s. made_faults (nodes_of all) (driver_in s) s) some ≡ [] → list_all (is_well_made (nodes_of all)) (nodes_of some) ≡ true
+all_well_made all before [] whole none run e = refl
+all_well_made all before (s ∷ some) whole none run e =
+    let on = runs_on before some s run in
+    let parts = nil-append (made_faults (nodes_of all) (driver_in s) s) (flat_map (λ s. made_faults (nodes_of all) (driver_in s) s) some) e in
+    let named : IsNamed (nodes_of all) (name s) (named_in (node_of s).form) = database_named (nodes_of all) before s on.0 parts.0 in
+    let here : is_well_made (nodes_of all) (node_of s) ≡ true =
+    ap (λ ss. is_well_made (nodes_of ss) (node_of s)) whole
+    ∙ well_made before some s (sym (ap (λ ss. repeats (names_of (nodes_of ss))) whole) ∙ none)
+    (subst (λ ss. IsNamed (nodes_of ss) (name s) (named_in (node_of s).form)) whole named) in
+    λ i. here i && all_well_made all (before ++ s ∷ []) some (whole ∙ sym (append_assoc before (s ∷ []) some)) none on.1 parts.1 i
+
+-- ---- what holds items
 
 or_true : (a : Bool) → (a || true) ≡ true
 or_true true = refl
 or_true false = refl
 
--- each database is named
-among : (before ss : List Stanza) → AllByRecursion HasName ss → AllByRecursion (λ s. is_named (before ++ ss) (name s) ≡ true) ss
-among before [] all = tt
-among before (s ∷ ss) all = (
-  list_any-append (has_name (name s)) before (s ∷ ss)
-      ∙ ap (λ t. list_any (has_name (name s)) before || (t || list_any (has_name (name s)) ss)) (has_name_is s all.0 (name s) ∙ (bytes_eq-Decides (name s) (name s)).1 refl)
-      ∙ or_true (list_any (has_name (name s)) before),
-  subst (λ b. AllByRecursion (λ t. is_named b (name t) ≡ true) ss) (append_assoc before (s ∷ []) ss) (among (before ++ s ∷ []) ss all.1),
-)
+abbrev holds_items : Stanza → Bool
+holds_items stanza = not (is_made stanza)
 
-all_held : (head : Stanza) (all ss : List Stanza) → AllByRecursion HasName all → AllByRecursion (λ s. stack_faults all s ≡ []) all
-    → AllByRecursion (λ s. is_named all (name s) ≡ true) ss
-    → list_all (λ n. list_all (specs_in all) (holders_of (configuration (head ∷ all)) n)) (each name ss) ≡ true
-all_held head all [] named clean are = refl
-all_held head all (s ∷ ss) named clean are =
-    ap (λ t. t && list_all (λ n. list_all (specs_in all) (holders_of (configuration (head ∷ all)) n)) (each name ss))
-    (ap (list_all (specs_in all)) (holders_are head all (name s) named) ∙ reached_good all (name s) named clean are.0)
-    ∙ all_held head all ss named clean are.1
+spec_there : (before after : List Stanza) (s : Stanza) → is_made s ≡ false → is_spec_of (each spec_of (filter holds_items (before ++ s ∷ after))) (name s) ≡ true
+spec_there [] after s off =
+    ap (λ b. is_spec_of (each spec_of (cond (not b) (s ∷ filter holds_items after) (filter holds_items after))) (name s)) off
+    ∙ ap (λ b. b || is_spec_of (each spec_of (filter holds_items after)) (name s)) ((bytes_eq-Decides (name s) (name s)).1 refl)
+spec_there (m ∷ before) after s off =
+    let rest : List Stanza = filter holds_items (before ++ s ∷ after) in
+    let others : is_spec_of (each spec_of rest) (name s) ≡ true = spec_there before after s off in
+    elim (is_made m) as (λ b. is_spec_of (each spec_of (cond (not b) (m ∷ rest) rest)) (name s) ≡ true) [
+      | true ↦ others
+      | false ↦ ap (λ b. bytes_eq (name m) (name s) || b) others ∙ or_true (bytes_eq (name m) (name s))
+    ]
+
+held_by : (specs : List LayerSpec) (r : Option Driver) (s : Stanza) → (is_made_by r ≡ false → is_spec_of specs (name s) ≡ true) → is_held specs (name s) (form_by r s) ≡ true
+held_by specs None s h = h refl
+held_by specs (Some File) s h = h refl
+held_by specs (Some DirTree) s h = h refl
+held_by specs (Some PackageDir) s h = h refl
+held_by specs (Some Stack) s h = refl
+held_by specs (Some Backup) s h = refl
+held_by specs (Some Debug) s h = refl
+
+all_held : (all before some : List Stanza) → all ≡ before ++ some
+    → list_all (λ node. is_held (each spec_of (filter holds_items all)) node.name node.form) (nodes_of some) ≡ true
+all_held all before [] whole = refl
+all_held all before (s ∷ some) whole =
+    let here : is_held (each spec_of (filter holds_items all)) (name s) (form_by (driver_in s) s) ≡ true =
+    held_by (each spec_of (filter holds_items all)) (driver_in s) s
+    (λ off. ap (λ ss. is_spec_of (each spec_of (filter holds_items ss)) (name s)) whole ∙ spec_there before some s off) in
+    λ i. here i && all_held all (before ++ s ∷ []) some (whole ∙ sym (append_assoc before (s ∷ []) some)) i
 
 -- ---- none is shared
 
-not_shared : (head : Stanza) (ss : List Stanza) → missing (codes "templates") head NoTemplates ≡ [] → shared_database head ss ≡ []
-    → share (reached_by ss (value_at (codes "templates") head)) (reached_by ss (value_at (codes "config") head)) ≡ false
-not_shared head ss has e =
-    let field = there (field_at (codes "templates") head) (not-false (is_there (codes "templates") head) (no_fault (not (is_there (codes "templates") head)) (first_line head) NoTemplates has)) in
-    let config : List (List ℕ) = reached_by ss (value_at (codes "config") head) in
-    ap (λ r. share (reached_by ss (option_map_or (λ (f : Field). f.value) r [])) config) field.1
-    ∙ no_fault (share (reached_by ss field.0.value) config) field.0.line SharedDatabase
-    (sym (ap (λ r. option_map_or (λ (f : Field). fault_if (share (reached_by ss f.value) config) f.line SharedDatabase) r []) field.1) ∙ e)
+not_shared : (head : Stanza) (nodes : List Node) → missing (codes "templates") head NoTemplates ≡ [] → shared_database nodes head ≡ []
+    → names_meet nodes (value_at (codes "config") head) (value_at (codes "templates") head) ≡ false
+not_shared head nodes has e =
+    let config : List ℕ = value_at (codes "config") head in
+    let field = needed_there (codes "templates") head (no_fault (not (is_there (codes "templates") head)) (first_line head) NoTemplates has) in
+    ap (names_meet nodes config) (value_of (codes "templates") head field.0 field.1)
+    ∙ no_fault (names_meet nodes config field.0.value) field.0.line SharedDatabase
+    (sym (ap (λ r. option_map_or (λ (f : Field). fault_if (names_meet nodes config f.value) f.line SharedDatabase) r []) field.1) ∙ e)
 
 -- ---- all of it
 
-five : (a b c d e : Bool) → a ≡ true → b ≡ true → c ≡ true → d ≡ true → e ≡ false → (a && (b && (c && (d && not e)))) ≡ true
-five a b c d e p q r s t = λ i. p i && (q i && (r i && (s i && not (t i))))
+all_eight : (a b c d e f g h : Bool) → a ≡ true → b ≡ true → c ≡ true → d ≡ false → e ≡ true → f ≡ true → g ≡ true → h ≡ false
+    → (a && (b && (c && (not d && (e && (f && (g && not h))))))) ≡ true
+all_eight a b c d e f g h p q r s t u v w = λ i. p i && (q i && (r i && (not (s i) && (t i && (u i && (v i && not (w i)))))))
+
+-- each name is that of a database
+name_there : (before after : List Stanza) (s : Stanza) → is_node (nodes_of (before ++ s ∷ after)) (name s) ≡ true
+name_there [] after s = ap (λ b. b || is_node (nodes_of after) (name s)) ((bytes_eq-Decides (name s) (name s)).1 refl)
+name_there (m ∷ before) after s = ap (λ b. bytes_eq (name s) (name m) || b) (name_there before after s) ∙ or_true (bytes_eq (name s) (name m))
+
+names_there : (all before some : List Stanza) → all ≡ before ++ some → list_all (is_node (nodes_of all)) (each name some) ≡ true
+names_there all before [] whole = refl
+names_there all before (s ∷ some) whole =
+    λ i. (ap (λ ss. is_node (nodes_of ss) (name s)) whole ∙ name_there before some s) i
+    && names_there all (before ++ s ∷ []) some (whole ∙ sym (append_assoc before (s ∷ []) some)) i
 
 absent : second_pass [] ≡ [] → ⊥
 absent e = cc
@@ -251,16 +325,19 @@ absent e = cc
 pub sound : (stanzas : List Stanza) → second_pass stanzas ≡ [] → third_pass stanzas ≡ [] → fourth_pass stanzas ≡ [] → is_sound (configuration stanzas) ≡ true
 sound [] second third fourth = absurd (absent second)
 sound (head ∷ ss) second third fourth =
+    let nodes : List Node = nodes_of ss in
+    let conf : Configuration = configuration (head ∷ ss) in
     let parts = nil-append (head_faults head) (along database_faults [] ss) second in
-    let named : AllByRecursion HasName ss = all_named [] ss parts.1 in
-    let stacks = nil-append (unknown_database (codes "config") head ss ++ unknown_database (codes "templates") head ss) (flat_map (stack_faults ss) ss) third in
+    let made = nil-append (unknown_database (codes "config") head nodes ++ unknown_database (codes "templates") head nodes)
+    (flat_map (λ s. made_faults nodes (driver_in s) s) ss) third in
     let head_is = nil-append (missing (codes "config") head NoConfig) (missing (codes "templates") head NoTemplates) parts.0 in
-    five (are_apart (configuration (head ∷ ss)).specs) (have_names_apart (configuration (head ∷ ss)).specs) (list_all fits_sort (configuration (head ∷ ss)).specs)
-    (list_all (λ n. list_all (specs_in ss) (holders_of (configuration (head ∷ ss)) n)) (each name ss))
-    (share (holders_of (configuration (head ∷ ss)) (value_at (codes "templates") head)) (holders_of (configuration (head ∷ ss)) (value_at (codes "config") head)))
+    all_eight (are_apart conf.specs) (have_names_apart conf.specs) (list_all fits_sort conf.specs) (repeats (names_of nodes)) (list_all (is_node nodes) conf.databases) (list_all (is_well_made nodes) nodes)
+    (list_all (λ node. is_held conf.specs node.name node.form) nodes) (names_meet nodes conf.config conf.templates)
     (databases_apart head ss second)
-    (ap not (repeats_kept (λ stanza. not (is_stack stanza)) ss (none_repeats [] ss parts.1)))
+    (ap not (repeats_kept holds_items ss (none_repeats [] ss parts.1)))
     (all_fit [] ss parts.1)
-    (all_held head ss ss named (no_faults ss ss stacks.1) (among [] ss named))
-    ((λ i. share (holders_are head ss (value_at (codes "templates") head) named i) (holders_are head ss (value_at (codes "config") head) named i))
-    ∙ not_shared head ss head_is.1 fourth)
+    (alone head ss second)
+    (names_there ss [] ss refl)
+    (all_well_made ss [] ss refl (alone head ss second) parts.1 made.1)
+    (all_held ss [] ss refl)
+    (not_shared head nodes head_is.1 fourth)

@@ -1,16 +1,26 @@
 -- Configurations whose faults, or databases, are worked out.
-use Rattle.std.specs.Prelude.{◌≡◌, true, false, ℕ, List, [], ◌∷◌, None, map as each, codes}
+use Rattle.std.specs.Prelude.{◌≡◌, true, false, ℕ, List, [], ◌∷◌, ◌++◌, None, map as each, codes}
 use Rattle.dc_text.specs.Lines.{text_of}
 use Rattle.dc_conf.specs.Stanzas.{stanzas, fields_of}
 use Rattle.dc_conf.specs.ConfFaults.{fault, passes}
 use Rattle.dc_conf.specs.Configuration.{configuration}
 use Rattle.dc_conf.specs.declared.spec.LayerSort.TheVariants.{Tree}
+use Rattle.dc_conf.specs.declared.faults.Fault.{Fault}
 use Rattle.dc_conf.specs.declared.spec.LayerSpec.{LayerSpec}
-use Rattle.dc_conf.specs.declared.faults.ConfKind.TheVariants.{NoColon, Twice, NoConfig, NoTemplates, NoName, UnknownDriver, MissingField, BadValue, SamePlace, UnknownDatabase, SharedDatabase}
+use Rattle.dc_conf.specs.declared.faults.ConfKind.TheVariants.{NoColon, Twice, NoConfig, NoTemplates, NoName, UnknownDriver, MissingField, BadValue, SamePlace, UnknownDatabase, Cycle, SharedDatabase}
 
 -- the databases that a text says, where no pass has a fault
 abbrev pub databases_in : List ℕ → List LayerSpec
 databases_in text = (configuration (each fields_of (stanzas text))).specs
+
+-- a text with these two databases as roots, of which the second is in a file, and more stanzas, from line 4 on
+abbrev pub with_more : List (List ℕ) → List ℕ
+with_more lines =
+    text_of (codes "Config: s" ∷ codes "Templates: t" ∷ [] ∷ lines
+    ++ [] ∷ codes "Name: x" ∷ codes "Driver: File" ∷ codes "Filename: x.dat" ∷ [] ∷ codes "Name: t" ∷ codes "Driver: File" ∷ codes "Filename: t.dat" ∷ [])
+
+abbrev pub clean_but_third : Fault → List Fault → List (List Fault)
+clean_but_third first more = [] ∷ [] ∷ (first ∷ more) ∷ [] ∷ []
 
 -- no text at all; no Templates; a driver that isn't known; one database for both; a file below a folder; a mode that one folder
 -- takes for its own and another ignores; values that folders don't take; the database in a folder
@@ -37,6 +47,18 @@ pub record Examples : Type 0 where
   pub values : passes (text_of (codes "Config: t" ∷ codes "Templates: u" ∷ [] ∷ codes "Name: t" ∷ codes "Driver: DirTree" ∷ codes "Directory: /" ∷ []
       ∷ codes "Name: u" ∷ codes "Driver: PackageDir" ∷ codes "Extension: dat" ∷ []))
       ≡ [] ∷ (fault 6 BadValue ∷ fault 8 MissingField ∷ fault 10 BadValue ∷ []) ∷ [] ∷ [] ∷ []
+  -- a stack of a stack; two that name each other; a name that a stack gives twice; a stack that names a database and another that
+  -- reaches it; a backup of a database in itself, by way of another; two roots that share one
+  pub nested : passes (with_more (codes "Name: s" ∷ codes "Driver: Stack" ∷ codes "Stack: r" ∷ [] ∷ codes "Name: r" ∷ codes "Driver: Stack" ∷ codes "Stack: x" ∷ []))
+      ≡ [] ∷ [] ∷ [] ∷ [] ∷ []
+  pub cycle : passes (with_more (codes "Name: s" ∷ codes "Driver: Stack" ∷ codes "Stack: r" ∷ [] ∷ codes "Name: r" ∷ codes "Driver: Stack" ∷ codes "Stack: s" ∷ []))
+      ≡ clean_but_third (fault 6 Cycle) (fault 10 Cycle ∷ [])
+  pub twice : passes (with_more (codes "Name: s" ∷ codes "Driver: Stack" ∷ codes "Stack: x, x" ∷ [])) ≡ clean_but_third (fault 6 SharedDatabase) []
+  pub below_too : passes (with_more (codes "Name: s" ∷ codes "Driver: Stack" ∷ codes "Stack: x r" ∷ [] ∷ codes "Name: r" ∷ codes "Driver: Debug" ∷ codes "Db: x" ∷ []))
+      ≡ clean_but_third (fault 6 SharedDatabase) []
+  pub backed_up : passes (with_more (codes "Name: s" ∷ codes "Driver: Backup" ∷ codes "Backupdb: r" ∷ codes "Db: x" ∷ [] ∷ codes "Name: r" ∷ codes "Driver: Stack" ∷ codes "Stack: x" ∷ []))
+      ≡ clean_but_third (fault 6 SharedDatabase) []
+  pub shared_below : passes (with_more (codes "Name: s" ∷ codes "Driver: Debug" ∷ codes "Db: t" ∷ [])) ≡ [] ∷ [] ∷ [] ∷ (fault 2 SharedDatabase ∷ []) ∷ []
   pub tree : databases_in (text_of (codes "Config: t" ∷ codes "Templates: u" ∷ [] ∷ codes "Name: t" ∷ codes "Driver: DirTree" ∷ codes "Directory: a/" ∷ codes "Mode: 644" ∷ []))
       ≡ record {
         name = codes "t";

@@ -2,16 +2,20 @@
 -- one line the first kind decides, in the order in which a pass lists them.
 use Rattle.std.specs.Prelude.{◌≡◌, ◌<◌, ◌≤◌, ℕ, Bool, true, false, not, ◌||◌, ◌&&◌, nat_le, List, [], ◌∷◌, ◌++◌, Option, Some, None, is_some, map as each, length, codes, ◌==◌, if◌then◌else◌}
 use Rattle.std.specs.Option.{option_map_or}
-use Rattle.std.specs.List.{list_any, find, flat_map, AllByRecursion}
+use Rattle.std.specs.List.{list_any, filter, flat_map, AllByRecursion}
 use Rattle.std.specs.Str.{bytes_eq}
 use Rattle.dc_conf.specs.declared.drivers.Driver.{Driver}
-use Rattle.dc_conf.specs.declared.drivers.Driver.TheVariants.{File, DirTree, PackageDir, Stack}
+use Rattle.dc_conf.specs.declared.drivers.Driver.TheVariants.{File, DirTree, PackageDir, Stack, Backup, Debug}
 use Rattle.dc_conf.specs.declared.faults.ConfKind.{ConfKind}
-use Rattle.dc_conf.specs.declared.faults.ConfKind.TheVariants.{NoColon, Twice, TooMany, NoConfig, NoTemplates, NoName, NoDriver, UnknownDriver, MissingField, BadValue, SamePlace, UnknownDatabase, Nested, SharedDatabase}
+use Rattle.dc_conf.specs.declared.faults.ConfKind.TheVariants.{NoColon, Twice, TooMany, NoConfig, NoTemplates, NoName, NoDriver, UnknownDriver, MissingField, BadValue, SamePlace, UnknownDatabase, Cycle, SharedDatabase}
 use Rattle.dc_conf.specs.declared.faults.Fault.{Fault}
 use Rattle.dc_conf.specs.declared.fields.Field.{Field}
+use Rattle.dc_conf.specs.declared.nodes.Form.{Form}
+use Rattle.dc_conf.specs.declared.nodes.Form.TheVariants.{Holds, Stacks, Backs, Tells}
+use Rattle.dc_conf.specs.declared.nodes.Node.{Node}
 use Rattle.dc_conf.specs.declared.spec.LayerSort.{LayerSort}
 use Rattle.dc_conf.specs.declared.spec.LayerSort.TheVariants as sort
+use Rattle.dc_conf.specs.Nodes.{is_node, leads_to, names_meet, two_meet}
 use Rattle.dc_conf.specs.Stanzas.{Line, Stanza, stanzas, has_colon, field_in, fields_of, field_at, first_line}
 use Rattle.dc_conf.specs.Values.{FieldRule, rules_of, driver_of, names_in, without_last_slash}
 
@@ -145,10 +149,25 @@ abbrev pub same_place : List Stanza → Stanza → List Fault
 same_place before stanza =
     option_map_or (λ field. fault_if (list_any (λ earlier. share_place earlier stanza) before) field.line SamePlace) (place_in stanza) []
 
--- the faults of a database that stands behind so many others, by itself
-abbrev pub lone_faults : ℕ → Stanza → List Fault
-lone_faults count stanza =
-    fault_if (nat_le 16 count) (first_line stanza) TooMany
+-- both drivers are the same, and keep items themselves
+abbrev pub keep_alike : Option Driver → Option Driver → Bool
+keep_alike (Some File) (Some File) = true
+keep_alike (Some DirTree) (Some DirTree) = true
+keep_alike (Some PackageDir) (Some PackageDir) = true
+keep_alike _ _ = false
+
+-- of these databases those that keep items as this one does
+abbrev pub kept_alike : List Stanza → Stanza → List Stanza
+kept_alike databases stanza = filter (λ other. keep_alike (driver_in other) (driver_in stanza)) databases
+
+-- 256 databases stand before this one, or 16 that keep items as it does
+abbrev pub is_too_many : List Stanza → Stanza → Bool
+is_too_many before stanza = nat_le 256 (length before) || nat_le 16 (length (kept_alike before stanza))
+
+-- the faults of a database by itself, and whether it is one too many
+abbrev pub lone_faults : Bool → Stanza → List Fault
+lone_faults many stanza =
+    fault_if many (first_line stanza) TooMany
     ++ missing (codes "name") stanza NoName
     ++ missing (codes "driver") stanza NoDriver
     ++ fault_if (lacks_field (rules_in stanza) stanza) (first_line stanza) MissingField
@@ -157,7 +176,7 @@ lone_faults count stanza =
 
 -- the faults of a database, by the databases before it
 abbrev pub database_faults : List Stanza → Stanza → List Fault
-database_faults before stanza = lone_faults (length before) stanza ++ repeated_name before stanza ++ same_place before stanza
+database_faults before stanza = lone_faults (is_too_many before stanza) stanza ++ repeated_name before stanza ++ same_place before stanza
 
 -- the faults of the first stanza
 abbrev pub head_faults : Stanza → List Fault
@@ -169,70 +188,89 @@ second_pass (head ∷ databases) = head_faults head ++ along database_faults [] 
 
 -- ---- the third pass: names of databases
 
--- the field names no database
-abbrev pub unknown_database : List ℕ → Stanza → List Stanza → List Fault
-unknown_database key head databases = at_field key head (λ field. not (is_named databases field.value)) UnknownDatabase
-
 -- the value of a field, empty where it isn't there
 abbrev pub value_at : List ℕ → Stanza → List ℕ
 value_at key stanza = option_map_or (λ field. field.value) (field_at key stanza) []
 
-abbrev pub is_stack_driver : Option Driver → Bool
-is_stack_driver (Some Stack) = true
-is_stack_driver _ = false
+-- the driver makes a database of others
+abbrev pub is_made_by : Option Driver → Bool
+is_made_by (Some Stack) = true
+is_made_by (Some Backup) = true
+is_made_by (Some Debug) = true
+is_made_by _ = false
 
-abbrev pub is_stack : Stanza → Bool
-is_stack stanza = is_stack_driver (driver_in stanza)
+-- the database is made of others
+abbrev pub is_made : Stanza → Bool
+is_made stanza = is_made_by (driver_in stanza)
 
--- the databases that a stack names
-abbrev pub members : Stanza → List (List ℕ)
-members stanza = names_in (value_at (codes "stack") stanza)
+-- how a database is made, by its driver
+abbrev pub form_by : Option Driver → Stanza → Form
+form_by (Some Stack) stanza = Stacks (names_in (value_at (codes "stack") stanza))
+form_by (Some Backup) stanza = Backs (value_at (codes "db") stanza) (value_at (codes "backupdb") stanza)
+form_by (Some Debug) stanza = Tells (value_at (codes "db") stanza)
+form_by _ stanza = Holds
 
--- the stack with this name, if it is one of the databases
-abbrev pub stack_named : List Stanza → List ℕ → Option Stanza
-stack_named databases name = find (λ stanza. has_name name stanza && is_stack stanza) databases
+-- a database: its name, and how it is made
+abbrev pub node_of : Stanza → Node
+node_of stanza = record { name = value_at (codes "name") stanza; form = form_by (driver_in stanza) stanza }
 
--- a name stands twice
-abbrev pub repeats : List (List ℕ) → Bool
-repeats [] = false
-repeats (name ∷ names) = list_any (bytes_eq name) names || repeats names
+abbrev pub nodes_of : List Stanza → List Node
+nodes_of databases = each node_of databases
 
--- one of the names is that of no database, or of a stack, or stands twice
-abbrev pub names_faults : List Stanza → List (List ℕ) → ℕ → List Fault
-names_faults databases names line =
-    fault_if (list_any (λ name. not (is_named databases name)) names) line UnknownDatabase
-    ++ fault_if (list_any (λ name. is_some (stack_named databases name)) names) line Nested
-    ++ fault_if (repeats names) line SharedDatabase
+-- the field names no database
+abbrev pub unknown_database : List ℕ → Stanza → List Node → List Fault
+unknown_database key head nodes = at_field key head (λ field. not (is_node nodes field.value)) UnknownDatabase
 
--- the faults of what a stack names, where the database is one
-abbrev pub stack_faults : List Stanza → Stanza → List Fault
-stack_faults databases stanza =
-    if is_stack stanza then option_map_or (λ field. names_faults databases (names_in field.value) field.line) (field_at (codes "stack") stanza) [] else []
+-- a line in the stanza of the database of this name gives others: one of them is that of no database, or leads back to this one
+abbrev pub naming_faults : List Node → List ℕ → List (List ℕ) → ℕ → List Fault
+naming_faults nodes name others line =
+    fault_if (list_any (λ other. not (is_node nodes other)) others) line UnknownDatabase
+    ++ fault_if (list_any (λ other. leads_to nodes other name) others) line Cycle
+
+-- the faults of a field that names one database
+abbrev pub one_faults : List Node → List ℕ → Stanza → List Fault
+one_faults nodes key stanza =
+    option_map_or (λ field. naming_faults nodes (value_at (codes "name") stanza) (field.value ∷ []) field.line) (field_at key stanza) []
+
+-- the faults of what a stack names
+abbrev pub stack_faults : List Node → Stanza → List Fault
+stack_faults nodes stanza =
+    option_map_or (λ field. naming_faults nodes (value_at (codes "name") stanza) (names_in field.value) field.line
+    ++ fault_if (two_meet nodes (names_in field.value)) field.line SharedDatabase) (field_at (codes "stack") stanza) []
+
+-- the faults of what a backup names: it is written a second time, so not to what it meets
+abbrev pub backup_faults : List Node → Stanza → List Fault
+backup_faults nodes stanza =
+    one_faults nodes (codes "db") stanza ++ one_faults nodes (codes "backupdb") stanza
+    ++ at_field (codes "backupdb") stanza (λ field. names_meet nodes (value_at (codes "db") stanza) field.value) SharedDatabase
+
+-- the faults of what a database names, by its driver
+abbrev pub made_faults : List Node → Option Driver → Stanza → List Fault
+made_faults nodes (Some Stack) stanza = stack_faults nodes stanza
+made_faults nodes (Some Backup) stanza = backup_faults nodes stanza
+made_faults nodes (Some Debug) stanza = one_faults nodes (codes "db") stanza
+made_faults nodes _ stanza = []
+
+-- the faults of what the first stanza names, and of what each database does
+abbrev pub all_named_faults : List Node → Stanza → List Stanza → List Fault
+all_named_faults nodes head databases =
+    unknown_database (codes "config") head nodes ++ unknown_database (codes "templates") head nodes
+    ++ flat_map (λ stanza. made_faults nodes (driver_in stanza) stanza) databases
 
 abbrev pub third_pass : List Stanza → List Fault
 third_pass [] = []
-third_pass (head ∷ databases) =
-    unknown_database (codes "config") head databases ++ unknown_database (codes "templates") head databases
-    ++ flat_map (stack_faults databases) databases
+third_pass (head ∷ databases) = all_named_faults (nodes_of databases) head databases
 
 -- ---- the fourth pass: no database is shared
 
--- the databases that hold the items of the database with this name: those that a stack names, and else itself
-abbrev pub reached_by : List Stanza → List ℕ → List (List ℕ)
-reached_by databases name =
-    option_map_or members (stack_named databases name) (name ∷ [])
-
--- some database is among both
-abbrev pub share : List (List ℕ) → List (List ℕ) → Bool
-share names others = list_any (λ name. list_any (bytes_eq name) others) names
-
-abbrev pub shared_database : Stanza → List Stanza → List Fault
-shared_database head databases =
-    at_field (codes "templates") head (λ field. share (reached_by databases field.value) (reached_by databases (value_at (codes "config") head))) SharedDatabase
+-- the databases of questions and of templates meet
+abbrev pub shared_database : List Node → Stanza → List Fault
+shared_database nodes head =
+    at_field (codes "templates") head (λ field. names_meet nodes (value_at (codes "config") head) field.value) SharedDatabase
 
 abbrev pub fourth_pass : List Stanza → List Fault
 fourth_pass [] = []
-fourth_pass (head ∷ databases) = shared_database head databases
+fourth_pass (head ∷ databases) = shared_database (nodes_of databases) head
 
 -- ---- which fault decides
 

@@ -1,13 +1,14 @@
 -- What a configuration is, and which databases its names reach.
-use Rattle.std.specs.Prelude.{◌≡◌, ℕ, Bool, true, false, not, ◌&&◌, List, [], ◌∷◌, ◌++◌, Option, None, map as each, length, codes, ◌==◌, Result, Ok, Err, ⊤}
+use Rattle.std.specs.Prelude.{◌≡◌, ℕ, Bool, true, false, not, ◌&&◌, List, [], ◌∷◌, ◌++◌, Option, Some, None, map as each, length, codes, ◌==◌, Result, Ok, Err, ⊤}
 use Rattle.std.specs.Option.{option_map, option_map_or}
-use Rattle.std.specs.List.{list_all, list_any, filter, find, position_or_len, AllByRecursion}
+use Rattle.std.specs.List.{list_all, list_any, filter, position_or_len, AllByRecursion}
 use Rattle.std.specs.Str.{bytes_eq}
 use Rattle.dc_conf.specs.declared.faults.ConfError.{ConfError}
 use Rattle.dc_conf.specs.declared.faults.ConfError.TheVariants as error
 use Rattle.dc_conf.specs.declared.fields.Field.{Field}
-use Rattle.dc_conf.specs.declared.plans.Base.{Base}
-use Rattle.dc_conf.specs.declared.plans.Base.TheVariants as base
+use Rattle.dc_conf.specs.declared.nodes.Form.{Form}
+use Rattle.dc_conf.specs.declared.nodes.Form.TheVariants.{Holds, Stacks, Backs, Tells}
+use Rattle.dc_conf.specs.declared.nodes.Node.{Node}
 use Rattle.dc_conf.specs.declared.plans.Plan.{Plan}
 use Rattle.dc_conf.specs.declared.plans.ResolveError.{ResolveError}
 use Rattle.dc_conf.specs.declared.plans.ResolveError.TheVariants as resolve
@@ -15,16 +16,19 @@ use Rattle.dc_conf.specs.declared.plans.Resolved.{Resolved}
 use Rattle.dc_conf.specs.declared.spec.LayerSort.{LayerSort}
 use Rattle.dc_conf.specs.declared.spec.LayerSort.TheVariants.{File, Tree}
 use Rattle.dc_conf.specs.declared.spec.LayerSpec.{LayerSpec}
-use Rattle.dc_conf.specs.declared.spec.StackSpec.{StackSpec}
 use Rattle.dc_text.specs.Bytes.{is_nil}
-use Rattle.dc_conf.specs.Plans.{are_disjoint}
+use Rattle.dc_conf.specs.Nodes.{named_in, repeats, is_node, names_of, leads_to, reaches, names_meet, two_meet, form_at}
+pub use Rattle.dc_conf.specs.Nodes.{is_among}
+use Rattle.dc_conf.specs.Plans.{all_places, are_disjoint, stand_once}
+use Rattle.dc_conf.specs.Trees as tree
+use Rattle.dc_conf.specs.Trees.{shape}
 use Rattle.dc_conf.specs.Stanzas.{Stanza, stanzas, fields_of, field_at}
 use Rattle.dc_conf.specs.Values.{octal, is_true, is_extension}
-use Rattle.dc_conf.specs.ConfFaults.{fault, passes, Decides, value_at, is_stack, members, repeats, share, sort_in, place_of, meet}
+use Rattle.dc_conf.specs.ConfFaults.{fault, passes, Decides, value_at, is_made, nodes_of, sort_in, place_of, meet}
 pub use Rattle.dc_conf.specs.ConfFaults.{paths_at}
 
 -- a configuration: the names of the databases of questions and of templates, the words for the frontend and the priority, the
--- names of all databases in the order of the file, those that hold items themselves, and the stacks
+-- names of all databases in the order of the file, those that hold items themselves, and how each database is made
 pub record Configuration : Type 0 where
   pub config : List ℕ
   pub templates : List ℕ
@@ -32,7 +36,7 @@ pub record Configuration : Type 0 where
   pub priority : Option (List ℕ)
   pub databases : List (List ℕ)
   pub specs : List LayerSpec
-  pub stacks : List StackSpec
+  pub nodes : List Node
 
 abbrev pub text_at : List ℕ → Stanza → Option (List ℕ)
 text_at key stanza = option_map (λ field. field.value) (field_at key stanza)
@@ -60,7 +64,7 @@ abbrev pub backup_by : LayerSort → Stanza → Bool
 backup_by File stanza = truth_at (codes "backup") stanza true
 backup_by _ stanza = false
 
--- the database that a stanza without faults is, where it is no stack
+-- the database that a stanza without faults is, where it isn't made of others
 abbrev pub spec_of : Stanza → LayerSpec
 spec_of stanza = record {
   name = value_at (codes "name") stanza;
@@ -77,20 +81,17 @@ spec_of stanza = record {
   reject_type = text_at (codes "reject-type") stanza;
 }
 
-abbrev pub stack_of : Stanza → StackSpec
-stack_of stanza = record { name = value_at (codes "name") stanza; members = members stanza }
-
 -- the configuration of stanzas without faults
 abbrev pub configuration : List Stanza → Configuration
-configuration [] = record { config = []; templates = []; frontend = None; priority = None; databases = []; specs = []; stacks = [] }
+configuration [] = record { config = []; templates = []; frontend = None; priority = None; databases = []; specs = []; nodes = [] }
 configuration (head ∷ databases) = record {
   config = value_at (codes "config") head;
   templates = value_at (codes "templates") head;
   frontend = text_at (codes "frontend") head;
   priority = text_at (codes "priority") head;
   databases = each (value_at (codes "name")) databases;
-  specs = each spec_of (filter (λ stanza. not (is_stack stanza)) databases);
-  stacks = each stack_of (filter is_stack databases);
+  specs = each spec_of (filter (λ stanza. not (is_made stanza)) databases);
+  nodes = nodes_of databases;
 }
 
 -- what reading a text answers: its configuration where no pass has a fault, and else the fault that decides
@@ -112,16 +113,9 @@ are_apart (spec ∷ specs) = not (list_any (places_meet spec) specs) && are_apar
 
 -- ---- the databases that names reach
 
-abbrev pub is_among : List (List ℕ) → List ℕ → Bool
-is_among names name = list_any (bytes_eq name) names
-
--- the databases that hold the items of the one with this name: those that a stack names, from the top, and else itself
-abbrev pub holders_of : Configuration → List ℕ → List (List ℕ)
-holders_of conf name = option_map_or (λ stack. stack.members) (find (λ stack. bytes_eq stack.name name) conf.stacks) (name ∷ [])
-
--- the databases that some of the names reach, each once, in the order of the file
+-- the databases that hold items themselves and that one of the names is or reaches, each once, in the order of the file
 abbrev pub reached : Configuration → List (List ℕ) → List LayerSpec
-reached conf roots = filter (λ spec. list_any (λ root. is_among (holders_of conf root) spec.name) roots) conf.specs
+reached conf roots = filter (λ spec. list_any (λ root. leads_to conf.nodes root spec.name) roots) conf.specs
 
 -- the place of the database with the name
 abbrev pub place_in : List LayerSpec → List ℕ → ℕ
@@ -137,13 +131,27 @@ pub record IsFirstUnknown (databases : List (List ℕ)) (roots : List (List ℕ)
   pub known : AllByRecursion (λ name. is_among databases name ≡ true) before
   pub unknown : is_among databases root ≡ false
 
--- what a database is made of: a stack of the places of the databases that it names, and another of its own
-abbrev pub base_of : Configuration → List LayerSpec → List ℕ → Base
-base_of conf specs root =
-    option_map_or (λ stack. base.Stack (each (place_in specs) stack.members)) (find (λ stack. bytes_eq stack.name root) conf.stacks) (base.Leaf (place_in specs root))
+-- The plan of a name over these databases, by how each is made. One that holds items itself has its place among them, and one that is
+-- made of others has their plans.
+abbrev mutual
+  pub IsPlan : List Node → List LayerSpec → tree.Tree → List ℕ → Type 0
+  IsPlan nodes specs (tree.Leaf place) name = (form_at nodes name ≡ Some Holds) × (place ≡ place_in specs name)
+  IsPlan nodes specs (tree.Stack trees) name = (names : List (List ℕ)) × (form_at nodes name ≡ Some (Stacks names)) × ArePlans nodes specs trees names
+  IsPlan nodes specs (tree.Backup first second) name =
+      (db : List ℕ) × (backupdb : List ℕ) × (form_at nodes name ≡ Some (Backs db backupdb))
+      × IsPlan nodes specs first db × IsPlan nodes specs second backupdb
+  IsPlan nodes specs (tree.Debug inner) name = (db : List ℕ) × (form_at nodes name ≡ Some (Tells db)) × IsPlan nodes specs inner db
 
-abbrev pub plan_of : Configuration → List LayerSpec → List ℕ → Plan
-plan_of conf specs root = record { base = base_of conf specs root; backup = None; debug = false }
+  pub ArePlans : List Node → List LayerSpec → tree.Trees → List (List ℕ) → Type 0
+  ArePlans nodes specs tree.End names = names ≡ []
+  ArePlans nodes specs (tree.More first rest) [] = ⊥
+  ArePlans nodes specs (tree.More first rest) (name ∷ names) = IsPlan nodes specs first name × ArePlans nodes specs rest names
+
+-- each root has its plan
+abbrev pub HavePlans : List Node → List LayerSpec → List Plan → List (List ℕ) → Type 0
+HavePlans nodes specs [] roots = roots ≡ []
+HavePlans nodes specs (plan ∷ plans) [] = ⊥
+HavePlans nodes specs (plan ∷ plans) (root ∷ roots) = IsPlan nodes specs (shape plan) root × HavePlans nodes specs plans roots
 
 -- what resolving the roots answers: the databases that they reach and the plan of each, where each names a database, and
 -- else the first that names none
@@ -151,7 +159,7 @@ abbrev pub IsResolved : Configuration → List (List ℕ) → Result Resolved Re
 IsResolved conf roots (Ok resolved) =
     AllByRecursion (λ name. is_among conf.databases name ≡ true) roots
     × (resolved.specs ≡ reached conf roots)
-    × (resolved.plans ≡ each (plan_of conf (reached conf roots)) roots)
+    × HavePlans conf.nodes resolved.specs resolved.plans roots
 IsResolved conf roots (Err (resolve.Unknown root)) = IsFirstUnknown conf.databases roots root
 IsResolved conf roots (Err resolve.OutOfMemory) = ⊤
 
@@ -179,15 +187,31 @@ takes_mode _ mode = true
 abbrev pub fits_sort : LayerSpec → Bool
 fits_sort spec = takes_extension spec.sort spec.extension && takes_mode spec.sort spec.mode
 
--- What each configuration keeps: places and names are apart, each database fits its sort and is held by some that hold items
--- themselves, and those of questions and of templates share none.
+-- what a database names is there, doesn't lead back to it, and doesn't meet
+abbrev pub is_well_made : List Node → Node → Bool
+is_well_made nodes node =
+    list_all (is_node nodes) (named_in node.form)
+    && (not (reaches nodes node.name node.name) && not (two_meet nodes (named_in node.form)))
+
+-- a database that holds items itself is one of these
+abbrev pub is_held : List LayerSpec → List ℕ → Form → Bool
+is_held specs name Holds = is_spec_of specs name
+is_held specs name _ = true
+
+-- What each configuration keeps: places and names are apart, each database fits its sort, has a name of its own and is made well, and
+-- those of questions and of templates don't meet.
 abbrev pub is_sound : Configuration → Bool
 is_sound conf =
     are_apart conf.specs && (have_names_apart conf.specs && (list_all fits_sort conf.specs
-    && (list_all (λ name. list_all (is_spec_of conf.specs) (holders_of conf name)) conf.databases
-    && not (share (holders_of conf conf.templates) (holders_of conf conf.config)))))
+    && (not (repeats (names_of conf.nodes)) && (list_all (is_node conf.nodes) conf.databases && (list_all (is_well_made conf.nodes) conf.nodes
+    && (list_all (λ node. is_held conf.specs node.name node.form) conf.nodes
+    && not (names_meet conf.nodes conf.config conf.templates)))))))
+
+-- each place stands once in the plan
+abbrev pub IsOnce : Plan → Type 0
+IsOnce plan = stand_once (all_places (shape plan)) ≡ true
 
 -- the plans of these two share no database
 abbrev pub AreDisjoint : List Plan → Type 0
-AreDisjoint (one ∷ other ∷ []) = are_disjoint one other ≡ true
+AreDisjoint (one ∷ other ∷ []) = are_disjoint (shape one) (shape other) ≡ true
 AreDisjoint _ = ⊥

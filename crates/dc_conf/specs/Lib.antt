@@ -5,3 +5,6 @@ pub mod Machine
 pub mod Stanzas
 pub mod Values
 pub mod Plans
+pub mod Reaching
+pub mod Nodes
+pub mod Trees

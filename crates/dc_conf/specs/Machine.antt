@@ -1,8 +1,9 @@
 -- What the reader does, as functions: with one line after another, with the faults of stanzas, and with names. Only functions
 -- that are not public, and the proofs, speak of them.
-use Rattle.std.specs.Prelude.{◌≡◌, ◌≢◌, ◌≤◌, ℕ, ◌+◌, ⊤, true, false, nat_le, List, [], ◌∷◌, ◌++◌, Option, Some, None, Result, Ok, Err, if◌then◌else◌}
+use Rattle.std.specs.Prelude.{◌≡◌, ◌≢◌, ◌≤◌, ℕ, ◌+◌, ⊤, Bool, true, false, ◌||◌, ◌&&◌, map as each, slice_get, Vec, nat_le, List, [], ◌∷◌, ◌++◌, Option, Some, None, Result, Ok, Err, if◌then◌else◌}
 use Rattle.std.specs.List.{AllByRecursion}
-use Rattle.std.specs.Option.{option_map_or}
+use Rattle.std.specs.Option.{option_map_or, unwrap_or}
+use Rattle.std.specs.Str.{bytes_eq}
 use Rattle.std.specs.FinMap as map
 use Rattle.dc_text.specs.Bytes.{is_blank}
 use Rattle.dc_text.specs.Lines.{lines_of}
@@ -15,8 +16,11 @@ use Rattle.dc_conf.specs.declared.reading.Gathered.{Gathered}
 use Rattle.dc_conf.specs.declared.spec.LayerSort.{LayerSort}
 use Rattle.dc_conf.specs.Stanzas.{Line, Stanza, numbered, is_comment, has_colon, field_in}
 use Rattle.dc_conf.specs.Values.{is_mode}
-use Rattle.dc_conf.specs.Configuration.{is_among, mode_field}
-use Rattle.dc_conf.specs.ConfFaults.{fault, is_stack, sort_in, second_pass, third_pass, fourth_pass}
+use Rattle.dc_conf.specs.declared.nodes.Node.{Node}
+use Rattle.dc_conf.specs.Configuration.{mode_field}
+use Rattle.dc_conf.specs.Nodes.{named_in, is_among, is_node, names_of, names_it, leads_to}
+use Rattle.dc_conf.specs.Reaching.{by_way}
+use Rattle.dc_conf.specs.ConfFaults.{fault, is_made, sort_in, second_pass, third_pass, fourth_pass}
 
 -- ---- the least fault
 
@@ -107,9 +111,9 @@ Rise low (stanza ∷ stanzas) = (high : ℕ) × (low ≤ high) × IsBetween low 
 abbrev pub TakesMode : LayerSort → Stanza → Type 0
 TakesMode sort stanza = option_map_or (λ field. is_mode field.value) (mode_field sort stanza) true ≡ true
 
--- so it is in a database that is no stack
+-- so it is in a database that isn't made of others
 abbrev pub HasMode : Stanza → Type 0
-HasMode stanza = is_stack stanza ≡ false → TakesMode (sort_in stanza) stanza
+HasMode stanza = is_made stanza ≡ false → TakesMode (sort_in stanza) stanza
 
 -- and in each of the databases
 abbrev pub AreModes : List Stanza → Type 0
@@ -122,3 +126,43 @@ AreModes (head ∷ databases) = AllByRecursion HasMode databases
 abbrev pub unknown_from : List (List ℕ) → ℕ → List (List ℕ) → Option ℕ
 unknown_from databases place [] = None
 unknown_from databases place (root ∷ roots) = if is_among databases root then unknown_from databases (place + 1) roots else Some place
+
+-- ---- which databases lead to which, in rows of flags
+
+-- the flags of rows
+abbrev pub flags_of : {A B : Type 0} → Vec (Vec Bool A) B → List (List Bool)
+flags_of rows = each (λ row. row.items) rows.items
+
+-- the one is the other, or reaches it by way of these
+abbrev pub leads_by : List Node → List (List ℕ) → List ℕ → List ℕ → Bool
+leads_by nodes way one other = bytes_eq one other || by_way (names_it nodes) way one other
+
+-- for each database a row with a flag for each: it is the one, or reaches it by way of these
+abbrev pub rows_over : List Node → List (List ℕ) → List (List Bool)
+rows_over nodes way = each (λ one. each (leads_by nodes way one) (names_of nodes)) (names_of nodes)
+
+-- the row of a database, where none stands between
+abbrev pub direct_row : Node → List Node → List Bool
+direct_row node nodes = each (λ other. bytes_eq node.name other.name || is_among (named_in node.form) other.name) nodes
+
+-- the flags of the row of a name, none where no database has it
+abbrev pub led_row : List Node → List ℕ → List Bool
+led_row nodes name = if is_node nodes name then each (leads_to nodes name) (names_of nodes) else []
+
+-- a row with the flags of another
+abbrev pub joined : List Bool → List Bool → List Bool
+joined (flag ∷ row) (more ∷ other) = (flag || more) ∷ joined row other
+joined row _ = row
+
+-- a row with a flag at the place with those of the row there
+abbrev pub widened : ℕ → List Bool → List Bool → List Bool
+widened place through row = if unwrap_or (slice_get row place) false then joined row through else row
+
+-- both have a flag in one place
+abbrev pub share_flag : List Bool → List Bool → Bool
+share_flag (one ∷ row) (two ∷ other) = (one && two) || share_flag row other
+share_flag _ _ = false
+
+-- The rows are those of the databases.
+abbrev pub IsWeb : {A B : Type 0} → List Node → Vec (Vec Bool A) B → Type 0
+IsWeb nodes rows = flags_of rows ≡ rows_over nodes (names_of nodes)

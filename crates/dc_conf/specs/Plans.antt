@@ -1,29 +1,57 @@
 -- What plans speak of: the places of the databases that hold items themselves.
-use Rattle.std.specs.Prelude.{ℕ, ◌<◌, Bool, not, List, [], ◌∷◌, ◌++◌, nat_eq}
-use Rattle.std.specs.Option.{option_map_or, IfSome}
-use Rattle.std.specs.List.{All, list_all, list_any}
-use Rattle.dc_conf.specs.declared.plans.Base.{Base}
-use Rattle.dc_conf.specs.declared.plans.Base.TheVariants.{Leaf, Stack}
-use Rattle.dc_conf.specs.declared.plans.Plan.{Plan}
+use Rattle.std.specs.Prelude.{ℕ, ◌<◌, Bool, true, not, ◌&&◌, List, [], ◌∷◌, ◌++◌, nat_eq, ⊤}
+use Rattle.std.specs.List.{list_all, list_any}
+use Rattle.dc_conf.specs.Trees.{Tree, Trees, Leaf, Stack, Backup, Debug, End, More}
 
--- the places of a base, from the top
-abbrev pub places : Base → List ℕ
-places (Leaf place) = place ∷ []
-places (Stack list) = list
+-- The places that are asked for an item, from the top: a backup's second plan isn't asked.
+abbrev mutual
+  pub leaves : Tree → List ℕ
+  leaves (Leaf place) = place ∷ []
+  leaves (Stack plans) = leaves_of plans
+  leaves (Backup first second) = leaves first
+  leaves (Debug plan) = leaves plan
 
--- each place is one of so many databases
-abbrev pub AreWithin : List ℕ → ℕ → Type 0
-AreWithin places count = All (λ place. place < count) places
+  pub leaves_of : Trees → List ℕ
+  leaves_of End = []
+  leaves_of (More plan plans) = leaves plan ++ leaves_of plans
+
+-- All places that a plan speaks of: those of the second plans of its backups too.
+abbrev mutual
+  pub all_places : Tree → List ℕ
+  all_places (Leaf place) = place ∷ []
+  all_places (Stack plans) = all_places_of plans
+  all_places (Backup first second) = all_places first ++ all_places second
+  all_places (Debug plan) = all_places plan
+
+  pub all_places_of : Trees → List ℕ
+  all_places_of End = []
+  all_places_of (More plan plans) = all_places plan ++ all_places_of plans
+
+-- something holds of each place that a plan speaks of
+abbrev mutual
+  pub Everywhere : (ℕ → Type 0) → Tree → Type 0
+  Everywhere P (Leaf place) = P place
+  Everywhere P (Stack plans) = AllEverywhere P plans
+  Everywhere P (Backup first second) = Everywhere P first × Everywhere P second
+  Everywhere P (Debug plan) = Everywhere P plan
+
+  pub AllEverywhere : (ℕ → Type 0) → Trees → Type 0
+  AllEverywhere P End = ⊤
+  AllEverywhere P (More plan plans) = Everywhere P plan × AllEverywhere P plans
 
 -- the plan speaks of so many databases
-pub record IsOver (plan : Plan) (count : ℕ) : Type 0 where
-  pub base : AreWithin (places plan.base) count
-  pub backup : IfSome plan.backup (λ backup. AreWithin (places backup) count)
+abbrev pub IsOver : Tree → ℕ → Type 0
+IsOver plan count = Everywhere (λ place. place < count) plan
 
--- all places that a plan speaks of
-abbrev pub all_places : Plan → List ℕ
-all_places plan = places plan.base ++ option_map_or places plan.backup []
+-- no place is one of the others
+abbrev pub are_apart_from : List ℕ → List ℕ → Bool
+are_apart_from places others = list_all (λ place. not (list_any (nat_eq place) others)) places
 
 -- two plans share no database
-abbrev pub are_disjoint : Plan → Plan → Bool
-are_disjoint plan other = list_all (λ place. not (list_any (nat_eq place) (all_places other))) (all_places plan)
+abbrev pub are_disjoint : Tree → Tree → Bool
+are_disjoint plan other = are_apart_from (all_places plan) (all_places other)
+
+-- each place stands once
+abbrev pub stand_once : List ℕ → Bool
+stand_once [] = true
+stand_once (place ∷ places) = not (list_any (nat_eq place) places) && stand_once places

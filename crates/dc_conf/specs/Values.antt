@@ -8,7 +8,7 @@ use Rattle.std.specs.Str.{bytes_eq, is_utf8}
 use Rattle.dc_text.specs.Bytes.{lower, is_nil, is_space}
 use Rattle.dc_words.specs.Words.{plain_words_of}
 use Rattle.dc_conf.specs.declared.drivers.Driver.{Driver}
-use Rattle.dc_conf.specs.declared.drivers.Driver.TheVariants.{File, DirTree, PackageDir, Stack}
+use Rattle.dc_conf.specs.declared.drivers.Driver.TheVariants.{File, DirTree, PackageDir, Stack, Backup, Debug}
 
 -- `true`, read without regard to case
 abbrev pub is_true : List ℕ → Bool
@@ -128,11 +128,17 @@ no_layer_rules = each (λ rule. refused rule.key) layer_rules
 abbrev pub folder_rules : List FieldRule
 folder_rules = needed (codes "directory") is_directory ∷ optional (codes "extension") is_extension ∷ []
 
+-- a field that names a database: another pass sees whether it is there
+abbrev pub name_of : List ℕ → FieldRule
+name_of key = needed key (λ value. true)
+
 abbrev pub driver_rules : Driver → List FieldRule
 driver_rules File = needed (codes "filename") is_path ∷ optional (codes "mode") is_mode ∷ optional (codes "backup") is_boolean ∷ layer_rules
 driver_rules DirTree = folder_rules ++ layer_rules
 driver_rules PackageDir = folder_rules ++ optional (codes "mode") is_mode ∷ layer_rules
 driver_rules Stack = needed (codes "stack") has_names ∷ no_layer_rules
+driver_rules Backup = name_of (codes "db") ∷ name_of (codes "backupdb") ∷ no_layer_rules
+driver_rules Debug = name_of (codes "db") ∷ no_layer_rules
 
 -- the fields that a database may have, by its driver, if it has one
 abbrev pub rules_of : Option Driver → List FieldRule
@@ -144,9 +150,11 @@ driver_word File = codes "file"
 driver_word DirTree = codes "dirtree"
 driver_word PackageDir = codes "packagedir"
 driver_word Stack = codes "stack"
+driver_word Backup = codes "backup"
+driver_word Debug = codes "debug"
 
 abbrev pub all_drivers : List Driver
-all_drivers = File ∷ DirTree ∷ PackageDir ∷ Stack ∷ []
+all_drivers = File ∷ DirTree ∷ PackageDir ∷ Stack ∷ Backup ∷ Debug ∷ []
 
 -- the driver that has this word, read without regard to case
 abbrev pub driver_of : List ℕ → Option Driver

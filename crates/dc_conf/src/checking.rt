@@ -1,8 +1,9 @@
 // Which fault of stanzas decides.
-ghost use Rattle.std.specs.Prelude.{◌≡◌, [], IfOk};
-ghost use Rattle.std.specs.List.{flat_map, list_any};
-ghost use Rattle.dc_conf.specs.ConfFaults.{missing as missing_of, unknown_driver as unknown_driver_of, has_name as has_name_of, is_named as is_named_of, repeated_name as repeated_name_of, same_place as same_place_of, share_place, database_faults, along, head_faults, second_pass as second_pass_of, lone_faults, fault_if as fault_if_of, is_bad as is_bad_by};
+ghost use Rattle.std.specs.Prelude.{◌≡◌, ◌∷◌, [], IfOk, false, length};
+ghost use Rattle.std.specs.List.{filter, flat_map, list_any};
+ghost use Rattle.dc_conf.specs.ConfFaults.{missing as missing_of, unknown_driver as unknown_driver_of, has_name as has_name_of, is_named as is_named_of, repeated_name as repeated_name_of, same_place as same_place_of, share_place, database_faults, along, head_faults, second_pass as second_pass_of, lone_faults, fault_if as fault_if_of, is_bad as is_bad_by, is_too_many as is_too_many_of, keep_alike as keep_alike_of, driver_in as driver_in_of, nodes_of, third_pass, fourth_pass};
 ghost use Rattle.dc_conf.specs.Values.{rules_of};
+ghost use Rattle.dc_conf.specs.Nodes.{names_of, repeats};
 ghost use Rattle.dc_conf.specs.declared.faults.ConfKind.TheVariants.{BadValue};
 ghost use Rattle.dc_conf.specs.Machine.{least_of, decided, later_passes, Rise};
 
@@ -10,9 +11,10 @@ use crate::drivers::Driver;
 use crate::faults::{ConfKind, Fault};
 use crate::fields::{Field, field_at, first_line, is_there};
 use crate::least::{earlier, fault_if};
-use crate::naming::{fourth_pass, third_pass};
+use crate::naming::{names_fault, shared_database};
 use crate::places::{driver_in, paths_in, place_in, some_meet};
 use crate::rules::{is_bad, lacks_field};
+use crate::webs::Web;
 use dc_text::{List, Mem, Text};
 use std::alloc::Global;
 
@@ -24,10 +26,22 @@ pub fn find_fault(alloc: Global, stanzas: &[List<Field>]) -> Mem<Option<Fault>>
     if let Some(fault) = second_pass(alloc, stanzas)? {
         return Ok(Some(fault));
     }
-    if let Some(fault) = third_pass(alloc, stanzas)? {
-        return Ok(Some(fault));
+    match stanzas {
+        [] => Ok(None),
+        [head, databases @ ..] => later_fault(alloc, head.as_slice(), databases),
     }
-    fourth_pass(alloc, stanzas)
+}
+
+// The fault of what stanzas name, where they have no other.
+fn later_fault(alloc: Global, head: &[Field], databases: &[List<Field>]) -> Mem<Option<Fault>>
+    requires { repeats (names_of (nodes_of databases.now)) ≡ false }
+    ensures { IfOk result (λ fault. fault ≡ decided (third_pass (head.now ∷ databases.now) ∷ fourth_pass (head.now ∷ databases.now) ∷ [])) }
+{
+    let web = Web::of(alloc, databases)?;
+    match names_fault(alloc, &web, head, databases)? {
+        Some(fault) => Ok(Some(fault)),
+        None => Ok(shared_database(&web, head)),
+    }
 }
 
 // The first fault of the second pass: what each stanza lacks, and what is wrong with its values.
@@ -81,18 +95,52 @@ fn databases_fault(alloc: Global, databases: &[List<Field>]) -> Mem<Option<Fault
 fn database_fault(alloc: Global, before: &[List<Field>], stanza: &[Field]) -> Mem<Option<Fault>>
     ensures { IfOk result (λ fault. fault ≡ least_of (database_faults before.now stanza.now)) }
 {
-    let lone = lone_fault(before.len(), stanza);
+    let lone = lone_fault(is_too_many(before, stanza), stanza);
     let named = earlier(lone, repeated_name(before, stanza));
     Ok(earlier(named, same_place(alloc, before, stanza)?))
 }
 
-// The fault of a database that stands behind so many others, by itself.
-fn lone_fault(count: usize, stanza: &[Field]) -> Option<Fault>
-    ensures { result ≡ least_of (lone_faults count stanza.now) }
+// Whether 256 databases stand before this one, or 16 that keep items as it does.
+fn is_too_many(before: &[List<Field>], stanza: &[Field]) -> bool
+    ensures { result ≡ is_too_many_of before.now stanza.now }
+{
+    256 <= before.len() || 16 <= count_alike(before, driver_in(stanza))
+}
+
+// How many of the databases keep items as one with this driver does.
+fn count_alike(databases: &[List<Field>], driver: Option<Driver>) -> usize
+    ensures { result ≡ length (filter (λ other. keep_alike_of (driver_in_of other) driver) databases.now) }
+{
+    let mut count = 0;
+    let mut rest = databases;
+    while let [stanza, tail @ ..] = rest {
+        if keep_alike(driver_in(stanza.as_slice()), driver) {
+            count += 1;
+        }
+        rest = tail;
+    }
+    count
+}
+
+// Whether both drivers are the same, and keep items themselves.
+fn keep_alike(one: Option<Driver>, other: Option<Driver>) -> bool
+    ensures { result ≡ keep_alike_of one other }
+{
+    match (one, other) {
+        (Some(Driver::File), Some(Driver::File))
+        | (Some(Driver::DirTree), Some(Driver::DirTree))
+        | (Some(Driver::PackageDir), Some(Driver::PackageDir)) => true,
+        _ => false,
+    }
+}
+
+// The fault of a database by itself, and where it is one too many.
+fn lone_fault(many: bool, stanza: &[Field]) -> Option<Fault>
+    ensures { result ≡ least_of (lone_faults many stanza.now) }
 {
     let driver = driver_in(stanza);
     let line = first_line(stanza);
-    let fault = fault_if(16 <= count, line, ConfKind::TooMany);
+    let fault = fault_if(many, line, ConfKind::TooMany);
     let fault = earlier(fault, missing(stanza, b"name", ConfKind::NoName));
     let fault = earlier(fault, missing(stanza, b"driver", ConfKind::NoDriver));
     let lacks = fault_if(lacks_field(driver, stanza), line, ConfKind::MissingField);

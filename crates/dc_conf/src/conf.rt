@@ -1,17 +1,16 @@
 // A configuration.
 ghost use Rattle.std.specs.Prelude.{◌≡◌, ◌∷◌, true, not, IfOk, codes, map as each};
-ghost use Rattle.std.specs.List.{AllByRecursion, filter, find};
-ghost use Rattle.std.specs.Str.{bytes_eq};
+ghost use Rattle.std.specs.List.{AllByRecursion, filter};
 ghost use Rattle.std.specs.Option.{option_copied};
 
 use crate::checking::find_fault;
 use crate::faults::ConfError;
 use crate::fields::{Field, field_at, value_at};
-use crate::naming::members;
-use crate::places::{is_stack, place_of, sort_in};
+use crate::places::{is_made, place_of, sort_in};
 use crate::reading::read_stanzas;
-use crate::spec::{LayerSort, LayerSpec, StackSpec};
+use crate::spec::{LayerSort, LayerSpec};
 use crate::values::{is_true, octal};
+use crate::webs::Web;
 use dc_text::{List, Mem, Text};
 use std::alloc::Global;
 use std::marker::Model;
@@ -27,7 +26,8 @@ pub struct Conf {
     names: List<Text>,
     // Those that hold items themselves.
     specs: List<LayerSpec>,
-    stacks: List<StackSpec>,
+    // How each is made, and which of them lead to which.
+    web: Web,
 }
 
 impl Model for Conf {
@@ -36,13 +36,13 @@ impl Model for Conf {
 
     ghost Value = { Configuration };
 
-    ghost view = { λ c. record { config = c.config; templates = c.templates; frontend = c.frontend; priority = c.priority; databases = c.names; specs = c.specs; stacks = c.stacks } };
+    ghost view = { λ c. record { config = c.config; templates = c.templates; frontend = c.frontend; priority = c.priority; databases = c.names; specs = c.specs; nodes = c.web } };
 
-    ghost invariant = { λ c. IsTrue (is_sound (record { config = c.config; templates = c.templates; frontend = c.frontend; priority = c.priority; databases = c.names; specs = c.specs; stacks = c.stacks })) };
+    ghost invariant = { λ c. IsTrue (is_sound (record { config = c.config; templates = c.templates; frontend = c.frontend; priority = c.priority; databases = c.names; specs = c.specs; nodes = c.web })) };
 }
 
-ghost use Rattle.dc_conf.specs.Configuration.{IsAnswer, configuration, spec_of, stack_of, text_at as text_at_of, truth_at as truth_at_of, extension_by as extension_by_of, mode_by as mode_by_of, is_sound};
-ghost use Rattle.dc_conf.specs.ConfFaults.{value_at as value_in, is_stack as is_stack_of, sort_in as sort_in_of};
+ghost use Rattle.dc_conf.specs.Configuration.{IsAnswer, configuration, spec_of, text_at as text_at_of, truth_at as truth_at_of, extension_by as extension_by_of, mode_by as mode_by_of, is_sound};
+ghost use Rattle.dc_conf.specs.ConfFaults.{value_at as value_in, is_made as is_made_of, sort_in as sort_in_of};
 
 impl Conf {
     /// The name of the database of questions.
@@ -86,14 +86,11 @@ impl Conf {
         self.specs.as_slice()
     }
 
-    /// The stack of this name, if one has it.
-    pub(crate) fn stack(&self, name: &[u8]) -> Option<&StackSpec>
-        ensures { option_copied result ≡ find (λ stack. bytes_eq stack.name name.now) self.now.stacks }
+    /// Which of the databases lead to which.
+    pub(crate) fn web(&self) -> &Web
+        ensures { result.now ≡ self.now.nodes }
     {
-        self.stacks
-            .as_slice()
-            .iter()
-            .find(|stack| stack.name.bytes() == name)
+        &self.web
     }
 }
 
@@ -122,7 +119,7 @@ fn configure(alloc: Global, stanzas: &[List<Field>]) -> Mem<Conf>
     ensures { IfOk result (λ conf. conf ≡ configuration stanzas.now) }
 {
     match stanzas {
-        [] => unreachable!(),
+        [] => configure_by(alloc, &[], &[]),
         [head, databases @ ..] => configure_by(alloc, head.as_slice(), databases),
     }
 }
@@ -134,7 +131,7 @@ fn configure_by(alloc: Global, head: &[Field], databases: &[List<Field>]) -> Mem
 {
     let names = names_of(alloc, databases)?;
     let specs = specs_of(alloc, databases)?;
-    let stacks = stacks_of(alloc, databases)?;
+    let web = Web::of(alloc, databases)?;
     let config = Text::from_bytes(alloc, value_at(head, b"config"))?;
     let templates = Text::from_bytes(alloc, value_at(head, b"templates"))?;
     let frontend = text_at(head, b"frontend")?;
@@ -146,7 +143,7 @@ fn configure_by(alloc: Global, head: &[Field], databases: &[List<Field>]) -> Mem
         priority,
         names,
         specs,
-        stacks,
+        web,
     })
 }
 
@@ -165,39 +162,17 @@ fn names_of(alloc: Global, databases: &[List<Field>]) -> Mem<List<Text>>
 // The databases that hold items themselves.
 fn specs_of(alloc: Global, databases: &[List<Field>]) -> Mem<List<LayerSpec>>
     requires { AllByRecursion HasMode databases.now }
-    ensures { IfOk result (λ specs. specs ≡ each spec_of (filter (λ stanza. not (is_stack_of stanza)) databases.now)) }
+    ensures { IfOk result (λ specs. specs ≡ each spec_of (filter (λ stanza. not (is_made_of stanza)) databases.now)) }
 {
     let mut specs = List::new(alloc);
     let mut rest = databases;
     while let [stanza, tail @ ..] = rest {
-        if !is_stack(stanza.as_slice()) {
+        if !is_made(stanza.as_slice()) {
             specs.push(read_database(alloc, stanza.as_slice())?)?;
         }
         rest = tail;
     }
     Ok(specs)
-}
-
-fn stacks_of(alloc: Global, databases: &[List<Field>]) -> Mem<List<StackSpec>>
-    ensures { IfOk result (λ stacks. stacks ≡ each stack_of (filter is_stack_of databases.now)) }
-{
-    let mut stacks = List::new(alloc);
-    let mut rest = databases;
-    while let [stanza, tail @ ..] = rest {
-        if is_stack(stanza.as_slice()) {
-            stacks.push(read_stack(alloc, stanza.as_slice())?)?;
-        }
-        rest = tail;
-    }
-    Ok(stacks)
-}
-
-fn read_stack(alloc: Global, stanza: &[Field]) -> Mem<StackSpec>
-    ensures { IfOk result (λ stack. stack ≡ stack_of stanza.now) }
-{
-    let name = Text::from_bytes(alloc, value_at(stanza, b"name"))?;
-    let members = members(alloc, stanza)?;
-    Ok(StackSpec { name, members })
 }
 
 fn read_database(alloc: Global, stanza: &[Field]) -> Mem<LayerSpec>

@@ -14,13 +14,19 @@ pub enum Driver {
     PackageDir,
     /// Other databases hold it, and are asked one after another.
     Stack,
+    /// Another database holds it, and what is written to that is written to a second one too.
+    Backup,
+    /// Another database holds it, and what is done there is told.
+    Debug,
 }
 
-const DRIVERS: [Driver; 4] = [
+const DRIVERS: [Driver; 6] = [
     Driver::File,
     Driver::DirTree,
     Driver::PackageDir,
     Driver::Stack,
+    Driver::Backup,
+    Driver::Debug,
 ];
 
 impl Driver {
@@ -45,6 +51,8 @@ impl Driver {
             Driver::DirTree => b"dirtree",
             Driver::PackageDir => b"packagedir",
             Driver::Stack => b"stack",
+            Driver::Backup => b"backup",
+            Driver::Debug => b"debug",
         }
     }
 }

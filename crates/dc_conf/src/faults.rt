@@ -9,7 +9,7 @@ pub enum ConfKind {
     NoColon,
     /// The stanza has the field already, or an earlier database has the name.
     Twice,
-    /// There are more databases than 16.
+    /// There are more databases than 256, or more than 16 in files, in trees or in packs.
     TooMany,
     /// The first stanza has no `Config`.
     NoConfig,
@@ -29,8 +29,8 @@ pub enum ConfKind {
     SamePlace,
     /// No database has this name.
     UnknownDatabase,
-    /// The database that is named isn't one that may be named here.
-    Nested,
+    /// The database that is named is this one, or reaches it.
+    Cycle,
     /// Two databases that must not share one do.
     SharedDatabase,
 }

@@ -9,15 +9,19 @@ mod fields;
 pub mod laws;
 mod least;
 mod naming;
+mod nodes;
 mod places;
 pub mod plans;
 mod reading;
 mod resolving;
 mod rules;
 pub mod spec;
+#[cfg(test)]
+mod tests;
 mod values;
+mod webs;
 
 pub use conf::{Conf, read_conf};
 pub use faults::{ConfError, ConfKind};
-pub use plans::{Base, Plan, ResolveError, Resolved};
-pub use spec::{LayerSort, LayerSpec, StackSpec};
+pub use plans::{Plan, PlanList, ResolveError, Resolved};
+pub use spec::{LayerSort, LayerSpec};

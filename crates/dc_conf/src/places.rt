@@ -2,7 +2,7 @@
 ghost use Rattle.std.specs.Prelude.{◌≡◌, ◌∷◌, ◌++◌, [], IfOk};
 ghost use Rattle.std.specs.List.{list_any};
 ghost use Rattle.std.specs.Option.{option_copied};
-ghost use Rattle.dc_conf.specs.ConfFaults.{place_in as place_in_of, sort_in as sort_in_of, place_of as place_of_stanza, paths_at as paths_at_of, paths_in as paths_in_of, is_stack as is_stack_of, is_front, meet as meet_of, driver_in as driver_in_of};
+ghost use Rattle.dc_conf.specs.ConfFaults.{place_in as place_in_of, sort_in as sort_in_of, place_of as place_of_stanza, paths_at as paths_at_of, paths_in as paths_in_of, is_made as is_made_of, is_front, meet as meet_of, driver_in as driver_in_of};
 
 use crate::drivers::Driver;
 use crate::fields::{Field, field_at};
@@ -21,12 +21,12 @@ pub fn driver_in(stanza: &[Field]) -> Option<Driver>
     }
 }
 
-/// Whether the database is a stack.
-pub fn is_stack(stanza: &[Field]) -> bool
-    ensures { result ≡ is_stack_of stanza.now }
+/// Whether the database is made of others.
+pub fn is_made(stanza: &[Field]) -> bool
+    ensures { result ≡ is_made_of stanza.now }
 {
     match driver_in(stanza) {
-        Some(Driver::Stack) => true,
+        Some(Driver::Stack | Driver::Backup | Driver::Debug) => true,
         Some(Driver::File | Driver::DirTree | Driver::PackageDir) | None => false,
     }
 }
@@ -38,7 +38,7 @@ pub fn place_in(stanza: &[Field]) -> Option<&Field>
     match driver_in(stanza) {
         Some(Driver::File) => field_at(stanza, b"filename"),
         Some(Driver::DirTree | Driver::PackageDir) => field_at(stanza, b"directory"),
-        Some(Driver::Stack) | None => None,
+        Some(Driver::Stack | Driver::Backup | Driver::Debug) | None => None,
     }
 }
 
@@ -49,7 +49,9 @@ pub fn sort_in(stanza: &[Field]) -> LayerSort
     match driver_in(stanza) {
         Some(Driver::DirTree) => LayerSort::Tree,
         Some(Driver::PackageDir) => LayerSort::Pack,
-        Some(Driver::File | Driver::Stack) | None => LayerSort::File,
+        Some(Driver::File | Driver::Stack | Driver::Backup | Driver::Debug) | None => {
+            LayerSort::File
+        }
     }
 }
 

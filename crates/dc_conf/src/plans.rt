@@ -3,23 +3,26 @@ use crate::spec::LayerSpec;
 use dc_text::{List, OutOfMemory};
 use thiserror::Error;
 
-/// What a database is made of, by the places of the databases that hold items themselves.
+/// How a database is used: a tree over the places of the databases that hold items themselves.
+#[cycle(plan)]
 #[derive(Drop)]
-pub enum Base {
+pub enum Plan {
     /// One database.
     Leaf(usize),
     /// Several, in the order in which they are asked for an item.
-    Stack(List<usize>),
+    Stack(PlanList),
+    /// One that is written a second time, to the second plan.
+    Backup(Box<Plan>, Box<Plan>),
+    /// One of which it is told what is done.
+    Debug(Box<Plan>),
 }
 
-/// How a database is used.
+/// The plans of a stack, from the top.
+#[cycle(plan)]
 #[derive(Drop)]
-pub struct Plan {
-    pub base: Base,
-    /// What is written a second time.
-    pub backup: Option<Base>,
-    /// Whether what is done is told.
-    pub debug: bool,
+pub enum PlanList {
+    End,
+    More(Box<Plan>, Box<PlanList>),
 }
 
 /// The databases that hold items themselves, and the plan of each name that was asked for.

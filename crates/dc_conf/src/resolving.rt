@@ -1,19 +1,24 @@
 // The databases that names reach.
-ghost use Rattle.std.specs.Prelude.{◌≡◌, ◌∷◌, [], IfOk, true, length, map as each};
-ghost use Rattle.std.specs.List.{All, AllByRecursion, filter, list_all, list_any};
-ghost use Rattle.dc_conf.specs.Configuration.{IsResolved, AreDisjoint, are_apart, have_names_apart, fits_sort, holders_of, is_among as is_among_of, place_in as place_in_of, base_of, plan_of};
+ghost use Rattle.std.specs.Prelude.{◌≡◌, ◌∷◌, [], IfOk, true, length, Some};
+ghost use Rattle.std.specs.List.{AllByRecursion, filter, find, list_all, list_any};
+ghost use Rattle.std.specs.Option.{option_copied};
+ghost use Rattle.std.specs.Str.{bytes_eq};
+ghost use Rattle.dc_conf.specs.Configuration.{IsResolved, IsOnce, AreDisjoint, are_apart, have_names_apart, fits_sort, is_well_made, place_in as place_in_of, IsPlan, HavePlans};
 ghost use Rattle.dc_conf.specs.Machine.{unknown_from};
+ghost use Rattle.dc_conf.specs.Nodes.{form_at as form_at_of, is_node, leads_to};
 ghost use Rattle.dc_conf.specs.Plans.{IsOver};
+ghost use Rattle.dc_conf.specs.Trees.{shape};
 
 use crate::conf::Conf;
-use crate::naming::is_among;
-use crate::plans::{Base, Plan, ResolveError, Resolved};
+use crate::nodes::{Form, Node};
+use crate::plans::{Plan, PlanList, ResolveError, Resolved};
 use crate::spec::LayerSpec;
+use crate::webs::{Web, is_among};
 use dc_text::{Copied, List, Mem, Text};
 use std::alloc::Global;
 
 impl Conf {
-    /// The databases that the roots reach and that hold items themselves, each once, in the order of the file, and the plan of
+    /// The databases that hold items themselves and that a root is or reaches, each once, in the order of the file, and the plan of
     /// each root in turn. `Unknown` names the first root that no database has as its name.
     pub fn resolve(&self, alloc: Global, roots: &List<Text>) -> Result<Resolved, ResolveError>
         ensures answer { IsResolved self.now roots.now result }
@@ -22,32 +27,24 @@ impl Conf {
         ensures names { IfOk result (λ resolved. have_names_apart resolved.specs ≡ true) }
         // The extension and the permission bits of each are such as its sort takes.
         ensures sorts { IfOk result (λ resolved. list_all fits_sort resolved.specs ≡ true) }
-        // A plan speaks of these databases alone.
-        ensures over { IfOk result (λ resolved. AllByRecursion (λ plan. IsOver plan (length resolved.specs)) resolved.plans) }
+        // A plan speaks of these databases alone, and of each in one place at most.
+        ensures over { IfOk result (λ resolved. AllByRecursion (λ plan. IsOver (shape plan) (length resolved.specs)) resolved.plans) }
+        ensures once { IfOk result (λ resolved. AllByRecursion IsOnce resolved.plans) }
         // The database of questions shares none with that of templates.
         ensures disjoint { roots.now ≡ self.now.config ∷ self.now.templates ∷ [] → IfOk result (λ resolved. AreDisjoint resolved.plans) }
     {
-        match unknown_root(self.databases().as_slice(), roots.as_slice()) {
-            Some(root) => Err(ResolveError::Unknown { root }),
-            None => Ok(resolve_known(self, alloc, self.specs(), roots.as_slice())?),
+        if let Some(root) = unknown_root(self.databases().as_slice(), roots.as_slice()) {
+            return Err(ResolveError::Unknown { root });
         }
+        let specs = reached(alloc, self.web(), self.specs(), roots.as_slice())?;
+        let plans = plans_of(
+            alloc,
+            self.web().nodes(),
+            specs.as_slice(),
+            roots.as_slice(),
+        )?;
+        Ok(Resolved { specs, plans })
     }
-}
-
-// What the roots reach, where each is the name of a database.
-fn resolve_known(
-    conf: &Conf,
-    alloc: Global,
-    databases: &[LayerSpec],
-    roots: &[Text],
-) -> Mem<Resolved>
-    ensures specs { IfOk result (λ resolved. resolved.specs
-        ≡ filter (λ spec. list_any (λ root. is_among_of (holders_of conf.now root) spec.name) roots.now) databases.now) }
-    ensures plans { IfOk result (λ resolved. resolved.plans ≡ each (plan_of conf.now resolved.specs) roots.now) }
-{
-    let specs = reached(conf, alloc, databases, roots)?;
-    let plans = plans_of(conf, alloc, specs.as_slice(), roots)?;
-    Ok(Resolved { specs, plans })
 }
 
 // The place of the first root that no database has as its name.
@@ -66,19 +63,19 @@ fn unknown_root(databases: &[Text], roots: &[Text]) -> Option<usize>
     None
 }
 
-// The databases that hold the items of some root.
+// The databases that some root is or reaches.
 fn reached(
-    conf: &Conf,
     alloc: Global,
+    web: &Web,
     databases: &[LayerSpec],
     roots: &[Text],
 ) -> Mem<List<LayerSpec>>
-    ensures { IfOk result (λ specs. specs ≡ filter (λ spec. list_any (λ root. is_among_of (holders_of conf.now root) spec.name) roots.now) databases.now) }
+    ensures { IfOk result (λ specs. specs ≡ filter (λ spec. list_any (λ root. leads_to web.now root spec.name) roots.now) databases.now) }
 {
     let mut specs = List::new(alloc);
     let mut rest = databases;
     while let [database, tail @ ..] = rest {
-        if holds_some(conf, database.name.bytes(), roots) {
+        if some_lead_to(web, roots, database.name.bytes()) {
             specs.push(database.copied()?)?;
         }
         rest = tail;
@@ -86,57 +83,73 @@ fn reached(
     Ok(specs)
 }
 
-// Whether the database of the name holds items of some root.
-fn holds_some(conf: &Conf, name: &[u8], roots: &[Text]) -> bool
-    ensures { result ≡ list_any (λ root. is_among_of (holders_of conf.now root) name.now) roots.now }
+// Whether one of the roots leads to the name.
+fn some_lead_to(web: &Web, roots: &[Text], name: &[u8]) -> bool
+    ensures { result ≡ list_any (λ root. leads_to web.now root name.now) roots.now }
 {
-    roots.iter().any(|root| holds(conf, name, root))
+    roots.iter().any(|root| web.leads_to(root.bytes(), name))
 }
 
-fn holds(conf: &Conf, name: &[u8], root: &Text) -> bool
-    ensures { result ≡ is_among_of (holders_of conf.now root.now) name.now }
-{
-    match conf.stack(root.bytes()) {
-        Some(stack) => is_among(stack.members.as_slice(), name),
-        None => name == root.bytes(),
-    }
-}
-
-fn plans_of(conf: &Conf, alloc: Global, specs: &[LayerSpec], roots: &[Text]) -> Mem<List<Plan>>
-    ensures { IfOk result (λ plans. plans ≡ each (plan_of conf.now specs.now) roots.now) }
+fn plans_of(alloc: Global, nodes: &[Node], specs: &[LayerSpec], roots: &[Text]) -> Mem<List<Plan>>
+    requires known { AllByRecursion (λ root. is_node nodes.now root ≡ true) roots.now }
+    requires made { list_all (is_well_made nodes.now) nodes.now ≡ true }
+    ensures { IfOk result (λ plans. HavePlans nodes.now specs.now plans roots.now) }
 {
     let mut plans = List::new(alloc);
     let mut rest = roots;
     while let [root, tail @ ..] = rest {
-        plans.push(Plan {
-            base: base_at(conf, alloc, specs, root)?,
-            backup: None,
-            debug: false,
-        })?;
+        plans.push(plan_in(alloc, nodes, specs, root.bytes())?)?;
         rest = tail;
     }
     Ok(plans)
 }
 
-fn base_at(conf: &Conf, alloc: Global, specs: &[LayerSpec], root: &Text) -> Mem<Base>
-    ensures { IfOk result (λ base. base ≡ base_of conf.now specs.now root.now) }
+// The plan of a name.
+fn plan_in(alloc: Global, nodes: &[Node], specs: &[LayerSpec], name: &[u8]) -> Mem<Plan>
+    requires known { is_node nodes.now name.now ≡ true }
+    requires made { list_all (is_well_made nodes.now) nodes.now ≡ true }
+    ensures { IfOk result (λ plan. IsPlan nodes.now specs.now (shape plan) name.now) }
 {
-    match conf.stack(root.bytes()) {
-        Some(stack) => Ok(Base::Stack(places_in(alloc, specs, stack.members.as_slice())?)),
-        None => Ok(Base::Leaf(place_in(specs, root.bytes()))),
+    match form_at(nodes, name) {
+        Form::Holds => Ok(Plan::Leaf(place_in(specs, name))),
+        Form::Stacks(names) => {
+            let names = names.as_slice();
+            let mut plans = PlanList::End;
+            for index in 0..names.len() {
+                let name = names[names.len() - 1 - index].bytes();
+                let plan = plan_in(alloc, nodes, specs, name)?;
+                plans = PlanList::More(Box::new(alloc, plan)?, Box::new(alloc, plans)?);
+            }
+            Ok(Plan::Stack(plans))
+        }
+        Form::Backs(db, backupdb) => {
+            let first = plan_in(alloc, nodes, specs, db.bytes())?;
+            let second = plan_in(alloc, nodes, specs, backupdb.bytes())?;
+            Ok(Plan::Backup(Box::new(alloc, first)?, Box::new(alloc, second)?))
+        }
+        Form::Tells(db) => {
+            let plan = plan_in(alloc, nodes, specs, db.bytes())?;
+            Ok(Plan::Debug(Box::new(alloc, plan)?))
+        }
     }
 }
 
-fn places_in(alloc: Global, specs: &[LayerSpec], names: &[Text]) -> Mem<List<usize>>
-    ensures { IfOk result (λ places. places ≡ each (place_in_of specs.now) names.now) }
+// How the database of the name is made.
+fn form_at<'a>(nodes: &'a [Node], name: &[u8]) -> &'a Form
+    requires { is_node nodes.now name.now ≡ true }
+    ensures { form_at_of nodes.now name.now ≡ Some result.now }
 {
-    let mut places = List::new(alloc);
-    let mut rest = names;
-    while let [name, tail @ ..] = rest {
-        places.push(place_in(specs, name.bytes()))?;
-        rest = tail;
+    match node_at(nodes, name) {
+        Some(node) => &node.form,
+        None => unreachable!(),
     }
-    Ok(places)
+}
+
+// The database of the name, if there is one.
+fn node_at<'a>(nodes: &'a [Node], name: &[u8]) -> Option<&'a Node>
+    ensures { option_copied result ≡ find (λ node. bytes_eq node.name name.now) nodes.now }
+{
+    nodes.iter().find(|node| node.name.bytes() == name)
 }
 
 // The place of the database with the name.

@@ -20,6 +20,8 @@ pub fn lacks_field(driver: Option<Driver>, stanza: &[Field]) -> bool
         Some(Driver::File) => !is_there(stanza, b"filename"),
         Some(Driver::DirTree | Driver::PackageDir) => !is_there(stanza, b"directory"),
         Some(Driver::Stack) => !is_there(stanza, b"stack"),
+        Some(Driver::Backup) => !is_there(stanza, b"db") || !is_there(stanza, b"backupdb"),
+        Some(Driver::Debug) => !is_there(stanza, b"db"),
         None => false,
     }
 }
@@ -46,6 +48,7 @@ fn is_bad_for(driver: Option<Driver>, field: &Field) -> bool
             is_bad_in_folder(field) || is_bad_mode(field) || is_bad_in_layer(field)
         }
         Some(Driver::Stack) => is_bad_in_stack(field),
+        Some(Driver::Backup | Driver::Debug) => is_of_layer(field),
         None => false,
     }
 }

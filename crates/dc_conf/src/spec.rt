@@ -1,7 +1,7 @@
 // What a database is kept in, and how.
 ghost use Rattle.std.specs.Prelude.{◌≡◌, IfOk};
 
-use dc_text::{Copied, List, Mem, Text};
+use dc_text::{Copied, Mem, Text};
 
 /// How a database is kept: in one file, in a folder with a file for each item, or in one with a file for each prefix.
 #[derive(Clone, Copy, Debug, PartialEq, Eq)]
@@ -31,14 +31,6 @@ pub struct LayerSpec {
     pub reject_name: Option<Text>,
     pub accept_type: Option<Text>,
     pub reject_type: Option<Text>,
-}
-
-/// A database that other databases hold, which are asked one after another (debconf.conf(5), Stack).
-#[derive(Drop)]
-pub struct StackSpec {
-    pub name: Text,
-    /// The names of those databases, from the top.
-    pub members: List<Text>,
 }
 
 impl Copied for LayerSpec {

@@ -1,5 +1,5 @@
 use Rattle.std.proofs.Common.{◌++◌, List, ap, ◌∙◌}
-use Rattle.std.specs.Prelude.{codes, nat_le}
+use Rattle.std.specs.Prelude.{codes}
 use Rattle.std.specs.List.{flat_map}
 use Rattle.dc_conf.specs.declared.faults.Fault.{Fault}
 use Rattle.dc_conf.specs.declared.faults.ConfKind.TheVariants.{TooMany, NoName, NoDriver, MissingField, BadValue}
@@ -13,7 +13,7 @@ use Rattle.dc_conf.proofs.checking.lone_fault.Goals as goal
 pub returns : goal.returns
 returns c =
     let s : Stanza = c.args.stanza.now in
-    let many : List Fault = fault_if (nat_le 16 c.args.count) (first_line s) TooMany in
+    let many : List Fault = fault_if c.args.many (first_line s) TooMany in
     let unnamed : List Fault = missing (codes "name") s NoName in
     let undriven : List Fault = missing (codes "driver") s NoDriver in
     let lacks : List Fault = fault_if (lacks_field (rules_in s) s) (first_line s) MissingField in
@@ -22,7 +22,7 @@ returns c =
     (least_join (many ++ unnamed ++ undriven) lacks _ _ _ c.earlier-fault-3.ensures
     (least_join (many ++ unnamed) undriven _ _ _ c.earlier-fault-2.ensures
     (least_join many unnamed _ _ _ c.earlier-fault.ensures
-    (c.fault_if-fault.ensures ∙ ap (λ n. least_of (fault_if (nat_le 16 c.args.count) n TooMany)) c.first_line-line.ensures) c.missing.ensures)
+    (c.fault_if-fault.ensures ∙ ap (λ n. least_of (fault_if c.args.many n TooMany)) c.first_line-line.ensures) c.missing.ensures)
     c.missing-2.ensures)
     (c.fault_if-lacks.ensures ∙ (λ i. least_of (fault_if ((c.lacks_field.ensures ∙ ap (λ d. lacks_field (rules_of d) s) c.driver_in-driver.ensures) i) (c.first_line-line.ensures i) MissingField)))) c.unknown_driver.ensures)
     (c.bad_values.ensures ∙ ap (λ d. least_of (flat_map (λ field. fault_if (is_bad (rules_of d) field) field.line BadValue) s)) c.driver_in-driver.ensures)

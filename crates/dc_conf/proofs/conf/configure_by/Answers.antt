@@ -11,5 +11,5 @@ invariant_of-result c =
       priority = c.in_ok-priority.ensures i;
       databases = c.in_ok-names.ensures i;
       specs = c.in_ok-specs.ensures i;
-      stacks = c.in_ok-stacks.ensures i;
+      nodes = c.in_ok-web.ensures i;
     })) ∙ c.requires.sound

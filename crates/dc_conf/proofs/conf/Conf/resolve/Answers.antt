@@ -1,12 +1,15 @@
-use Rattle.std.proofs.Common.{◌≡◌, ◌∙◌, true, List, length, map as each, sym, subst}
+use Rattle.std.proofs.Common.{◌≡◌, ◌∙◌, true, List, length, sym, subst}
 use Rattle.std.specs.List.{AllByRecursion, filter, list_all, list_any}
-use Rattle.dc_conf.specs.declared.plans.Plan.{Plan}
 use Rattle.dc_conf.specs.declared.spec.LayerSpec.{LayerSpec}
-use Rattle.dc_conf.specs.Configuration.{AreDisjoint, are_apart, have_names_apart, fits_sort, holders_of, is_among, plan_of, reached}
+use Rattle.dc_conf.specs.Configuration.{are_apart, have_names_apart, fits_sort, reached, HavePlans}
 use Rattle.dc_conf.specs.Machine.{unknown_from}
+use Rattle.dc_conf.specs.Nodes.{is_among, is_node, leads_to}
 use Rattle.dc_conf.specs.Plans.{IsOver}
+use Rattle.dc_conf.specs.Trees.{shape}
+use Rattle.dc_conf.proofs.PlanLemmas.{have_same}
 use Rattle.dc_conf.proofs.ResolveLemmas.{unknown_is, all_known}
-use Rattle.dc_conf.proofs.ResolvedLemmas.{places_apart, names_apart, sorts_fit, all_over, all_disjoint}
+use Rattle.dc_conf.proofs.ResolvedLemmas.{places_apart, names_apart, sorts_fit, are_known, all_over, all_once, all_disjoint}
+use Rattle.dc_conf.proofs.TestLemmas.{not_some}
 use Rattle.dc_conf.proofs.conf.Conf.resolve.Goals as goal
 
 pub returns-in-Some-clause-answer : goal.returns-in-Some-clause-answer
@@ -14,58 +17,77 @@ returns-in-Some-clause-answer c =
     unknown_is c.args.self.now.databases c.args.roots.now c.in-Some.root
     ((λ i. unknown_from (sym (c.as_slice.ensures ∙ c.databases.ensures) i) 0 (sym c.as_slice-2.ensures i)) ∙ sym c.unknown_root.ensures ∙ c.in-Some.is)
 
-pub returns-in_ok-resolve_known-in-None-clause-answer : goal.returns-in_ok-resolve_known-in-None-clause-answer
-returns-in_ok-resolve_known-in-None-clause-answer c =
-    let specs : c.in_ok-resolve_known-in-None.field-0.specs ≡ reached c.args.self.now c.args.roots.now =
-    c.in_ok-resolve_known-in-None.ensures.specs
-    ∙ (λ i. filter (λ (spec : LayerSpec). list_any (λ root. is_among (holders_of c.args.self.now root) spec.name) (c.as_slice-in-None.ensures i)) (c.specs.ensures.value i)) in (
-      all_known c.args.self.now.databases 0 c.args.roots.now
-          ((λ i. unknown_from (sym (c.as_slice.ensures ∙ c.databases.ensures) i) 0 (sym c.as_slice-2.ensures i)) ∙ sym c.unknown_root.ensures ∙ c.in-None.is),
-      specs,
-      c.in_ok-resolve_known-in-None.ensures.plans ∙ (λ i. each (plan_of c.args.self.now (specs i)) (c.as_slice-in-None.ensures i)),
-    )
+pub plans_of-requires-clause-known : goal.plans_of-requires-clause-known
+plans_of-requires-clause-known c =
+    let known : AllByRecursion (λ name. is_among c.args.self.now.databases name ≡ true) c.args.roots.now =
+    all_known c.args.self.now.databases 0 c.args.roots.now
+    ((λ i. unknown_from (sym (c.as_slice.ensures ∙ c.databases.ensures) i) 0 (sym c.as_slice-2.ensures i)) ∙ sym c.unknown_root.ensures ∙ not_some _ c.in_default.not-Some) in
+    let there : AllByRecursion (λ root. is_node c.args.self.now.nodes root ≡ true) c.args.roots.now =
+    are_known c.args.self.now c.args.roots.now c.specs.ensures.sound known in
+    subst (λ nodes. AllByRecursion (λ root. is_node nodes root ≡ true) c.as_slice-5.result.now) (sym (c.nodes.ensures ∙ c.web-2.ensures))
+    (subst (AllByRecursion (λ root. is_node c.args.self.now.nodes root ≡ true)) (sym c.as_slice-5.ensures) there)
 
-pub returns-in_ok-resolve_known-in-None-clause-places : goal.returns-in_ok-resolve_known-in-None-clause-places
-returns-in_ok-resolve_known-in-None-clause-places c =
-    let specs : c.in_ok-resolve_known-in-None.field-0.specs ≡ reached c.args.self.now c.args.roots.now =
-    c.in_ok-resolve_known-in-None.ensures.specs
-    ∙ (λ i. filter (λ (spec : LayerSpec). list_any (λ root. is_among (holders_of c.args.self.now root) spec.name) (c.as_slice-in-None.ensures i)) (c.specs.ensures.value i)) in
+pub returns-clause-answer : goal.returns-clause-answer
+returns-clause-answer c =
+    let known : AllByRecursion (λ name. is_among c.args.self.now.databases name ≡ true) c.args.roots.now =
+    all_known c.args.self.now.databases 0 c.args.roots.now
+    ((λ i. unknown_from (sym (c.as_slice.ensures ∙ c.databases.ensures) i) 0 (sym c.as_slice-2.ensures i)) ∙ sym c.unknown_root.ensures ∙ not_some _ c.in_default.not-Some) in
+    let specs : c.in_ok-specs.specs ≡ reached c.args.self.now c.args.roots.now =
+    c.in_ok-specs.ensures
+    ∙ (λ i. filter (λ (spec : LayerSpec). list_any (λ root. leads_to (c.web.ensures i) root spec.name) (c.as_slice-3.ensures i)) (c.specs.ensures.value i)) in
+    let have : HavePlans c.args.self.now.nodes (reached c.args.self.now c.args.roots.now) c.in_ok-plans.plans c.args.roots.now =
+    have_same c.nodes.result.now c.args.self.now.nodes c.as_slice-4.result.now (reached c.args.self.now c.args.roots.now) c.in_ok-plans.plans c.as_slice-5.result.now c.args.roots.now
+    (c.nodes.ensures ∙ c.web-2.ensures) (c.as_slice-4.ensures ∙ specs) c.as_slice-5.ensures c.in_ok-plans.ensures in
+    (known, specs, subst (λ ss. HavePlans c.args.self.now.nodes ss c.in_ok-plans.plans c.args.roots.now) (sym specs) have)
+
+pub returns-clause-places : goal.returns-clause-places
+returns-clause-places c =
+    let specs : c.in_ok-specs.specs ≡ reached c.args.self.now c.args.roots.now =
+    c.in_ok-specs.ensures
+    ∙ (λ i. filter (λ (spec : LayerSpec). list_any (λ root. leads_to (c.web.ensures i) root spec.name) (c.as_slice-3.ensures i)) (c.specs.ensures.value i)) in
     subst (λ (ss : List LayerSpec). are_apart ss ≡ true) (sym specs) (places_apart c.args.self.now c.args.roots.now c.specs.ensures.sound)
 
-pub returns-in_ok-resolve_known-in-None-clause-names : goal.returns-in_ok-resolve_known-in-None-clause-names
-returns-in_ok-resolve_known-in-None-clause-names c =
-    let specs : c.in_ok-resolve_known-in-None.field-0.specs ≡ reached c.args.self.now c.args.roots.now =
-    c.in_ok-resolve_known-in-None.ensures.specs
-    ∙ (λ i. filter (λ (spec : LayerSpec). list_any (λ root. is_among (holders_of c.args.self.now root) spec.name) (c.as_slice-in-None.ensures i)) (c.specs.ensures.value i)) in
+pub returns-clause-names : goal.returns-clause-names
+returns-clause-names c =
+    let specs : c.in_ok-specs.specs ≡ reached c.args.self.now c.args.roots.now =
+    c.in_ok-specs.ensures
+    ∙ (λ i. filter (λ (spec : LayerSpec). list_any (λ root. leads_to (c.web.ensures i) root spec.name) (c.as_slice-3.ensures i)) (c.specs.ensures.value i)) in
     subst (λ (ss : List LayerSpec). have_names_apart ss ≡ true) (sym specs) (names_apart c.args.self.now c.args.roots.now c.specs.ensures.sound)
 
-pub returns-in_ok-resolve_known-in-None-clause-sorts : goal.returns-in_ok-resolve_known-in-None-clause-sorts
-returns-in_ok-resolve_known-in-None-clause-sorts c =
-    let specs : c.in_ok-resolve_known-in-None.field-0.specs ≡ reached c.args.self.now c.args.roots.now =
-    c.in_ok-resolve_known-in-None.ensures.specs
-    ∙ (λ i. filter (λ (spec : LayerSpec). list_any (λ root. is_among (holders_of c.args.self.now root) spec.name) (c.as_slice-in-None.ensures i)) (c.specs.ensures.value i)) in
+pub returns-clause-sorts : goal.returns-clause-sorts
+returns-clause-sorts c =
+    let specs : c.in_ok-specs.specs ≡ reached c.args.self.now c.args.roots.now =
+    c.in_ok-specs.ensures
+    ∙ (λ i. filter (λ (spec : LayerSpec). list_any (λ root. leads_to (c.web.ensures i) root spec.name) (c.as_slice-3.ensures i)) (c.specs.ensures.value i)) in
     subst (λ (ss : List LayerSpec). list_all fits_sort ss ≡ true) (sym specs) (sorts_fit c.args.self.now c.args.roots.now c.specs.ensures.sound)
 
-pub returns-in_ok-resolve_known-in-None-clause-over : goal.returns-in_ok-resolve_known-in-None-clause-over
-returns-in_ok-resolve_known-in-None-clause-over c =
-    let specs : c.in_ok-resolve_known-in-None.field-0.specs ≡ reached c.args.self.now c.args.roots.now =
-    c.in_ok-resolve_known-in-None.ensures.specs
-    ∙ (λ i. filter (λ (spec : LayerSpec). list_any (λ root. is_among (holders_of c.args.self.now root) spec.name) (c.as_slice-in-None.ensures i)) (c.specs.ensures.value i)) in
-    let plans : c.in_ok-resolve_known-in-None.field-0.plans ≡ each (plan_of c.args.self.now (reached c.args.self.now c.args.roots.now)) c.args.roots.now =
-    c.in_ok-resolve_known-in-None.ensures.plans ∙ (λ i. each (plan_of c.args.self.now (specs i)) (c.as_slice-in-None.ensures i)) in
-    let known = all_known c.args.self.now.databases 0 c.args.roots.now
-    ((λ i. unknown_from (sym (c.as_slice.ensures ∙ c.databases.ensures) i) 0 (sym c.as_slice-2.ensures i)) ∙ sym c.unknown_root.ensures ∙ c.in-None.is) in
-    subst (λ (ps : List Plan). AllByRecursion (λ plan. IsOver plan (length c.in_ok-resolve_known-in-None.field-0.specs)) ps) (sym plans)
-    (subst (λ (ss : List LayerSpec). AllByRecursion (λ plan. IsOver plan (length ss)) (each (plan_of c.args.self.now (reached c.args.self.now c.args.roots.now)) c.args.roots.now)) (sym specs)
-    (all_over c.args.self.now c.args.roots.now c.specs.ensures.sound known))
+pub returns-clause-over : goal.returns-clause-over
+returns-clause-over c =
+    let specs : c.in_ok-specs.specs ≡ reached c.args.self.now c.args.roots.now =
+    c.in_ok-specs.ensures
+    ∙ (λ i. filter (λ (spec : LayerSpec). list_any (λ root. leads_to (c.web.ensures i) root spec.name) (c.as_slice-3.ensures i)) (c.specs.ensures.value i)) in
+    let have : HavePlans c.args.self.now.nodes (reached c.args.self.now c.args.roots.now) c.in_ok-plans.plans c.args.roots.now =
+    have_same c.nodes.result.now c.args.self.now.nodes c.as_slice-4.result.now (reached c.args.self.now c.args.roots.now) c.in_ok-plans.plans c.as_slice-5.result.now c.args.roots.now
+    (c.nodes.ensures ∙ c.web-2.ensures) (c.as_slice-4.ensures ∙ specs) c.as_slice-5.ensures c.in_ok-plans.ensures in
+    subst (λ (ss : List LayerSpec). AllByRecursion (λ plan. IsOver (shape plan) (length ss)) c.in_ok-plans.plans) (sym specs)
+    (all_over c.args.self.now c.args.roots.now c.in_ok-plans.plans c.specs.ensures.sound have)
 
-pub returns-in_ok-resolve_known-in-None-clause-disjoint : goal.returns-in_ok-resolve_known-in-None-clause-disjoint
-returns-in_ok-resolve_known-in-None-clause-disjoint c are =
-    let specs : c.in_ok-resolve_known-in-None.field-0.specs ≡ reached c.args.self.now c.args.roots.now =
-    c.in_ok-resolve_known-in-None.ensures.specs
-    ∙ (λ i. filter (λ (spec : LayerSpec). list_any (λ root. is_among (holders_of c.args.self.now root) spec.name) (c.as_slice-in-None.ensures i)) (c.specs.ensures.value i)) in
-    let plans : c.in_ok-resolve_known-in-None.field-0.plans ≡ each (plan_of c.args.self.now (reached c.args.self.now c.args.roots.now)) c.args.roots.now =
-    c.in_ok-resolve_known-in-None.ensures.plans ∙ (λ i. each (plan_of c.args.self.now (specs i)) (c.as_slice-in-None.ensures i)) in
-    let known = all_known c.args.self.now.databases 0 c.args.roots.now
-    ((λ i. unknown_from (sym (c.as_slice.ensures ∙ c.databases.ensures) i) 0 (sym c.as_slice-2.ensures i)) ∙ sym c.unknown_root.ensures ∙ c.in-None.is) in
-    subst AreDisjoint (sym plans) (all_disjoint c.args.self.now c.args.roots.now c.specs.ensures.sound known are)
+pub returns-clause-once : goal.returns-clause-once
+returns-clause-once c =
+    let specs : c.in_ok-specs.specs ≡ reached c.args.self.now c.args.roots.now =
+    c.in_ok-specs.ensures
+    ∙ (λ i. filter (λ (spec : LayerSpec). list_any (λ root. leads_to (c.web.ensures i) root spec.name) (c.as_slice-3.ensures i)) (c.specs.ensures.value i)) in
+    let have : HavePlans c.args.self.now.nodes (reached c.args.self.now c.args.roots.now) c.in_ok-plans.plans c.args.roots.now =
+    have_same c.nodes.result.now c.args.self.now.nodes c.as_slice-4.result.now (reached c.args.self.now c.args.roots.now) c.in_ok-plans.plans c.as_slice-5.result.now c.args.roots.now
+    (c.nodes.ensures ∙ c.web-2.ensures) (c.as_slice-4.ensures ∙ specs) c.as_slice-5.ensures c.in_ok-plans.ensures in
+    all_once c.args.self.now c.args.roots.now c.in_ok-plans.plans c.specs.ensures.sound have
+
+pub returns-clause-disjoint : goal.returns-clause-disjoint
+returns-clause-disjoint c =
+    let specs : c.in_ok-specs.specs ≡ reached c.args.self.now c.args.roots.now =
+    c.in_ok-specs.ensures
+    ∙ (λ i. filter (λ (spec : LayerSpec). list_any (λ root. leads_to (c.web.ensures i) root spec.name) (c.as_slice-3.ensures i)) (c.specs.ensures.value i)) in
+    let have : HavePlans c.args.self.now.nodes (reached c.args.self.now c.args.roots.now) c.in_ok-plans.plans c.args.roots.now =
+    have_same c.nodes.result.now c.args.self.now.nodes c.as_slice-4.result.now (reached c.args.self.now c.args.roots.now) c.in_ok-plans.plans c.as_slice-5.result.now c.args.roots.now
+    (c.nodes.ensures ∙ c.web-2.ensures) (c.as_slice-4.ensures ∙ specs) c.as_slice-5.ensures c.in_ok-plans.ensures in
+    λ are. all_disjoint c.args.self.now c.args.roots.now c.in_ok-plans.plans c.specs.ensures.sound are have
