@@ -27,6 +27,18 @@ abbrev mutual
   all_places_of End = []
   all_places_of (More plan plans) = all_places plan ++ all_places_of plans
 
+-- The places under the second plans of backups.
+abbrev mutual
+  pub seconds : Tree → List ℕ
+  seconds (Leaf place) = []
+  seconds (Stack plans) = seconds_of plans
+  seconds (Backup first second) = seconds first ++ all_places second
+  seconds (Debug plan) = seconds plan
+
+  pub seconds_of : Trees → List ℕ
+  seconds_of End = []
+  seconds_of (More plan plans) = seconds plan ++ seconds_of plans
+
 -- something holds of each place that a plan speaks of
 abbrev mutual
   pub Everywhere : (ℕ → Type 0) → Tree → Type 0
@@ -42,6 +54,10 @@ abbrev mutual
 -- the plan speaks of so many databases
 abbrev pub IsOver : Tree → ℕ → Type 0
 IsOver plan count = Everywhere (λ place. place < count) plan
+
+-- each plan does
+abbrev pub AreOver : Trees → ℕ → Type 0
+AreOver plans count = AllEverywhere (λ place. place < count) plans
 
 -- no place is one of the others
 abbrev pub are_apart_from : List ℕ → List ℕ → Bool

@@ -1,14 +1,11 @@
 -- What no write changes.
 use Rattle.std.proofs.Common.{◌≡◌, ℕ, zero, suc, false, cond, List, [], ◌∷◌, length, map, Option, Some, None, refl, sym, ap, subst, ◌∙◌}
-use Rattle.std.specs.Prelude.{unwrap_or, option_map, ◌++◌}
 use Rattle.std.specs.declared.cmp.Ordering.TheVariants.{Less, Equal, Greater}
 use Rattle.std.specs.Ordering.{is_eq, eq_by_cmp}
 use Rattle.std.specs.Cmp.Lexicographic.{nat_list_cmp_total}
 use Rattle.std.proofs.lemmas.List.{length-map}
 use Rattle.std.specs.FinMap as fin_map
 use Rattle.dc_text.specs.Maps.{text_cmp}
-use Rattle.dc_conf.specs.declared.plans.Base.{Base}
-use Rattle.dc_conf.specs.declared.plans.Plan.{Plan}
 use Rattle.dc_item.specs.declared.op.Op.{Op}
 use Rattle.dc_item.specs.declared.op.After.{After}
 use Rattle.dc_item.specs.declared.op.After.TheVariants.{Same, Changed, Gone}
@@ -16,8 +13,7 @@ use Rattle.dc_item.specs.After.{after_at}
 use Rattle.dc_template.specs.declared.kinds.Kind.{Kind}
 use Rattle.dc_layer.specs.State.{LayerState, with_made}
 use Rattle.dc_store.specs.Holders.{look_of}
-use Rattle.dc_conf.specs.Plans.{places}
-use Rattle.dc_store.specs.Plans.{StoreState, stored, backup_op, tried, backed_up, told_line, write}
+use Rattle.dc_store.specs.Plans.{StoreState}
 use Rattle.dc_store.specs.StoreLaws.{IsSameBut, AreSameBut, IsSameStoreBut}
 use Rattle.dc_store.specs.Writes.{copy_target, put_at, writable_holder, by_case, write_of}
 
@@ -93,18 +89,6 @@ written_same n ls (Some p) up (Changed item) new h = along n ls (put_at ls p n (
 pub write_keeps : (ls new : List LayerState) (ps n : List ℕ) (k : Option Kind) (op : Op) → write_of ls ps n k op ≡ Some new → AreSameBut n ls new
 write_keeps ls new ps n k op h = written_same n ls (writable_holder ls ps n) (copy_target ls ps n k) (after_at op (look_of ls ps n)) new h
 
-or_same : (n : List ℕ) (ls : List LayerState) (o : Option (List LayerState)) → ((new : List LayerState) → o ≡ Some new → AreSameBut n ls new) → AreSameBut n ls (unwrap_or o ls)
-or_same n ls None h = same_layers n ls
-or_same n ls (Some new) h = h new refl
-
-tried_keeps : (ls : List LayerState) (ps n : List ℕ) (k : Option Kind) (op : Option Op) → AreSameBut n ls (tried ls ps n k op)
-tried_keeps ls ps n k None = same_layers n ls
-tried_keeps ls ps n k (Some op) = or_same n ls (write_of ls ps n k op) (λ new h. write_keeps ls new ps n k op h)
-
-pub backed_up_keeps : (ls : List LayerState) (base : Base) (backup : Option Base) (n : List ℕ) (k : Option Kind) → AreSameBut n ls (backed_up ls base backup n k)
-backed_up_keeps ls base None n k = same_layers n ls
-backed_up_keeps ls base (Some backup) n k = tried_keeps ls (places backup) n k (backup_op (look_of ls (places base) n) (look_of ls (places backup) n))
-
 -- layers that are the same but for one item are as many
 as_many : (n : List ℕ) (xs ys : List LayerState) → AreSameBut n xs ys → length ys ≡ length xs
 as_many n [] [] same = refl
@@ -122,19 +106,3 @@ same_count f xs ys same = sym (length-map ys f) ∙ same ∙ length-map xs f
 -- from equations that a contract gives
 pub kept : (n : List ℕ) (ls new : List LayerState) → new ≡ ls → AreSameBut n ls new
 kept n ls new e = subst (AreSameBut n ls) (sym e) (same_layers n ls)
-
-pub backed_up_kept : (ls new : List LayerState) (base : Base) (backup : Option Base) (n : List ℕ) (k : Option Kind) → new ≡ backed_up ls base backup n k → AreSameBut n ls new
-backed_up_kept ls new base backup n k e = subst (AreSameBut n ls) (sym e) (backed_up_keeps ls base backup n k)
-
--- a write on a plan keeps all but the item of its name
-pub plan_keeps : (store new : StoreState) (plan : Plan) (n : List ℕ) (k : Option Kind) (op : Op) → write store plan n k op ≡ Some new → AreSameBut n store.layers new.layers
-plan_keeps store new plan n k op h = by_base (write_of store.layers (places plan.base) n k op) refl h where
-  left : List LayerState → StoreState
-  left layers = stored (backed_up layers plan.base plan.backup n k) (store.told ++ told_line plan.debug op n)
-
-  by_base : (o : Option (List LayerState)) → write_of store.layers (places plan.base) n k op ≡ o → option_map left o ≡ Some new → AreSameBut n store.layers new.layers
-  by_base None e h = cc
-  by_base (Some layers) e h =
-      let same : left layers ≡ new = cc in
-      subst (λ (s : StoreState). AreSameBut n store.layers s.layers) same
-      (same_layers_then n store.layers layers (backed_up layers plan.base plan.backup n k) (write_keeps store.layers layers (places plan.base) n k op e) (backed_up_keeps layers plan.base plan.backup n k))

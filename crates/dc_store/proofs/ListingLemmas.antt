@@ -16,8 +16,8 @@ use Rattle.dc_item.proofs.ItemLemmas.{keys-retain_keys}
 use Rattle.dc_layer.specs.State.{LayerState, owned, owned_in}
 use Rattle.dc_store.specs.Holders.{item_at, look_of}
 use Rattle.dc_store.specs.Listings.{owned_at}
-use Rattle.dc_conf.specs.Plans.{places}
-use Rattle.dc_conf.specs.declared.plans.Plan.{Plan}
+use Rattle.dc_conf.specs.Plans.{leaves}
+use Rattle.dc_conf.specs.Trees.{Tree}
 use Rattle.dc_store.specs.Plans.{look, names_at, is_owned, owned as seen_owned}
 use Rattle.dc_store.proofs.Searches.{look_step}
 
@@ -85,13 +85,13 @@ in_filter has q (k ∷ ks) h e = elim (eq_by_cmp text_cmp q k) as (λ b. eq_by_c
 ] refl e
 
 -- a name whose item is seen with the owner is among those that have it
-pub owned_listed : (ls : List LayerState) (plan : Plan) (owner q : List ℕ) → is_owned owner (look ls plan q) ≡ true → is_in q (seen_owned ls plan owner) ≡ true
+pub owned_listed : (ls : List LayerState) (plan : Tree) (owner q : List ℕ) → is_owned owner (look ls plan q) ≡ true → is_in q (seen_owned ls plan owner) ≡ true
 owned_listed ls plan owner q has = by_item (look ls plan q) refl has where
   by_item : (o : Option ItemParts) → look ls plan q ≡ o → is_owned owner o ≡ true → is_in q (seen_owned ls plan owner) ≡ true
   by_item None e h = cc
   by_item (Some item) e h =
-      let all = flat_map (names_at ls) (places plan.base) in
-      let here : is_in q all ≡ true = listed (names_at ls) ls q item (λ place is. name_there ls q place item is) (places plan.base) e in
+      let all = flat_map (names_at ls) (leaves plan) in
+      let here : is_in q all ≡ true = listed (names_at ls) ls q item (λ place is. name_there ls q place item is) (leaves plan) e in
       in_filter (λ name. is_owned owner (look ls plan name)) q (keys (set_of all)) has
       (sym (contains_key-keys (set_of all) q) ∙ ap is_some (get-set_of all q) ∙ ap (λ b. is_some (cond b (Some tt) None)) here)
 
@@ -116,8 +116,9 @@ seen_with ls ps owner =
     ∙ sym (keys-retain_keys (set_of all) has)
 
 -- the same of the lists that a store makes of them
-pub owned_seen : (ls all : List LayerState) (ps : List ℕ) (plan : Plan) (owner : List ℕ) (found names : List (List ℕ)) → ls ≡ all → ps ≡ places plan.base
-    → found ≡ flat_map (owned_at ls owner) ps → names ≡ keys (set_of found) → filter (λ name. is_owned owner (look_of ls ps name)) names ≡ seen_owned all plan owner
+pub owned_seen : (ls all : List LayerState) (ps : List ℕ) (plan : Tree) (owner : List ℕ) (found names : List (List ℕ)) → ls ≡ all → ps ≡ leaves plan
+    → found ≡ flat_map (owned_at ls owner) ps → names ≡ keys (set_of found) → filter (λ name. is_owned owner (look all plan name)) names ≡ seen_owned all plan owner
 owned_seen ls all ps plan owner found names same base few once =
-    ap (filter (λ name. is_owned owner (look_of ls ps name))) (once ∙ ap (λ l. keys (set_of l)) few) ∙ seen_with ls ps owner
-    ∙ (λ i. filter (λ name. is_owned owner (look_of (same i) (base i) name)) (keys (set_of (flat_map (names_at (same i)) (base i)))))
+    (λ i. filter (λ name. is_owned owner (look_of (sym same i) (sym base i) name)) names)
+    ∙ (ap (filter (λ name. is_owned owner (look_of ls ps name))) (once ∙ ap (λ l. keys (set_of l)) few)
+    ∙ (seen_with ls ps owner ∙ (λ i. filter (λ name. is_owned owner (look_of (same i) (base i) name)) (keys (set_of (flat_map (names_at (same i)) (base i)))))))

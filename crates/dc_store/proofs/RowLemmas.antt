@@ -1,26 +1,24 @@
 -- Rows of writes.
-use Rattle.std.proofs.Common.{◌≡◌, ℕ, suc, Bool, true, false, not, List, [], ◌∷◌, ◌++◌, length, Option, Some, None, is_some, refl, sym, ap, subst, ◌∙◌, arith}
-use Rattle.std.specs.Prelude.{◌||◌, option_map, unwrap_or, if◌then◌else◌}
+use Rattle.std.proofs.Common.{◌≡◌, ℕ, suc, Bool, true, false, not, List, [], ◌∷◌, length, Option, Some, None, is_some, refl, sym, ap, subst, ◌∙◌, arith}
+use Rattle.std.specs.Prelude.{◌||◌, unwrap_or, if◌then◌else◌}
 use Rattle.std.specs.List.{All, Contains, list_any}
 use Rattle.std.proofs.Math.ListN.{get_or}
 use Rattle.std.proofs.lemmas.List.Elements.{All-head, All-tail, All-from_get_or}
 use Rattle.dc_layer.specs.State.{LayerState}
-use Rattle.dc_conf.specs.Plans.{places}
-use Rattle.dc_store.specs.Plans.{StoreState, stored, backed_up, told_line, write}
+use Rattle.dc_store.specs.Plans.{StoreState, write}
 use Rattle.dc_store.specs.Batches.{Write, AllDistinct, names_of, is_refused, all_done, commit}
 use Rattle.dc_store.specs.StoreLaws.{AreSameBut, AreSameButAll, IsSameStoreButAll}
-use Rattle.dc_store.specs.Writes.{write_of}
-use Rattle.dc_store.proofs.TestLemmas.{tests_apart}
+use Rattle.dc_store.proofs.TestLemmas.{tests_apart, taken_is}
 
 -- a row of one write is that write
 pub row_of_one : (store : StoreState) (w : Write) → commit store (w ∷ []) ≡ write store w.plan w.name w.kind w.op
-row_of_one store w = taken (write_of store.layers (places w.plan.base) w.name w.kind w.op) where
-  left : List LayerState → StoreState
-  left layers = stored (backed_up layers w.plan.base w.plan.backup w.name w.kind) (store.told ++ told_line w.plan.debug w.op w.name)
-
-  taken : (o : Option (List LayerState)) → (if not (is_some o) || false then None else Some (unwrap_or (option_map left o) store)) ≡ option_map left o
-  taken None = refl
-  taken (Some layers) = refl
+row_of_one store w =
+    ap (λ b. if not b || false then None else Some (unwrap_or (write store w.plan w.name w.kind w.op) store)) (sym (taken_is store w.plan w.name w.kind w.op))
+    ∙ by_write (write store w.plan w.name w.kind w.op)
+  where
+    by_write : (o : Option StoreState) → (if not (is_some o) || false then None else Some (unwrap_or o store)) ≡ o
+    by_write None = refl
+    by_write (Some new) = refl
 
 -- ---- the writes of a row, one after the other
 

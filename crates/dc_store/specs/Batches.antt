@@ -1,13 +1,12 @@
 -- Several writes, of which all are done or none.
-use Rattle.std.specs.Prelude.{◌≡◌, ℕ, Bool, not, List, [], ◌∷◌, ◌++◌, ◌⊎◌, Option, Some, None, unwrap_or, map as each, if◌then◌else◌}
-use Rattle.std.specs.Option.{option_map_or}
+use Rattle.std.specs.Prelude.{◌≡◌, ℕ, Bool, not, List, [], ◌∷◌, ◌⊎◌, Option, Some, None, unwrap_or, map as each, if◌then◌else◌}
 use Rattle.std.specs.List.{All, find, filter, flat_map, list_any, AllPairs, Contains}
 use Rattle.std.specs.Str.{bytes_eq}
-use Rattle.dc_conf.specs.declared.plans.Plan.{Plan}
+use Rattle.dc_conf.specs.Trees.{Tree}
 use Rattle.dc_item.specs.declared.op.Op.{Op}
 use Rattle.dc_template.specs.declared.kinds.Kind.{Kind}
 use Rattle.dc_layer.specs.State.{LayerState}
-use Rattle.dc_conf.specs.Plans.{IsOver, places}
+use Rattle.dc_conf.specs.Plans.{IsOver, all_places}
 use Rattle.dc_store.specs.Plans.{StoreState, write, would_take}
 use Rattle.dc_store.specs.declared.batch.ReportedFor.{ReportedFor}
 use Rattle.dc_store.specs.declared.batch.ReportedFor.TheVariants.{Itself, Names}
@@ -15,7 +14,7 @@ use Rattle.dc_store.specs.declared.batch.ReportedFor.TheVariants.{Itself, Names}
 -- a write: an operation on the item of a name, of which the kind may be known, in a plan; and the names of the items for which it is
 -- done, by which its refusal is told
 pub record Write : Type 0 where
-  pub plan : Plan
+  pub plan : Tree
   pub name : List ℕ
   pub kind : Option Kind
   pub op : Op
@@ -53,12 +52,8 @@ first_refused layers names batch = find (λ name. list_any (bytes_eq name) (refu
 
 -- ---- which writes stand in a row
 
--- all places that a plan writes
-abbrev pub all_places : Plan → List ℕ
-all_places plan = places plan.base ++ option_map_or places plan.backup []
-
 -- two plans share no layer
-abbrev pub AreApart : Plan → Plan → Type 0
+abbrev pub AreApart : Tree → Tree → Type 0
 AreApart p q = (place : ℕ) → Contains (all_places p) place → Contains (all_places q) place → ⊥
 
 -- two writes are on different items

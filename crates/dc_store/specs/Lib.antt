@@ -1,8 +1,11 @@
 pub mod Batches
+pub mod Copies
 pub mod Holders
 pub mod Listings
 pub mod Plans
 pub mod StoreLaws
+pub mod Takes
 pub mod Targets
+pub mod TreeCodes
 pub mod Views
 pub mod Writes

@@ -1,16 +1,18 @@
 -- What a write leaves as it was, and where it changes something.
-use Rattle.std.specs.Prelude.{◌≡◌, ℕ, true, false, List, [], ◌∷◌, ◌++◌, ◌⊎◌, Option, Some, None, length, slice_get}
-use Rattle.std.specs.List.{All, Contains}
+use Rattle.std.specs.Prelude.{◌≡◌, ℕ, true, false, List, [], ◌∷◌, ◌++◌, ◌⊎◌, Option, None, length, slice_get}
+use Rattle.std.specs.List.{All, AllByRecursion, Contains}
 use Rattle.std.specs.FinMap as map
+use Rattle.dc_conf.specs.Trees.{Tree, Trees, Leaf, End, More}
+use Rattle.dc_conf.specs.Plans.{leaves, seconds}
 use Rattle.dc_item.specs.After.{after_at}
 use Rattle.dc_item.specs.declared.op.Op.{Op}
 use Rattle.dc_item.specs.declared.op.After.{After}
 use Rattle.dc_item.specs.declared.op.After.TheVariants.{Same, Gone}
 use Rattle.dc_template.specs.declared.kinds.Kind.{Kind}
-use Rattle.dc_layer.specs.State.{LayerState, is_writable, admits, with_made}
+use Rattle.dc_layer.specs.State.{LayerState}
 use Rattle.dc_store.specs.Holders.{has_at, look_of}
 use Rattle.dc_store.specs.Plans.{StoreState}
-use Rattle.dc_store.specs.Writes.{change_at, writable_holder, copy_target}
+use Rattle.dc_store.specs.Writes.{is_open_at, put_at, writable_holder, copy_target}
 
 -- two states of a layer differ in the item of one name, and in which names were touched, alone
 pub record IsSameBut (name : List ℕ) (old new : LayerState) : Type 0 where
@@ -60,19 +62,45 @@ pub record IsTopmost (layers : List LayerState) (places : List ℕ) (name : List
   pub has : has_at layers name place ≡ true
   pub others : All (λ p. has_at layers name p ≡ false) higher
 
--- One layer changed, which is writable, and which had the item already or admits it: it got what became of the item, and was
--- touched. Nothing else changed in it, and no other layer.
-pub record ChangesOne (layers : List LayerState) (places : List ℕ) (name : List ℕ) (kind : Option Kind) (new : List LayerState) : Type 0 where
-  pub place : ℕ
-  pub layer : LayerState
-  pub made : After
-  pub among : Contains places place
-  pub stands : slice_get layers place ≡ Some layer
-  pub writable : is_writable layer ≡ true
-  pub takes : (has_at layers name place ≡ true) ⊎ (admits layer name kind ≡ true)
-  pub leaves : new ≡ change_at layers place (λ l. with_made l name made)
+-- the layers at all other places are the same
+abbrev pub AreAlikeBut : List ℕ → List LayerState → List LayerState → Type 0
+AreAlikeBut places old new = (place : ℕ) → (Contains places place → ⊥) → slice_get new place ≡ slice_get old place
 
--- The item would change, no writable layer holds it, and it would go or no layer takes it.
+-- no place above this one has the item
+pub record IsHigh (layers : List LayerState) (places : List ℕ) (name : List ℕ) (place : ℕ) : Type 0 where
+  pub higher : List ℕ
+  pub lower : List ℕ
+  pub stands : places ≡ higher ++ place ∷ lower
+  pub others : AllByRecursion (λ p. has_at layers name p ≡ false) higher
+
+-- Apart from the second plans of backups one layer changed: no layer above it has the item, and it is writable, and had the item or admits
+-- it. It got what became of the item.
+pub record ChangesOne (layers : List LayerState) (plan : Tree) (name : List ℕ) (kind : Option Kind) (made : After) (new : List LayerState) : Type 0 where
+  pub place : ℕ
+  pub high : IsHigh layers (leaves plan) name place
+  pub takes : is_open_at layers name kind place ≡ true
+  pub had : made ≡ Gone → has_at layers name place ≡ true
+  pub leaves : AreAlikeBut (seconds plan) (put_at layers place name made) new
+
+-- what a write leaves that is taken: nothing changed apart from backups, or one layer did
+abbrev pub IsTaken : List LayerState → Tree → List ℕ → Option Kind → After → List LayerState → Type 0
+IsTaken layers plan name kind made new = ((made ≡ Same) × AreAlikeBut (seconds plan) layers new) ⊎ ChangesOne layers plan name kind made new
+
+-- no place that is asked stands under a backup's second plan
+abbrev pub KeepsApart : Tree → Type 0
+KeepsApart plan = (place : ℕ) → Contains (leaves plan) place → Contains (seconds plan) place → ⊥
+
+-- no place is asked twice
+abbrev pub IsOnce : List ℕ → Type 0
+IsOnce places = (higher lower : List ℕ) (place : ℕ) → places ≡ higher ++ place ∷ lower → Contains lower place → ⊥
+
+-- each of the plans is one database
+abbrev pub IsFlat : Trees → Type 0
+IsFlat End = Unit {0}
+IsFlat (More (Leaf place) plans) = IsFlat plans
+IsFlat (More _ plans) = ⊥
+
+-- Of a stack of databases alone: the item would change, no writable layer holds it, and it would go or no layer takes it.
 pub record IsRefusal (layers : List LayerState) (places : List ℕ) (name : List ℕ) (kind : Option Kind) (op : Op) : Type 0 where
   pub changes : after_at op (look_of layers places name) ≡ Same → ⊥
   pub held : writable_holder layers places name ≡ None

@@ -1,5 +1,5 @@
--- A write to the layers of a stack, from the top: five cases.
-use Rattle.std.specs.Prelude.{ℕ, zero, suc, Bool, false, ◌&&◌, ◌||◌, List, [], ◌∷◌, Option, Some, None, is_some, option_map, option_and_then, slice_get, if◌then◌else◌}
+-- A write to one layer, and to a stack of databases alone, from the top: five cases.
+use Rattle.std.specs.Prelude.{ℕ, zero, suc, Bool, true, false, ◌&&◌, List, [], ◌∷◌, Option, Some, None, is_some, option_map, option_and_then, slice_get, if◌then◌else◌}
 use Rattle.std.specs.Option.{option_map_or}
 use Rattle.std.specs.List.{find}
 use Rattle.dc_item.specs.After.{after_at}
@@ -9,7 +9,7 @@ use Rattle.dc_item.specs.declared.op.After.{After}
 use Rattle.dc_item.specs.declared.op.After.TheVariants.{Same, Changed, Gone}
 use Rattle.dc_template.specs.declared.kinds.Kind.{Kind}
 use Rattle.dc_layer.specs.State.{LayerState, is_writable, admits, with_made}
-use Rattle.dc_store.specs.Holders.{holder_of, look_of, above}
+use Rattle.dc_store.specs.Holders.{has_at, holder_of, look_of, above}
 
 abbrev pub is_writable_at : List LayerState → ℕ → Bool
 is_writable_at layers place = option_map_or is_writable (slice_get layers place) false
@@ -17,6 +17,15 @@ is_writable_at layers place = option_map_or is_writable (slice_get layers place)
 -- the layer at the place is writable, and may hold an item of this name and kind
 abbrev pub takes_at : List LayerState → List ℕ → Option Kind → ℕ → Bool
 takes_at layers name kind place = option_map_or (λ layer. is_writable layer && admits layer name kind) (slice_get layers place) false
+
+-- the layer at the place may be given what became of the item: it is writable, and has the item or admits it
+abbrev pub is_open_at : List LayerState → List ℕ → Option Kind → ℕ → Bool
+is_open_at layers name kind place = if has_at layers name place then is_writable_at layers place else takes_at layers name kind place
+
+-- the operation makes something else of the item
+abbrev pub is_change : After → Bool
+is_change Same = false
+is_change _ = true
 
 -- the holder, where it is writable
 abbrev pub writable_holder : List LayerState → List ℕ → List ℕ → Option ℕ
@@ -68,8 +77,3 @@ by_copy layers places name kind made = by_case layers None (copy_target layers p
 abbrev pub write_of : List LayerState → List ℕ → List ℕ → Option Kind → Op → Option (List LayerState)
 write_of layers places name kind op =
     by_case layers (writable_holder layers places name) (copy_target layers places name kind) name (after_at op (look_of layers places name))
-
--- there is a holder, and it is writable or a layer above it takes the item
-abbrev pub can_change_of : List LayerState → List ℕ → List ℕ → Option Kind → Bool
-can_change_of layers places name kind =
-    is_some (holder_of layers places name) && (is_some (writable_holder layers places name) || is_some (copy_target layers places name kind))

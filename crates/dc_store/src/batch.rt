@@ -30,13 +30,15 @@ pub struct Write<'p> {
 impl<'p> Model for Write<'p> {
     ghost use Rattle.std.specs.Coded.{codes};
     ghost use Rattle.dc_item.specs.Item.{parts_code};
+    ghost use Rattle.dc_store.specs.TreeCodes.{tree_code};
+    ghost use Rattle.dc_conf.specs.Trees.{shape};
     ghost use Rattle.dc_store.specs.Batches.{Write as WriteOf, names_for};
 
     ghost Value = { WriteOf };
 
-    ghost coded = { Prim.hlevel (codes, parts_code) };
+    ghost coded = { Prim.hlevel (codes, parts_code, tree_code) };
 
-    ghost view = { λ w. record { plan = w.plan.now; name = w.name; kind = w.kind; op = w.op; reported_for = names_for w.name w.reported_for } };
+    ghost view = { λ w. record { plan = shape w.plan.now; name = w.name; kind = w.kind; op = w.op; reported_for = names_for w.name w.reported_for } };
 }
 
 /// What a test of a write tells: where it lands.
@@ -61,11 +63,12 @@ impl<'p> Model for Batch<'p> {
     ghost use Rattle.std.specs.Prelude.{List};
     ghost use Rattle.std.specs.Coded.{codes};
     ghost use Rattle.dc_item.specs.Item.{parts_code};
+    ghost use Rattle.dc_store.specs.TreeCodes.{tree_code};
     ghost use Rattle.dc_store.specs.Batches.{Write as WriteOf};
 
     ghost Value = { List WriteOf };
 
-    ghost coded = { Prim.hlevel (codes, parts_code) };
+    ghost coded = { Prim.hlevel (codes, parts_code, tree_code) };
 
     ghost view = { λ r. r.writes.items };
 }

@@ -3,7 +3,8 @@ ghost use Rattle.std.specs.Prelude.{◌≡◌, ◌∷◌, ◌++◌, [], ◌<◌,
 ghost use Rattle.std.specs.List.{All, list_any};
 ghost use Rattle.std.specs.Option.{option_copied};
 ghost use Rattle.std.specs.Str.{bytes_eq};
-ghost use Rattle.dc_conf.specs.Plans.{IsOver, places as places_of};
+ghost use Rattle.dc_conf.specs.Trees.{shape};
+ghost use Rattle.dc_conf.specs.Plans.{IsOver, leaves};
 ghost use Rattle.dc_item.specs.declared.op.Op.TheVariants.{Put};
 ghost use Rattle.dc_store.specs.Plans.{write as write_of, would_take};
 ghost use Rattle.dc_store.specs.Batches.{is_refused, refused_names, first_refused, write_done, all_done, commit, AllDistinct, AreOver, names_of};
@@ -13,12 +14,12 @@ ghost use Rattle.dc_store.specs.StoreLaws.{IsSameStoreBut, IsSameStoreButAll};
 ghost use Rattle.dc_store.specs.Views.{store_of};
 ghost use Rattle.dc_store.specs.Writes.{change_at, put_target};
 
-use crate::bases::places;
 use crate::batch::{Batch, ReportedFor, Target, Write};
 use crate::boxes::land_in;
+use crate::landings::{is_plain, landing_in};
+use crate::leaves::is_put_op;
 use crate::listing::append;
 use crate::store::{Store, StoreError};
-use crate::writing::landing_in;
 use dc_conf::plans::Plan;
 use dc_item::{Item, Op};
 use dc_layer::Layer;
@@ -66,7 +67,7 @@ impl Store {
         requires { IsOver write.now.plan (length self.now.layers.items) }
         ensures { IfOk result (λ found. IsTarget (store_of state self.now).layers write.now found) }
     {
-        if let (Op::Put(_), None, false) = (&write.op, &write.plan.backup, write.plan.debug) {
+        if is_put_op(&write.op) && is_plain(write.plan) {
             if let Some(place) = self.landing_of(write)? {
                 return Ok(Target::At(place));
             }
@@ -80,10 +81,12 @@ impl Store {
     // The place where an item lands as it is.
     fn landing_of(&self, write: &Write<'_>) -> Mem<Option<usize>>
         requires { IsOver write.now.plan (length self.now.layers.items) }
-        ensures { IfOk result (λ place. place ≡ put_target (each state self.now.layers.items) (places_of write.now.plan.base) write.now.name write.now.kind) }
+        ensures { IfOk result (λ place. place ≡ put_target (each state self.now.layers.items) (leaves write.now.plan) write.now.name write.now.kind) }
     {
-        let layers = self.layers.as_slice();
-        landing_in(layers, places(&write.plan.base), &write.name, write.kind)
+        match landing_in(&self.layers, write.plan, &write.name, write.kind) {
+            Ok(place) => Ok(place),
+            Err(error) => Err(error),
+        }
     }
 
     /// The first of the names for which a write of the row would be refused.
@@ -192,9 +195,9 @@ impl Store {
 
     // Does an operation, by a write that isn't refused.
     fn do_op(&mut self, plan: &Plan, name: &Name, kind: Option<Kind>, op: &Op) -> Mem<()>
-        requires over { IsOver plan.now (length self.old.layers.items) }
-        requires taken { would_take (store_of state self.old).layers plan.now name.now kind op.now ≡ true }
-        ensures ok { OnOk result (write_of (store_of state self.old) plan.now name.now kind op.now ≡ Some (store_of state self.new)) }
+        requires over { IsOver (shape plan.now) (length self.old.layers.items) }
+        requires taken { would_take (store_of state self.old).layers (shape plan.now) name.now kind op.now ≡ true }
+        ensures ok { OnOk result (write_of (store_of state self.old) (shape plan.now) name.now kind op.now ≡ Some (store_of state self.new)) }
         ensures frame { IsSameStoreBut name.now (store_of state self.old) (store_of state self.new) }
     {
         match self.change(plan, name, kind, op) {

@@ -9,6 +9,7 @@ ghost use Rattle.dc_store.specs.Listings.{owned_at as owned_of};
 ghost use Rattle.dc_store.specs.Plans.{names_at as names_of};
 ghost use Rattle.dc_store.specs.Writes.{is_writable_at as writable_of, takes_at as takes_of, change_at};
 
+use crate::layers::Layers;
 use dc_item::{Item, Op};
 use dc_layer::{Layer, LayerError};
 use dc_template::Kind;
@@ -18,12 +19,6 @@ fn item_in<'a>(layer: &'a Box<dyn Layer>, name: &[u8]) -> Option<&'a Item>
     ensures { option_copied result ≡ map.get (state layer.now).table name.now }
 {
     layer.seek(name)
-}
-
-fn has_in(layer: &Box<dyn Layer>, name: &Name) -> bool
-    ensures { result ≡ map.contains_key (state layer.now).table name.now }
-{
-    layer.has(name)
 }
 
 fn is_open(layer: &Box<dyn Layer>) -> bool
@@ -99,14 +94,6 @@ pub fn item_at<'a>(layers: &'a [Box<dyn Layer>], place: usize, name: &[u8]) -> O
     ensures { option_copied result ≡ item_of (each state layers.now) place name.now }
 {
     item_in(&layers[place], name)
-}
-
-/// Whether the layer at a place has the item.
-pub fn has_at(layers: &[Box<dyn Layer>], place: usize, name: &Name) -> bool
-    requires { place < length layers.now }
-    ensures { result ≡ has_of (each state layers.now) name.now place }
-{
-    has_in(&layers[place], name)
 }
 
 /// Whether the layer at a place is writable.
@@ -191,5 +178,36 @@ pub fn try_change_in(layers: &mut [Box<dyn Layer>], place: usize, name: &Name, o
         Ok(true) => Ok(true),
         Ok(false) => Ok(false),
         Err(error) => Err(error),
+    }
+}
+
+impl Layers for Vec<Box<dyn Layer>> {
+    ghost states = { λ layers. each (λ b. (Layer-box b).state b.value) layers.items };
+
+    fn item_at(&self, place: usize, name: &[u8]) -> Option<&Item> {
+        item_at(self.as_slice(), place, name)
+    }
+
+    fn writable_at(&self, place: usize) -> bool {
+        is_open_at(self.as_slice(), place)
+    }
+
+    fn takes_at(&self, place: usize, name: &Name, kind: Option<Kind>) -> Mem<bool> {
+        match takes_at(self.as_slice(), place, name, kind) {
+            Ok(is) => Ok(is),
+            Err(error) => Err(error),
+        }
+    }
+
+    fn change_at(&mut self, place: usize, name: &Name, op: &Op) -> Mem<()> {
+        change_in(self.as_mut_slice(), place, name, op)
+    }
+
+    fn try_change_at(&mut self, place: usize, name: &Name, op: &Op) -> Mem<bool> {
+        match try_change_in(self.as_mut_slice(), place, name, op) {
+            Ok(true) => Ok(true),
+            Ok(false) => Ok(false),
+            Err(error) => Err(error),
+        }
     }
 }

@@ -1,19 +1,21 @@
-//! The store: reads and writes over stacks of layers, with backups and with lines that tell what is done (debconf.conf(5)).
+//! The store: reads and writes through plans: over stacks of layers, with backups and with lines that tell what is done (debconf.conf(5)).
 #![tactic(auto)]
 
 mod acceptance;
-mod backup;
-pub mod bases;
 mod batch;
 pub mod batches;
 mod boxes;
+mod landings;
 pub mod laws;
+mod layers;
+mod leaves;
 mod listing;
 mod search;
 pub mod store;
 mod telling;
+#[cfg(test)]
+mod tests;
 mod writing;
 
-pub use bases::places;
 pub use batch::{Batch, ReportedFor, Write};
 pub use store::{Store, StoreError};

@@ -1,14 +1,17 @@
-// The names of the items of a base.
+// The names of the items of a plan.
 ghost use Rattle.std.specs.Prelude.{◌≡◌, ◌++◌, IfOk, OnOk, length, map as each};
 ghost use Rattle.std.specs.List.{flat_map, filter};
 ghost use Rattle.std.specs.Option.{option_copied};
-ghost use Rattle.dc_store.specs.Holders.{look_of};
-ghost use Rattle.dc_conf.specs.Plans.{AreWithin};
+ghost use Rattle.dc_conf.specs.Trees.{shape};
+ghost use Rattle.dc_store.specs.Holders.{AreWithin};
+ghost use Rattle.dc_conf.specs.Plans.{IsOver};
 ghost use Rattle.dc_store.specs.Listings.{owned_at as owned_of};
-ghost use Rattle.dc_store.specs.Plans.{names_at as names_of, is_owned as is_owned_of};
+ghost use Rattle.dc_store.specs.Plans.{look, names_at as names_of, is_owned as is_owned_of};
 
 use crate::boxes::{names_at, owned_at};
+use crate::layers::Layers;
 use crate::search::look_in;
+use dc_conf::plans::Plan;
 use dc_item::Item;
 use dc_layer::{Layer, is_owned};
 use dc_text::{List, Mem, Name};
@@ -55,20 +58,20 @@ pub fn append(names: &mut List<Name>, more: &List<Name>) -> Mem<()>
     Ok(())
 }
 
-/// Those of the names of which the item at the topmost place has the owner.
-pub fn owned_in(
+/// Those of the names of which the item that is seen has the owner.
+pub fn owned_in<L: Layers>(
     alloc: Global,
-    layers: &[Box<dyn Layer>],
-    places: &[usize],
+    layers: &L,
+    plan: &Plan,
     names: &List<Name>,
     owner: &Name,
 ) -> Mem<List<Name>>
-    requires { AreWithin places.now (length layers.now) }
-    ensures { IfOk result (λ owned. owned ≡ filter (λ name. is_owned_of owner.now (look_of (each state layers.now) places.now name)) names.now) }
+    requires { IsOver (shape plan.now) (length (L.states layers.now)) }
+    ensures { IfOk result (λ owned. owned ≡ filter (λ name. is_owned_of owner.now (look (L.states layers.now) (shape plan.now) name)) names.now) }
 {
     let mut owned = List::new(alloc);
     for name in names.as_slice() {
-        if has_owner(look_in(layers, places, name), owner) {
+        if has_owner(look_in(layers, plan, name), owner) {
             owned.push(name.copy()?)?;
         }
     }

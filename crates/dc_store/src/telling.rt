@@ -1,5 +1,5 @@
 // Lines that tell what is done.
-ghost use Rattle.std.specs.Prelude.{◌≡◌, ◌++◌, OnOk, OnErr, IfOk, true};
+ghost use Rattle.std.specs.Prelude.{◌≡◌, ◌++◌, OnOk, OnErr, IfOk};
 ghost use Rattle.dc_store.specs.Plans.{op_word as word_of, told_line};
 
 use dc_item::Op;
@@ -21,7 +21,7 @@ fn op_word(op: &Op) -> &'static [u8]
 }
 
 fn line(alloc: Global, op: &Op, name: &Name) -> Mem<Text>
-    ensures { IfOk result (λ line. line ≡ told_line true op.now name.now) }
+    ensures { IfOk result (λ line. line ≡ told_line op.now name.now) }
 {
     let mut line = Text::from_bytes(alloc, b"debug: ")?;
     line.append(op_word(op))?;
@@ -31,14 +31,12 @@ fn line(alloc: Global, op: &Op, name: &Name) -> Mem<Text>
     Ok(line)
 }
 
-/// Adds the line of an operation that was done, where such are told.
-pub fn tell(alloc: Global, told: &mut Text, debug: bool, op: &Op, name: &Name) -> Mem<()>
-    ensures ok { OnOk result (told.new ≡ told.old ++ told_line debug op.now name.now) }
+/// Adds the line of an operation that was done.
+pub fn tell(alloc: Global, told: &mut Text, op: &Op, name: &Name) -> Mem<()>
+    ensures ok { OnOk result (told.new ≡ told.old ++ told_line op.now name.now) }
     ensures err { OnErr result (told.new ≡ told.old) }
 {
-    if debug {
-        let line = line(alloc, op, name)?;
-        told.append(line.bytes())?;
-    }
+    let line = line(alloc, op, name)?;
+    told.append(line.bytes())?;
     Ok(())
 }

@@ -1,187 +1,219 @@
-// Writes to the layers of a base.
-ghost use Rattle.std.specs.Prelude.{◌≡◌, Some, None, Ok, Err, Option, IfOk, OnOk, OnErr, is_some, length, true, false, if◌then◌else◌, ◌<◌, map as each};
-ghost use Rattle.dc_conf.specs.Plans.{AreWithin};
-ghost use Rattle.dc_item.specs.After.{after_none};
-ghost use Rattle.dc_layer.specs.State.{is_put};
-ghost use Rattle.dc_store.specs.Holders.{holder_of, look_of};
+// Writes through a plan.
+ghost use Rattle.std.specs.Prelude.{◌≡◌, Option, Some, None, Ok, Err, IfOk, OnErr, OnOk, true, false, length};
+ghost use Rattle.dc_conf.specs.Trees.{shape, shapes};
+ghost use Rattle.dc_conf.specs.Plans.{IsOver, AreOver, leaves_of};
+ghost use Rattle.dc_item.specs.After.{after_at};
+ghost use Rattle.dc_store.specs.Holders.{look_of};
+ghost use Rattle.dc_store.specs.Plans.{stored, write, write_held, write_first, put_above, backup_op as op_of, holds, look};
 ghost use Rattle.dc_store.specs.StoreLaws.{AreSameBut};
-ghost use Rattle.dc_store.specs.Writes.{by_copy, is_writable_at, put_target, write_of};
 ghost use Rattle.dc_template.specs.declared.kinds.Kind.{Kind as KindOf};
 
-use crate::boxes::{change_in, is_open_at, try_change_in};
-use crate::search::{copy_target_in, find_in};
+use crate::layers::Layers;
+use crate::leaves::{is_put_op, write_leaf, write_leaf_on_top};
+use crate::search::{holds_in, look_among, look_in};
 use crate::store::StoreError;
-use dc_item::{After, Op};
-use dc_layer::Layer;
+use crate::telling::tell;
+use dc_conf::plans::{Plan, PlanList};
+use dc_item::{After, Effect, Op};
 use dc_template::Kind;
-use dc_text::{Mem, Name};
+use dc_text::{Mem, Name, Text};
+use std::alloc::Global;
 
-// Does the operation where a new item goes, which it makes.
-fn put_up_in(
-    layers: &mut [Box<dyn Layer>],
-    places: &[usize],
+// What is written to the second plan of a backup, by what the first plan and the second have.
+fn backup_op<L: Layers>(layers: &L, first: &Plan, second: &Plan, name: &Name) -> Mem<Option<Op>>
+    requires first { IsOver (shape first.now) (length (L.states layers.now)) }
+    requires second { IsOver (shape second.now) (length (L.states layers.now)) }
+    ensures { IfOk result (λ op. op ≡ op_of (look (L.states layers.now) (shape first.now) name.now) (look (L.states layers.now) (shape second.now) name.now)) }
+{
+    match look_in(layers, first, name) {
+        Some(item) => Ok(Some(Op::Put(item.copy()?))),
+        None => match look_in(layers, second, name) {
+            Some(kept) => Ok(Some(Op::DropOwners(kept.owner_names()?))),
+            None => Ok(None),
+        },
+    }
+}
+
+/// Writes to what a plan speaks of. `Refused` comes exactly where the plan refuses, and then nothing changed.
+#[cycle(write)]
+pub fn write_in<L: Layers>(
+    alloc: Global,
+    layers: &mut L,
+    told: &mut Text,
+    plan: &Plan,
     name: &Name,
     kind: Option<Kind>,
-    holder: Option<usize>,
-    put: &Op,
+    op: &Op,
 ) -> Result<(), StoreError>
-    requires within { AreWithin places.now (length layers.old) }
-    requires holder { holder ≡ holder_of (each state layers.old) places.now name.now }
-    requires put { is_put put.now ≡ true }
-    ensures ok { OnOk result (by_copy (each state layers.old) places.now name.now kind (after_none put.now) ≡ Some (each state layers.new)) }
-    ensures refused { result ≡ Err StoreError.Refused → by_copy (each state layers.old) places.now name.now kind (after_none put.now) ≡ None }
-    ensures unchanged { OnErr result (each state layers.new ≡ each state layers.old) }
+    requires { IsOver (shape plan.now) (length (L.states layers.old)) }
+    ensures ok { OnOk result (write (stored (L.states layers.old) told.old) (shape plan.now) name.now kind op.now ≡ Some (stored (L.states layers.new) told.new)) }
+    ensures refused { result ≡ Err StoreError.Refused → write (stored (L.states layers.old) told.old) (shape plan.now) name.now kind op.now ≡ None }
+    ensures unchanged { result ≡ Err StoreError.Refused → stored (L.states layers.new) told.new ≡ stored (L.states layers.old) told.old }
+    ensures others { AreSameBut name.now (L.states layers.old) (L.states layers.new) }
+    ensures count { length (L.states layers.new) ≡ length (L.states layers.old) }
 {
-    match copy_target_in(layers, places, name, kind, holder)? {
-        Some(place) => {
-            change_in(layers, place, name, put)?;
+    match plan {
+        Plan::Leaf(place) => write_leaf(layers, *place, name, kind, op),
+        Plan::Stack(plans) => match write_held_in(alloc, layers, told, plans, name, kind, op) {
+            Ok(()) => Ok(()),
+            Err(StoreError::OutOfMemory) => Err(StoreError::OutOfMemory),
+            Err(StoreError::Refused) => write_above_in(alloc, layers, told, plans, name, kind, op),
+        },
+        Plan::Backup(first, second) => {
+            write_in(alloc, layers, told, first, name, kind, op)?;
+            match backup_op(layers, first, second, name)? {
+                None => Ok(()),
+                Some(op) => match write_in(alloc, layers, told, second, name, kind, &op) {
+                    Ok(()) => Ok(()),
+                    Err(StoreError::Refused) => Ok(()),
+                    Err(StoreError::OutOfMemory) => Err(StoreError::OutOfMemory),
+                },
+            }
+        }
+        Plan::Debug(plan) => {
+            write_in(alloc, layers, told, plan, name, kind, op)?;
+            tell(alloc, told, op, name)?;
             Ok(())
         }
-        None => Err(StoreError::Refused),
     }
 }
 
-// Writes where no layer has an item: only an operation that makes one changes something.
-fn write_new_in(
-    layers: &mut [Box<dyn Layer>],
-    places: &[usize],
+// Writes to the first child that holds the item.
+#[cycle(write)]
+fn write_held_in<L: Layers>(
+    alloc: Global,
+    layers: &mut L,
+    told: &mut Text,
+    plans: &PlanList,
     name: &Name,
     kind: Option<Kind>,
     op: &Op,
 ) -> Result<(), StoreError>
-    requires within { AreWithin places.now (length layers.old) }
-    requires none { None ≡ holder_of (each state layers.old) places.now name.now }
-    ensures ok { OnOk result (by_copy (each state layers.old) places.now name.now kind (after_none op.now) ≡ Some (each state layers.new)) }
-    ensures refused { result ≡ Err StoreError.Refused → by_copy (each state layers.old) places.now name.now kind (after_none op.now) ≡ None }
-    ensures unchanged { OnErr result (each state layers.new ≡ each state layers.old) }
+    requires { AreOver (shapes plans.now) (length (L.states layers.old)) }
+    ensures ok { OnOk result (write_held (stored (L.states layers.old) told.old) (shapes plans.now) name.now kind op.now ≡ Some (stored (L.states layers.new) told.new)) }
+    ensures refused { result ≡ Err StoreError.Refused → write_held (stored (L.states layers.old) told.old) (shapes plans.now) name.now kind op.now ≡ None }
+    ensures unchanged { result ≡ Err StoreError.Refused → stored (L.states layers.new) told.new ≡ stored (L.states layers.old) told.old }
+    ensures others { AreSameBut name.now (L.states layers.old) (L.states layers.new) }
+    ensures count { length (L.states layers.new) ≡ length (L.states layers.old) }
 {
-    if !is_put_op(op) {
-        return Ok(());
+    match plans {
+        PlanList::End => Err(StoreError::Refused),
+        PlanList::More(plan, rest) => {
+            if holds_in(layers, plan, name) {
+                write_in(alloc, layers, told, plan, name, kind, op)
+            } else {
+                write_held_in(alloc, layers, told, rest, name, kind, op)
+            }
+        }
     }
-    put_up_in(layers, places, name, kind, None, op)
 }
 
-// Writes where the holder isn't writable: what the operation makes of its item goes to where a new one goes.
-fn write_above_in(
-    layers: &mut [Box<dyn Layer>],
-    places: &[usize],
+// Puts what the operation makes of the item that is seen to the first child that takes it, of those above the one that holds it. An
+// item that is put is put as it is.
+#[cycle(write)]
+fn write_above_in<L: Layers>(
+    alloc: Global,
+    layers: &mut L,
+    told: &mut Text,
+    plans: &PlanList,
     name: &Name,
     kind: Option<Kind>,
-    holder: usize,
-    made: After,
+    op: &Op,
 ) -> Result<(), StoreError>
-    requires within { AreWithin places.now (length layers.old) }
-    requires holder { Some holder ≡ holder_of (each state layers.old) places.now name.now }
-    ensures ok { OnOk result (by_copy (each state layers.old) places.now name.now kind made ≡ Some (each state layers.new)) }
-    ensures refused { result ≡ Err StoreError.Refused → by_copy (each state layers.old) places.now name.now kind made ≡ None }
-    ensures unchanged { OnErr result (each state layers.new ≡ each state layers.old) }
+    requires { AreOver (shapes plans.now) (length (L.states layers.old)) }
+    ensures ok { OnOk result (put_above (stored (L.states layers.old) told.old) (after_at op.now (look_of (L.states layers.old) (leaves_of (shapes plans.now)) name.now))
+        (λ put. write_first (stored (L.states layers.old) told.old) (shapes plans.now) name.now kind put) ≡ Some (stored (L.states layers.new) told.new)) }
+    ensures refused { result ≡ Err StoreError.Refused
+        → put_above (stored (L.states layers.old) told.old) (after_at op.now (look_of (L.states layers.old) (leaves_of (shapes plans.now)) name.now))
+        (λ put. write_first (stored (L.states layers.old) told.old) (shapes plans.now) name.now kind put) ≡ None }
+    ensures unchanged { result ≡ Err StoreError.Refused → stored (L.states layers.new) told.new ≡ stored (L.states layers.old) told.old }
+    ensures others { AreSameBut name.now (L.states layers.old) (L.states layers.new) }
+    ensures count { length (L.states layers.new) ≡ length (L.states layers.old) }
 {
-    match made {
+    let item = look_among(layers, plans, name);
+    if is_put_op(op) {
+        return match op.effect(item)? {
+            Effect::Same => Ok(()),
+            Effect::Gone => Err(StoreError::Refused),
+            Effect::Changed => write_first_in(alloc, layers, told, plans, name, kind, op),
+        };
+    }
+    match op.at(item)? {
         After::Same => Ok(()),
+        After::Gone => Err(StoreError::Refused),
         After::Changed(item) => {
             let put = Op::Put(item);
-            put_up_in(layers, places, name, kind, Some(holder), &put)
+            write_first_in(alloc, layers, told, plans, name, kind, &put)
         }
-        After::Gone => Err(StoreError::Refused),
     }
 }
 
-// Writes to the layers at the places, from the top.
-fn write_once(
-    layers: &mut [Box<dyn Layer>],
-    places: &[usize],
+// Writes to the first child that takes the operation, of those above the one that holds an item.
+#[cycle(write)]
+fn write_first_in<L: Layers>(
+    alloc: Global,
+    layers: &mut L,
+    told: &mut Text,
+    plans: &PlanList,
     name: &Name,
     kind: Option<Kind>,
     op: &Op,
 ) -> Result<(), StoreError>
-    requires { AreWithin places.now (length layers.old) }
-    ensures ok { OnOk result (write_of (each state layers.old) places.now name.now kind op.now ≡ Some (each state layers.new)) }
-    ensures refused { result ≡ Err StoreError.Refused → write_of (each state layers.old) places.now name.now kind op.now ≡ None }
-    ensures unchanged { OnErr result (each state layers.new ≡ each state layers.old) }
+    requires { AreOver (shapes plans.now) (length (L.states layers.old)) }
+    ensures ok { OnOk result (write_first (stored (L.states layers.old) told.old) (shapes plans.now) name.now kind op.now ≡ Some (stored (L.states layers.new) told.new)) }
+    ensures refused { result ≡ Err StoreError.Refused → write_first (stored (L.states layers.old) told.old) (shapes plans.now) name.now kind op.now ≡ None }
+    ensures unchanged { result ≡ Err StoreError.Refused → stored (L.states layers.new) told.new ≡ stored (L.states layers.old) told.old }
+    ensures others { AreSameBut name.now (L.states layers.old) (L.states layers.new) }
+    ensures count { length (L.states layers.new) ≡ length (L.states layers.old) }
 {
-    match find_in(layers, places, name.bytes()) {
-        None => write_new_in(layers, places, name, kind, op),
-        Some((place, item)) => {
-            if is_open_at(layers, place) {
-                change_in(layers, place, name, op)?;
-                return Ok(());
+    match plans {
+        PlanList::End => Err(StoreError::Refused),
+        PlanList::More(plan, rest) => {
+            if holds_in(layers, plan, name) {
+                return Err(StoreError::Refused);
             }
-            let made = op.at(Some(item))?;
-            write_above_in(layers, places, name, kind, place, made)
+            match write_in(alloc, layers, told, plan, name, kind, op) {
+                Err(StoreError::Refused) => {
+                    write_first_in(alloc, layers, told, rest, name, kind, op)
+                }
+                Err(StoreError::OutOfMemory) => Err(StoreError::OutOfMemory),
+                Ok(()) => Ok(()),
+            }
         }
     }
 }
 
 /// Tries a change on the topmost of the places alone, and answers whether it was done there: the layer is writable and has the item,
-/// and then it is the write of an item of any kind. Where it isn't, all layers stay.
-pub fn write_on_top(
-    layers: &mut [Box<dyn Layer>],
-    places: &[usize],
+/// and then it is the write of an item of any kind. Where it isn't, all layers stay, and nothing is told. A backup is never written so.
+pub fn write_on_top<L: Layers>(
+    alloc: Global,
+    layers: &mut L,
+    told: &mut Text,
+    plan: &Plan,
     name: &Name,
     op: &Op,
 ) -> Mem<bool>
-    requires { AreWithin places.now (length layers.old) }
-    ensures there { result ≡ Ok true → is_some (look_of (each state layers.old) places.now name.now) ≡ true }
-    ensures done { result ≡ Ok true → (kind : Option KindOf) → write_of (each state layers.old) places.now name.now kind op.now ≡ Some (each state layers.new) }
-    ensures not_done { result ≡ Ok false → each state layers.new ≡ each state layers.old }
-    ensures err { OnErr result (each state layers.new ≡ each state layers.old) }
+    requires { IsOver (shape plan.now) (length (L.states layers.old)) }
+    ensures there { result ≡ Ok true → holds (L.states layers.old) (shape plan.now) name.now ≡ true }
+    ensures done { result ≡ Ok true → (kind : Option KindOf)
+        → write (stored (L.states layers.old) told.old) (shape plan.now) name.now kind op.now ≡ Some (stored (L.states layers.new) told.new) }
+    ensures not_done { result ≡ Ok false → stored (L.states layers.new) told.new ≡ stored (L.states layers.old) told.old }
+    ensures others { AreSameBut name.now (L.states layers.old) (L.states layers.new) }
+    ensures count { length (L.states layers.new) ≡ length (L.states layers.old) }
 {
-    match places {
-        [place, ..] if !is_put_op(op) => try_change_in(layers, *place, name, op),
-        _ => Ok(false),
-    }
-}
-
-/// Whether the operation makes an item where there is none.
-pub fn is_put_op(op: &Op) -> bool
-    ensures { result ≡ is_put op.now }
-{
-    matches!(op, Op::Put(_))
-}
-
-/// Writes to the layers at the places, from the top, and keeps the items of all other names.
-pub fn write_in(
-    layers: &mut [Box<dyn Layer>],
-    places: &[usize],
-    name: &Name,
-    kind: Option<Kind>,
-    op: &Op,
-) -> Result<(), StoreError>
-    requires { AreWithin places.now (length layers.old) }
-    ensures ok { OnOk result (write_of (each state layers.old) places.now name.now kind op.now ≡ Some (each state layers.new)) }
-    ensures refused { result ≡ Err StoreError.Refused → write_of (each state layers.old) places.now name.now kind op.now ≡ None }
-    ensures unchanged { OnErr result (each state layers.new ≡ each state layers.old) }
-    ensures others { AreSameBut name.now (each state layers.old) (each state layers.new) }
-{
-    match write_once(layers, places, name, kind, op) {
-        Ok(()) => Ok(()),
-        Err(error) => Err(error),
-    }
-}
-
-// The place of the holder, if that is writable.
-fn open_place(layers: &[Box<dyn Layer>], place: usize) -> Option<usize>
-    requires { place < length layers.now }
-    ensures { result ≡ (if is_writable_at (each state layers.now) place then Some place else None) }
-{
-    match is_open_at(layers, place) {
-        true => Some(place),
-        false => None,
-    }
-}
-
-/// The place where an item that is put lands as it is.
-pub fn landing_in(
-    layers: &[Box<dyn Layer>],
-    places: &[usize],
-    name: &Name,
-    kind: Option<Kind>,
-) -> Mem<Option<usize>>
-    requires { AreWithin places.now (length layers.now) }
-    ensures { IfOk result (λ place. place ≡ put_target (each state layers.now) places.now name.now kind) }
-{
-    match find_in(layers, places, name.bytes()) {
-        None => copy_target_in(layers, places, name, kind, None),
-        Some((place, _)) => Ok(open_place(layers, place)),
+    match plan {
+        Plan::Leaf(place) => write_leaf_on_top(layers, *place, name, op),
+        Plan::Stack(plans) => match plans {
+            PlanList::End => Ok(false),
+            PlanList::More(plan, _) => write_on_top(alloc, layers, told, plan, name, op),
+        },
+        Plan::Backup(_, _) => Ok(false),
+        Plan::Debug(plan) => {
+            if !write_on_top(alloc, layers, told, plan, name, op)? {
+                return Ok(false);
+            }
+            tell(alloc, told, op, name)?;
+            Ok(true)
+        }
     }
 }

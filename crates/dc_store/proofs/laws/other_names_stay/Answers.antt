@@ -1,5 +1,5 @@
-use Rattle.dc_store.proofs.Frames.{write_keeps}
+use Rattle.dc_store.proofs.Walks.{plan_keeps}
 use Rattle.dc_store.proofs.laws.other_names_stay.Goals as goal
 
 pub returns : goal.returns
-returns c = write_keeps
+returns c = plan_keeps

@@ -1,4 +1,4 @@
-use Rattle.dc_store.proofs.SeenLemmas.{seen}
+use Rattle.dc_store.proofs.Seen.{seen}
 use Rattle.dc_store.proofs.laws.writes_are_seen.Goals as goal
 
 pub returns : goal.returns

@@ -7,7 +7,7 @@ use Rattle.dc_store.specs.Targets.{AreTargets}
 use Rattle.dc_store.specs.Plans.{StoreState, stored}
 use Rattle.dc_store.specs.Batches.{Write, AreOver, AllDistinct, is_refused, all_done, names_of}
 use Rattle.dc_store.proofs.Frames.{same_count}
-use Rattle.dc_store.proofs.Landings.{first_landing, rest_landings}
+use Rattle.dc_store.proofs.LandingLemmas.{first_landing, rest_landings}
 use Rattle.dc_store.proofs.RowLemmas.{first_taken, rest_taken, rest_left, rest_distinct, first_name, other_name, same_all, same_all_refl, same_all_then, all_framed}
 use Rattle.dc_store.proofs.store.Store.do_all.Goals as goal
 

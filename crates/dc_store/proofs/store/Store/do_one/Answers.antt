@@ -1,7 +1,7 @@
 use Rattle.std.proofs.Common.{◌≡◌, true, map as each, sym, subst}
 use Rattle.dc_store.specs.Plans.{would_take}
 use Rattle.dc_store.specs.Batches.{Write}
-use Rattle.dc_store.proofs.Landings.{would_be_taken}
+use Rattle.dc_store.proofs.LandingLemmas.{would_be_taken}
 use Rattle.dc_store.proofs.store.Store.do_one.Goals as goal
 
 pub do_op-requires-clause-taken : goal.do_op-requires-clause-taken
