@@ -50,6 +50,11 @@ Sends bytes old new (Ok done) = new ≡ record old { talk = then_pieces old.talk
 Sends bytes old new (Err Failed) = IsCutAt bytes old new
 Sends bytes old new (Err OutOfMemory) = IsRefused old new
 
+-- a text is told on the link, in one write where there is one, as far as that takes it
+abbrev pub Tells : List ℕ → LinkState → LinkState → Type 0
+Tells [] old new = new ≡ old
+Tells (byte ∷ bytes) old new = (answer : Result (Unit {0}) LinkError) × Sends (byte ∷ bytes) old new answer
+
 -- ---- the program behind the link
 
 -- it runs from now on, with these words

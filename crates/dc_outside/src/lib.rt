@@ -14,7 +14,7 @@ pub mod memory_link;
 pub use child::{Child, WaitFault};
 pub use crashing::Pick;
 pub use files::{Files, FilesCall, FilesError, FilesOp};
-pub use link::{Link, LinkError, Piece};
+pub use link::{Link, LinkError, Piece, tell};
 pub use memory_child::MemChild;
 pub use memory_files::MemFiles;
 pub use memory_link::MemLink;

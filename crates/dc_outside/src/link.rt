@@ -1,7 +1,7 @@
 // A link: bytes come and go on it, and it may fail.
 ghost use Rattle.std.specs.Prelude.{◌<◌, length};
 ghost use Rattle.dc_outside.specs.State.{LinkState};
-ghost use Rattle.dc_outside.specs.LinkCalls.{Reads, Sends};
+ghost use Rattle.dc_outside.specs.LinkCalls.{Reads, Sends, Tells};
 
 use dc_text::{OutOfMemory, Text};
 
@@ -45,4 +45,13 @@ pub trait Link {
     /// Writes all the bytes. After `Failed` a front of them was sent, after `OutOfMemory` none.
     fn write(&mut self, bytes: &[u8]) -> Result<(), LinkError>
         ensures { Sends bytes.now (link self.old) (link self.new) result };
+}
+
+/// Tells a text on the link, in one write where there is one. A write that fails is passed over.
+pub fn tell<L: Link>(link: &mut L, text: &[u8])
+    ensures { Tells text.now (L.link link.old) (L.link link.new) }
+{
+    if !text.is_empty() {
+        let _ = link.write(text);
+    }
 }
