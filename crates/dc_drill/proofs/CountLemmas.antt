@@ -21,13 +21,14 @@ use Rattle.dc_question.specs.Questions.{QuestionContext, question, read}
 use Rattle.dc_question.specs.declared.errors.QuestionError.{QuestionError}
 use Rattle.dc_serve.specs.Execution.{Transition, IsExecution, state_after}
 use Rattle.dc_serve.specs.LinkRun.{IsLinkRun}
+use Rattle.dc_serve.specs.declared.machine.Response.{Response}
 use Rattle.dc_serve.specs.declared.outcome.LinkEnd.{LinkEnd}
 use Rattle.dc_serve.specs.declared.outcome.LinkEnd.TheVariants as link
 use Rattle.dc_teletype.specs.declared.teletype.Asked.TheVariants.{Answers}
 use Rattle.dc_session.specs.Answers.{CommandInputs, answer, after_command, names_on}
 use Rattle.dc_session.specs.Asking.{with_seen}
 use Rattle.dc_session.specs.FileLoading.{Loads}
-use Rattle.dc_session.specs.Machine.{Handles, Aborts, HasDone, Steps, StepsHeard}
+use Rattle.dc_session.specs.Machine.{TakesLine, Aborts, HasDone, Steps, StepsHeard}
 use Rattle.dc_session.specs.Serving.{IsServed, IsFinished, Finishes, Resources}
 use Rattle.dc_session.specs.SessionState.{SessionState}
 use Rattle.dc_session.specs.declared.stepped.StepError.{StepError}
@@ -66,16 +67,16 @@ marked : (at : QuestionContext) (names : List (List ℕ)) (store : StoreState) �
 marked at [] store = refl
 marked at (name ∷ names) store = marked at names (with_seen at store name) ∙ one_marked at store name
 
-finished_count : (state : SessionState) (served ended : LinkEnd StepError) (layers : List LayerState) → IsFinished state served layers ended → length layers ≡ length state.store.layers
-finished_count state served ended layers (inl all) = ap length all.0 ∙ marked state.at state.asking.asked state.store
-finished_count state served ended layers (inr part) = as_many state.asking.asked state.store.layers layers part.0
+finished_count : (state : SessionState) (served ended : LinkEnd StepError) (left : Resources) → IsFinished state served left ended → length left.layers ≡ length state.store.layers
+finished_count state served ended left (inl all) = ap length all.0 ∙ marked state.at state.asking.asked state.store
+finished_count state served ended left (inr part) = as_many state.asking.asked state.store.layers left.layers part.0
 
-finishes_count : (served ended : LinkEnd StepError) (state : SessionState) (layers : List LayerState) → Finishes served state layers ended → length layers ≡ length state.store.layers
-finishes_count link.Done ended state layers f = finished_count state link.Done ended layers f
-finishes_count link.LinkFault ended state layers f = finished_count state link.LinkFault ended layers f
-finishes_count link.TooLong ended state layers f = finished_count state link.TooLong ended layers f
-finishes_count link.OutOfMemory ended state layers f = ap length f.0
-finishes_count (link.Broken error) ended state layers f = ap length f.0
+finishes_count : (served ended : LinkEnd StepError) (state : SessionState) (left : Resources) → Finishes served state left ended → length left.layers ≡ length state.store.layers
+finishes_count link.Done ended state left f = finished_count state link.Done ended left f
+finishes_count link.LinkFault ended state left f = finished_count state link.LinkFault ended left f
+finishes_count link.TooLong ended state left f = finished_count state link.TooLong ended left f
+finishes_count link.OutOfMemory ended state left f = ap length f.0
+finishes_count (link.Broken error) ended state left f = ap length f.0
 
 -- ---- lines
 
@@ -88,23 +89,26 @@ step_count : (line : Line) (old new : SessionState) (did : Stepped) → Steps ol
 step_count TooLong old new did steps = ap (λ (s : SessionState). length s.store.layers) steps.1
 step_count (Whole text) old new did steps = heard_count (heard old.asking.escape text) old new did steps
 
-course_count : (start : SessionState) (transitions : List (Transition SessionState)) → IsExecution Handles start transitions → length (state_after start transitions).store.layers ≡ length start.store.layers
+takes_count : (line : Line) (old new : SessionState) (did : Response) → TakesLine old line did new → length new.store.layers ≡ length old.store.layers
+takes_count line old new did takes = ap (λ (s : SessionState). length s.store.layers) takes.tells.new_is ∙ step_count line old takes.mid takes.handled.stepped takes.handled.steps
+
+course_count : (start : SessionState) (transitions : List (Transition SessionState)) → IsExecution TakesLine start transitions → length (state_after start transitions).store.layers ≡ length start.store.layers
 course_count start [] course = refl
-course_count start (t ∷ ts) course = course_count t.new ts course.2 ∙ step_count t.line start t.new course.0.stepped course.0.steps
+course_count start (t ∷ ts) course = course_count t.new ts course.2 ∙ takes_count t.line start t.new t.did course.0
 
 -- ---- a session
 
-served_done : (served : LinkEnd StepError) (state : SessionState) (layers : List LayerState) → Finishes served state layers link.Done → served ≡ link.Done
-served_done link.Done state layers f = refl
-served_done link.LinkFault state layers (inl all) = sym all.1
-served_done link.LinkFault state layers (inr part) = let wrong : ◌≡◌ {A = LinkEnd StepError} link.Done link.OutOfMemory = part.1 in cc
-served_done link.TooLong state layers (inl all) = sym all.1
-served_done link.TooLong state layers (inr part) = let wrong : ◌≡◌ {A = LinkEnd StepError} link.Done link.OutOfMemory = part.1 in cc
-served_done link.OutOfMemory state layers f = sym f.1
-served_done (link.Broken step.Term) state layers f = sym f.1
-served_done (link.Broken step.OutOfMemory) state layers f = let wrong : ◌≡◌ {A = LinkEnd StepError} link.Done link.OutOfMemory = f.1 in cc
+served_done : (served : LinkEnd StepError) (state : SessionState) (left : Resources) → Finishes served state left link.Done → served ≡ link.Done
+served_done link.Done state left f = refl
+served_done link.LinkFault state left (inl all) = sym all.2
+served_done link.LinkFault state left (inr part) = let wrong : ◌≡◌ {A = LinkEnd StepError} link.Done link.OutOfMemory = part.2 in cc
+served_done link.TooLong state left (inl all) = sym all.2
+served_done link.TooLong state left (inr part) = let wrong : ◌≡◌ {A = LinkEnd StepError} link.Done link.OutOfMemory = part.2 in cc
+served_done link.OutOfMemory state left f = sym f.2
+served_done (link.Broken step.Term) state left f = sym f.2
+served_done (link.Broken step.OutOfMemory) state left f = let wrong : ◌≡◌ {A = LinkEnd StepError} link.Done link.OutOfMemory = f.2 in cc
 
-ran_count : (start state : SessionState) (talk new_talk : Option (List Piece)) (input left : Option (List ℕ)) (before code : ℕ) → IsLinkRun Handles Aborts talk new_talk input left start link.Done state before code
+ran_count : (start state : SessionState) (talk new_talk : Option (List Piece)) (input left : Option (List ℕ)) (before code : ℕ) → IsLinkRun TakesLine Aborts talk new_talk input left start link.Done state before code
     → length state.store.layers ≡ length start.store.layers
 ran_count start state talk new_talk input left before code run =
     ap (λ (s : SessionState). length s.store.layers) run.answered.are_said.state_is ∙ course_count start run.transitions run.course
@@ -112,9 +116,9 @@ ran_count start state talk new_talk input left before code run =
 -- one that was served to its end
 pub served_count : (start : SessionState) (left : Resources) (old new : LinkState) (before code : ℕ) → IsServed start left old new link.Done before code → length left.layers ≡ length start.store.layers
 served_count start left old new before code s =
-    finishes_count s.served link.Done s.state left.layers s.finishes
+    finishes_count s.served link.Done s.state left s.finishes
     ∙ ran_count start s.state old.talk new.talk old.input new.input before code
-    (subst (λ (ended : LinkEnd StepError). IsLinkRun Handles Aborts old.talk new.talk old.input new.input start ended s.state before code) (served_done s.served s.state left.layers s.finishes) s.ran)
+    (subst (λ (ended : LinkEnd StepError). IsLinkRun TakesLine Aborts old.talk new.talk old.input new.input start ended s.state before code) (served_done s.served s.state left s.finishes) s.ran)
 
 -- one into which a file was loaded
 pub loaded_count : (path : List ℕ) (start loaded : SessionState) (file : FileEnd) → Loads path start loaded (Ok file) → length loaded.store.layers ≡ length start.store.layers

@@ -5,7 +5,7 @@ use Rattle.std.proofs.lemmas.List.{length-map}
 use Rattle.dc_text.specs.declared.memory.OutOfMemory as memory
 use Rattle.dc_frontend.specs.declared.frontend.Frontend.{Frontend}
 use Rattle.dc_proto.specs.declared.priority.Priority.{Priority}
-use Rattle.dc_conf.specs.declared.plans.Plan.{Plan}
+use Rattle.dc_conf.specs.Trees.{Tree}
 use Rattle.dc_conf.specs.Plans.{IsOver}
 use Rattle.dc_layer.specs.State.{LayerState}
 use Rattle.dc_outside.specs.State.{FilesState, LinkState}
@@ -107,7 +107,7 @@ over_count start old new left serves =
     ap length serves.left_is ∙ served_count (anew serves.loaded) serves.rest old new 0 serves.code serves.served ∙ loaded_count template_path start serves.loaded serves.file serves.loads
 
 -- a plan speaks of the boxes of as many layers
-pub mapped_over : {X : Type 0} (f : X → LayerState) (old new : List X) (plan : Plan) → length (each f new) ≡ length (each f old) → IsOver plan (length old) → IsOver plan (length new)
+pub mapped_over : {X : Type 0} (f : X → LayerState) (old new : List X) (plan : Tree) → length (each f new) ≡ length (each f old) → IsOver plan (length old) → IsOver plan (length new)
 mapped_over f old new plan same over = subst (IsOver plan) (sym (length-map old f) ∙ sym same ∙ length-map new f) over
 
 -- ---- a drill

@@ -4,7 +4,7 @@ use Rattle.std.proofs.lemmas.List.{append-nil, take_more}
 use Rattle.std.proofs.lemmas.Grind.{flat_map-append}
 use Rattle.std.specs.Prelude.{Result, IfOk}
 use Rattle.std.specs.List.{flat_map}
-use Rattle.dc_conf.specs.declared.plans.Plan.{Plan}
+use Rattle.dc_conf.specs.Trees.{Tree}
 use Rattle.dc_layer.specs.State.{LayerState}
 use Rattle.dc_outside.specs.declared.link.Piece.{Piece}
 use Rattle.dc_text.specs.Lines.{text_of}
@@ -35,7 +35,7 @@ record_turn f xs i x old new lt is was more =
     ∙ ap (flat_map f) (ap (λ y. take i xs ++ y ∷ []) is ∙ sym (take_more xs i x lt)))
 
 -- a report on the same talk and the same boxes
-pub report_as : {X E : Type 0} (f : X → LayerState) (xs ys : List X) (result : Result (List ℕ) E) (count : ℕ) (told talk : List Piece) (plan : Plan)
+pub report_as : {X E : Type 0} (f : X → LayerState) (xs ys : List X) (result : Result (List ℕ) E) (count : ℕ) (told talk : List Piece) (plan : Tree)
     → IfOk result (λ text. text ≡ report count told (each f xs) plan) → told ≡ talk → xs ≡ ys → IfOk result (λ text. text ≡ report count talk (each f ys) plan)
 report_as {X} f xs ys result count told talk plan says same are =
     subst (λ (t : List Piece). IfOk result (λ text. text ≡ report count t (each f ys) plan)) same

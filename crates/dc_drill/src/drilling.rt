@@ -1,6 +1,7 @@
 // A drill over layers.
 ghost use Rattle.std.specs.Prelude.{◌≡◌, IfOk, length, map as each, true};
 ghost use Rattle.dc_conf.specs.Plans.{IsOver, are_disjoint};
+ghost use Rattle.dc_conf.specs.Trees.{shape};
 ghost use Rattle.dc_outside.specs.Memory.{files_of, link_of};
 ghost use Rattle.dc_session.specs.FileLoading.{Loads};
 ghost use Rattle.dc_session.specs.Serving.{resources_of, session_by};
@@ -46,11 +47,12 @@ pub fn drill(
     templates: &Plan,
     setup: &SessionSetup<'_>,
 ) -> Result<Text, LinkEnd<StepError>>
-    requires config { IsOver config.now (length layers.old.items) }
-    requires templates { IsOver templates.now (length layers.old.items) }
-    requires disjoint { are_disjoint config.now templates.now ≡ true }
+    requires config { IsOver (shape config.now) (length layers.old.items) }
+    requires templates { IsOver (shape templates.now) (length layers.old.items) }
+    requires disjoint { are_disjoint (shape config.now) (shape templates.now) ≡ true }
     ensures { (files : FilesState) (terminal : TerminalState) (err : LinkState) → Drills count
-        (session_by setup.now config.now templates.now (resources_of (each state layers.old.items) files terminal err)) (each state layers.new.items) result }
+        (session_by setup.now (shape config.now) (shape templates.now) (resources_of (each state layers.old.items) files terminal err))
+        (each state layers.new.items) result }
 {
     let Ok(mut files) = template_files(alloc) else {
         return Err(LinkEnd::OutOfMemory);
@@ -98,11 +100,11 @@ fn serve_link_given(
     templates: &Plan,
     setup: &SessionSetup<'_>,
 ) -> LinkEnd<StepError>
-    requires config { IsOver config.now (length layers.old.items) }
-    requires templates { IsOver templates.now (length layers.old.items) }
-    requires disjoint { are_disjoint config.now templates.now ≡ true }
+    requires config { IsOver (shape config.now) (length layers.old.items) }
+    requires templates { IsOver (shape templates.now) (length layers.old.items) }
+    requires disjoint { are_disjoint (shape config.now) (shape templates.now) ≡ true }
     ensures { ServesTo
-        (session_by setup.now config.now templates.now (resources_of (each state layers.old.items) (files_of files.old) no_terminal nowhere))
+        (session_by setup.now (shape config.now) (shape templates.now) (resources_of (each state layers.old.items) (files_of files.old) no_terminal nowhere))
         (link_of link.old) (link_of link.new) result (each state layers.new.items) }
 {
     let Ok(policy) = begin(alloc, files, layers, config, templates, setup) else {
@@ -140,11 +142,11 @@ fn begin(
     templates: &Plan,
     setup: &SessionSetup<'_>,
 ) -> Mem<AskPolicy>
-    requires config { IsOver config.now (length layers.old.items) }
-    requires templates { IsOver templates.now (length layers.old.items) }
-    requires disjoint { are_disjoint config.now templates.now ≡ true }
+    requires config { IsOver (shape config.now) (length layers.old.items) }
+    requires templates { IsOver (shape templates.now) (length layers.old.items) }
+    requires disjoint { are_disjoint (shape config.now) (shape templates.now) ≡ true }
     ensures { BeginsOver
-        (session_by setup.now config.now templates.now (resources_of (each state layers.old.items) (files_of files.old) no_terminal nowhere))
+        (session_by setup.now (shape config.now) (shape templates.now) (resources_of (each state layers.old.items) (files_of files.old) no_terminal nowhere))
         result (each state layers.new.items) (files_of files.new) }
 {
     let mut store = Store::new(alloc, std::mem::replace(layers, Vec::new(alloc)));
@@ -220,8 +222,8 @@ fn numbers_text(
     layers: &mut Vec<Box<dyn Layer>>,
     config: &Plan,
 ) -> Mem<Text>
-    requires { IsOver config.now (length layers.old.items) }
-    ensures text { IfOk result (λ text. text ≡ report count talk.now (each state layers.old.items) config.now) }
+    requires { IsOver (shape config.now) (length layers.old.items) }
+    ensures text { IfOk result (λ text. text ≡ report count talk.now (each state layers.old.items) (shape config.now)) }
     ensures layers { layers.new.items ≡ layers.old.items }
 {
     let store = Store::new(alloc, std::mem::replace(layers, Vec::new(alloc)));

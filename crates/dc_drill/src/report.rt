@@ -1,6 +1,7 @@
 // The five numbers.
 ghost use Rattle.std.specs.Prelude.{◌≡◌, ◌++◌, ◌∷◌, [], IfOk, OnOk, length};
 ghost use Rattle.dc_conf.specs.Plans.{IsOver};
+ghost use Rattle.dc_conf.specs.Trees.{shape};
 ghost use Rattle.dc_store.specs.Views.{store_in};
 ghost use Rattle.dc_text.specs.Lines.{text_of};
 ghost use Rattle.dc_drill.specs.Report.{number_line, record_at, records_text as records_text_of, report};
@@ -23,8 +24,8 @@ pub fn report_text(
     store: &Store,
     plan: &Plan,
 ) -> Mem<Text>
-    requires { IsOver plan.now (length store.now.layers.items) }
-    ensures { IfOk result (λ text. text ≡ report count talk.now (store_in state store.now).layers plan.now) }
+    requires { IsOver (shape plan.now) (length store.now.layers.items) }
+    ensures { IfOk result (λ text. text ≡ report count talk.now (store_in state store.now).layers (shape plan.now)) }
 {
     let names = store.names(plan)?;
     let records = records_text(alloc, store, plan, names.as_slice())?;
@@ -50,8 +51,8 @@ fn append_line(text: &mut Text, word: &[u8], number: u64) -> Mem<()>
 
 // The printed records of the items that are seen under the names.
 fn records_text(alloc: Global, store: &Store, plan: &Plan, names: &[Name]) -> Mem<Text>
-    requires { IsOver plan.now (length store.now.layers.items) }
-    ensures { IfOk result (λ text. text ≡ records_text_of (store_in state store.now).layers plan.now names.now) }
+    requires { IsOver (shape plan.now) (length store.now.layers.items) }
+    ensures { IfOk result (λ text. text ≡ records_text_of (store_in state store.now).layers (shape plan.now) names.now) }
 {
     let mut text = Text::new(alloc);
     for name in names {
@@ -62,8 +63,8 @@ fn records_text(alloc: Global, store: &Store, plan: &Plan, names: &[Name]) -> Me
 
 // Adds the printed record of the item that is seen under the name.
 fn append_record(alloc: Global, text: &mut Text, store: &Store, plan: &Plan, name: &Name) -> Mem<()>
-    requires { IsOver plan.now (length store.now.layers.items) }
-    ensures { OnOk result (text.new ≡ text.old ++ text_of (record_at (store_in state store.now).layers plan.now name.now)) }
+    requires { IsOver (shape plan.now) (length store.now.layers.items) }
+    ensures { OnOk result (text.new ≡ text.old ++ text_of (record_at (store_in state store.now).layers (shape plan.now) name.now)) }
 {
     match store.look(plan, name) {
         None => Ok(()),

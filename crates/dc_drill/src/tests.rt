@@ -1,13 +1,14 @@
 // The text of the commands, and drills over layers in memory.
 ghost use Rattle.std.specs.Prelude.{◌≡◌, length};
+ghost use Rattle.dc_conf.specs.Trees.{shape, Leaf, Stack, End, More};
 
 use crate::commands::commands_text;
 use crate::drill;
-use dc_conf::{Base, LayerSort, LayerSpec, Plan};
+use dc_conf::{LayerSort, LayerSpec, Plan, PlanList};
 use dc_frontend::Frontend;
 use dc_layer::{FileLayer, Layer};
 use dc_session::SessionSetup;
-use dc_text::{List, Name, Text};
+use dc_text::{Name, Text};
 use std::alloc::Global;
 use std::process::Abort;
 
@@ -52,22 +53,22 @@ fn layers(rt: &impl Abort, alloc: Global) -> Vec<Box<dyn Layer>>
     layers
 }
 
+// The first layer above the second.
+fn stack(rt: &impl Abort, alloc: Global) -> Plan
+    ensures { shape result ≡ Stack (More (Leaf 0) (More (Leaf 1) End)) }
+{
+    let end = Box::new(alloc, PlanList::End).expect(rt, "memory");
+    let second = Box::new(alloc, Plan::Leaf(1)).expect(rt, "memory");
+    let rest = Box::new(alloc, PlanList::More(second, end)).expect(rt, "memory");
+    let first = Box::new(alloc, Plan::Leaf(0)).expect(rt, "memory");
+    Plan::Stack(PlanList::More(first, rest))
+}
+
 #[test]
 fn numbers_are_told(rt: HostRuntime) {
     let alloc = rt.alloc();
-    let mut places = List::new(alloc);
-    places.push(0).expect(&rt, "memory");
-    places.push(1).expect(&rt, "memory");
-    let config = Plan {
-        base: Base::Stack(places),
-        backup: None,
-        debug: false,
-    };
-    let templates = Plan {
-        base: Base::Leaf(2),
-        backup: None,
-        debug: false,
-    };
+    let config = stack(&rt, alloc);
+    let templates = Plan::Leaf(2);
     let lang = Text::new(alloc);
     let owner = Name::read(alloc, b"drill").ok().expect(&rt, "a name");
     let setup = SessionSetup {

@@ -32,7 +32,7 @@ use Rattle.dc_preseed.specs.declared.lines.LineDone.{LineDone}
 use Rattle.dc_preseed.specs.declared.lines.LineDone.TheVariants.{ValueSet, SeenSet}
 use Rattle.dc_preseed.specs.declared.selected.Choices.{Choices}
 use Rattle.dc_dump.proofs.ReadLemmas.{all_behind, both, is_false, not_joined, stand_alone, unseen_read, value_read}
-use Rattle.dc_dump.proofs.SetLemmas.{AreValuesSet, IsAnAnswer, IsAnswerSet, IsSeenSet, StaysSeen, answer_beside, answer_set_to, answers_it, same_stays, still_set, then_stays}
+use Rattle.dc_dump.proofs.SetLemmas.{AreValuesSet, IsAnAnswer, IsAnswerSet, IsSeenSet, StaysSeen, answer_beside, answer_set_to, answers_it, same_stays, still_set, then_stays, told_out}
 use Rattle.dc_dump.specs.AnswerLines.{begins_with_hash, is_plain, is_sayable, is_short, lines_by, lines_of, unseen_line, unseen_lines, value_line}
 use Rattle.dc_dump.specs.Reading.{StandsAlone, numbered}
 use Rattle.dc_dump.specs.Saying.{answer_at, answer_of, lines_at, said_at, said_text}
@@ -41,17 +41,17 @@ use Rattle.dc_dump.specs.declared.answers.Answer.{Answer}
 
 -- ---- lines that are taken
 
--- these lines are done in turn, and each is taken
+-- these lines are done in turn, and each is taken, and what the layers told at it
 abbrev AreTaken : List (List ℕ) → StoreState → QuestionContext → StoreState → Type 0
 AreTaken [] store at new = new ≡ store
-AreTaken (line ∷ lines) store at new = (next : StoreState) × (done : LineDone) × (line_set store at line false false ≡ Ok (done, next)) × AreTaken lines next at new
+AreTaken (line ∷ lines) store at new = (next : StoreState) × (done : LineDone) × (line_set store at line false false ≡ Ok (done, next)) × AreTaken lines (told_out next) at new
 
 -- what a line leaves that isn't refused
 record WasTaken (old mid : SelectorState) (outcome : Outcome) : Type 0 where
   next : StoreState
   done : LineDone
   outcome_is : outcome ≡ Ok (done, next)
-  store_is : mid.store ≡ next
+  store_is : mid.store ≡ told_out next
   at_is : mid.at ≡ old.at
   choices_are : mid.choices ≡ old.choices
 
@@ -99,7 +99,7 @@ done_taken (line ∷ lines) number old new at at_is checks unseen h free =
 taken_split : (xs ys : List (List ℕ)) (store new : StoreState) (at : QuestionContext) → AreTaken (xs ++ ys) store at new
     → (mid : StoreState) × AreTaken xs store at mid × AreTaken ys mid at new
 taken_split [] ys store new at h = (store, refl, h)
-taken_split (x ∷ xs) ys store new at h = let s = taken_split xs ys h.0 new at h.3 in (s.0, (h.0, h.1, h.2, s.1), s.2)
+taken_split (x ∷ xs) ys store new at h = let s = taken_split xs ys (told_out h.0) new at h.3 in (s.0, (h.0, h.1, h.2, s.1), s.2)
 
 -- ---- the lines of a question
 
@@ -129,7 +129,7 @@ module _ (at : QuestionContext) (name : List ℕ) (is : is_name name ≡ true) w
   values_taken kind value (owner ∷ owners) store new named plain h =
       let n = both (is_name owner) (list_all is_name owners) named in
       let p = both (not (begins_with_hash owner)) (list_all (λ owner. not (begins_with_hash owner)) owners) plain in
-      (h.0, value_taken store h.0 owner value kind h.1 n.0 (is_false (begins_with_hash owner) p.0) h.2, values_taken kind value owners h.0 new n.1 p.1 h.3)
+      (h.0, value_taken store h.0 owner value kind h.1 n.0 (is_false (begins_with_hash owner) p.0) h.2, values_taken kind value owners (told_out h.0) new n.1 p.1 h.3)
 
   unseen_taken : (seen : Bool) (owners : List (List ℕ)) (store new : StoreState) → is_nil owners ≡ false → list_all is_name owners ≡ true
       → list_all (λ owner. not (begins_with_hash owner)) owners ≡ true → AreTaken (unseen_lines name seen owners) store at new → IsSeenSet seen store at name new
@@ -138,7 +138,7 @@ module _ (at : QuestionContext) (name : List ℕ) (is : is_name name ≡ true) w
   unseen_taken false (owner ∷ owners) store new some named plain h =
       let n = both (is_name owner) (list_all is_name owners) named in
       let p = both (not (begins_with_hash owner)) (list_all (λ owner. not (begins_with_hash owner)) owners) plain in
-      seen_taken store h.0 owner h.1 n.0 (is_false (begins_with_hash owner) p.0) h.2 ∙ ap (λ s. Ok s) (sym h.3)
+      (h.0, seen_taken store h.0 owner h.1 n.0 (is_false (begins_with_hash owner) p.0) h.2, h.3)
 
 -- what a question has that can be said
 record CanBeSaid (answer : Answer) : Type 0 where

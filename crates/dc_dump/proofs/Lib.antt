@@ -1,4 +1,5 @@
 pub mod AgainLemmas
+pub mod MadeLemmas
 pub mod ReadLemmas
 pub mod RowLemmas
 pub mod SayLemmas

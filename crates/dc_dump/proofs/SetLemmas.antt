@@ -16,7 +16,7 @@ use Rattle.dc_text.specs.Maps.{Texts, TextSet, set_of, text_cmp}
 use Rattle.dc_text.specs.Names.{is_name}
 use Rattle.dc_text.specs.Settled.{settled, is_settled, newlines_shown}
 use Rattle.dc_conf.specs.Plans.{are_disjoint}
-use Rattle.dc_conf.specs.declared.plans.Plan.{Plan}
+use Rattle.dc_conf.specs.Trees.{Tree}
 use Rattle.dc_item.specs.Item.{ItemParts, no_parts}
 use Rattle.dc_item.specs.declared.op.Op.{Op}
 use Rattle.dc_item.specs.declared.op.Op.TheVariants.{Put, SetFlag}
@@ -26,7 +26,7 @@ use Rattle.dc_template.proofs.PrintedForms.{kind_again}
 use Rattle.dc_layer.specs.State.{LayerState}
 use Rattle.dc_store.proofs.TakenLemmas.{row_stays}
 use Rattle.dc_store.specs.Batches.{Write, AreDistinct, all_done, commit, first_refused, is_refused}
-use Rattle.dc_store.specs.Plans.{StoreState, look}
+use Rattle.dc_store.specs.Plans.{StoreState, look, stored}
 use Rattle.dc_question.proofs.ApartLemmas.{apart, apart_too}
 use Rattle.dc_question.specs.Changes.{done_or, flag_set, question_write, told_by}
 use Rattle.dc_question.specs.Ownership.{write_beside}
@@ -52,16 +52,20 @@ pub record IsSet (layers : List LayerState) (at : QuestionContext) (name : List 
 
 -- ---- a question set by its lines
 
+-- the store once what it told was taken
+abbrev pub told_out : StoreState → StoreState
+told_out store = stored store.layers []
+
 -- for each owner in turn the value is set, and each is taken
 abbrev pub AreValuesSet : StoreState → QuestionContext → List ℕ → Kind → List ℕ → List (List ℕ) → StoreState → Type 0
 AreValuesSet store at name kind value [] new = new ≡ store
 AreValuesSet store at name kind value (owner ∷ owners) new =
-    (next : StoreState) × (preseeded store at owner name kind value false ≡ Ok next) × AreValuesSet next at name kind value owners new
+    (next : StoreState) × (preseeded store at owner name kind value false ≡ Ok next) × AreValuesSet (told_out next) at name kind value owners new
 
 -- where it wasn't seen, the flag is taken away
 abbrev pub IsSeenSet : Bool → StoreState → QuestionContext → List ℕ → StoreState → Type 0
 IsSeenSet true store at name new = new ≡ store
-IsSeenSet false store at name new = flag_set store at name (codes "seen") false ≡ Ok new
+IsSeenSet false store at name new = (next : StoreState) × (flag_set store at name (codes "seen") false ≡ Ok next) × (new ≡ told_out next)
 
 -- what the lines of a question of this kind say is set in turn, and all of it is taken
 abbrev pub IsAnswerSet : StoreState → QuestionContext → List ℕ → Kind → Answer → StoreState → Type 0
@@ -243,19 +247,20 @@ module _ (at : QuestionContext) (disjoint : are_disjoint at.config at.templates 
       → AreValuesSet store at name kind value more new → IsSet new.layers at name kind (settled value) (with_owners owners more) true
   rest_set [] store new owners is h = subst (λ (s : StoreState). IsSet s.layers at name kind (settled value) owners true) (sym h) is
   rest_set (owner ∷ more) store new owners is h =
-      rest_set more h.0 new (map.insert owners owner tt) (further_set store h.0 at owner name value kind disjoint (settled value) kind owners true is h.1) h.2
+      rest_set more (told_out h.0) new (map.insert owners owner tt) (further_set store h.0 at owner name value kind disjoint (settled value) kind owners true is h.1) h.2
 
   values_set : (owners : List (List ℕ)) (store new : StoreState) → is_nil owners ≡ false → is_settled name ≡ true → IsNew store.layers at name
       → AreValuesSet store at name kind value owners new → IsSet new.layers at name kind (settled value) (set_of owners) true
   values_set [] store new some plain is h = absurd (cc)
   values_set (owner ∷ more) store new some plain is h =
       subst (λ s. IsSet new.layers at name kind (settled value) s true) (owners_behind (owner ∷ []) more)
-      (rest_set more h.0 new (set_of (owner ∷ [])) (first_set store h.0 at owner name value kind disjoint plain is h.1) h.2)
+      (rest_set more (told_out h.0) new (set_of (owner ∷ [])) (first_set store h.0 at owner name value kind disjoint plain is h.1) h.2)
 
   seen_set : (seen : Bool) (store new : StoreState) (owners : TextSet) → IsSet store.layers at name kind (settled value) owners true → IsSeenSet seen store at name new
       → IsSet new.layers at name kind (settled value) owners seen
   seen_set true store new owners is h = subst (λ (s : StoreState). IsSet s.layers at name kind (settled value) owners true) (sym h) is
-  seen_set false store new owners is h = unseen_set store new at name (settled value) kind owners true disjoint is h
+  seen_set false store new owners is h =
+      subst (λ (s : StoreState). IsSet s.layers at name kind (settled value) owners false) (sym h.2) (unseen_set store h.0 at name (settled value) kind owners true disjoint is h.1)
 
 pub answer_set_to : (store new : StoreState) (at : QuestionContext) (name : List ℕ) (answer : Answer) (kind : Kind) → are_disjoint at.config at.templates ≡ true → is_settled name ≡ true → IsNew store.layers at name
     → is_nil answer.owners ≡ false → IsAnswerSet store at name kind answer new → IsSet new.layers at name kind (settled (newlines_shown answer.value)) (set_of answer.owners) answer.seen
@@ -282,21 +287,24 @@ then_stays at n one two three a b = record { question = b.question ∙ a.questio
 pub same_stays : (at : QuestionContext) (n : List ℕ) (one two : StoreState) → two ≡ one → StaysSeen one two at n
 same_stays at n one two same = record { question = ap (λ (s : StoreState). look s.layers at.config n) same; template = ap (λ (s : StoreState). look s.layers at.templates n) same }
 
+told_stays : (at : QuestionContext) (n : List ℕ) (one two : StoreState) → StaysSeen one two at n → StaysSeen one (told_out two) at n
+told_stays at n one two stays = record { question = stays.question; template = stays.template }
+
 module _ (at : QuestionContext) (n m : List ℕ) (other : n ≢ m) where
-  abbrev looked : Plan → Write
+  abbrev looked : Tree → Write
   looked plan = record { plan = plan; name = n; kind = None; op = Put no_parts; reported_for = [] }
 
-  abbrev put_to : Plan → Option Kind → Op → Write
+  abbrev put_to : Tree → Option Kind → Op → Write
   put_to plan k op = record { plan = plan; name = m; kind = k; op = op; reported_for = m ∷ [] }
 
-  apart_from : (plan to : Plan) (k : Option Kind) (op : Op) → AreDistinct (put_to to k op) (looked plan)
+  apart_from : (plan to : Tree) (k : Option Kind) (op : Op) → AreDistinct (put_to to k op) (looked plan)
   apart_from plan to k op = inl (λ e. other (sym e))
 
-  one_beside : (store : StoreState) (plan : Plan) (k : Option Kind) (op : Op) → look (all_done store (put_to at.config k op ∷ [])).layers plan n ≡ look store.layers plan n
+  one_beside : (store : StoreState) (plan : Tree) (k : Option Kind) (op : Op) → look (all_done store (put_to at.config k op ∷ [])).layers plan n ≡ look store.layers plan n
   one_beside store plan k op =
       row_stays store (put_to at.config k op ∷ []) (looked plan) (All-cons (λ u. AreDistinct u (looked plan)) (put_to at.config k op) [] (apart_from plan at.config k op) (All-nil (λ u. AreDistinct u (looked plan))))
 
-  two_beside : (store : StoreState) (plan : Plan) (j k : Option Kind) (p q : Op)
+  two_beside : (store : StoreState) (plan : Tree) (j k : Option Kind) (p q : Op)
       → look (all_done store (put_to at.templates j p ∷ put_to at.config k q ∷ [])).layers plan n ≡ look store.layers plan n
   two_beside store plan j k p q =
       row_stays store (put_to at.templates j p ∷ put_to at.config k q ∷ []) (looked plan)
@@ -322,7 +330,7 @@ module _ (at : QuestionContext) (n m : List ℕ) (other : n ≢ m) where
   values_beside : (owners : List (List ℕ)) (store new : StoreState) (value : List ℕ) (kind : Kind) → are_disjoint at.config at.templates ≡ true → AreValuesSet store at m kind value owners new → StaysSeen store new at n
   values_beside [] store new value kind disjoint h = same_stays at n store new h
   values_beside (owner ∷ owners) store new value kind disjoint h =
-      then_stays at n store h.0 new (value_beside store h.0 owner value kind disjoint h.1) (values_beside owners h.0 new value kind disjoint h.2)
+      then_stays at n store (told_out h.0) new (told_stays at n store h.0 (value_beside store h.0 owner value kind disjoint h.1)) (values_beside owners (told_out h.0) new value kind disjoint h.2)
 
   flag_beside : (store new : StoreState) (o : Option ItemParts) → question store.layers at m ≡ o → flag_set store at m (codes "seen") false ≡ Ok new → StaysSeen store new at n
   flag_beside store new None is h = absurd (let none : Err (NoQuestion m) ≡ Ok new = sym (ap (λ q. read m q (λ i. done_or m (commit store (question_write store.layers at m i (SetFlag (codes "seen") false) ∷ [])))) is) ∙ h in cc)
@@ -338,7 +346,8 @@ module _ (at : QuestionContext) (n m : List ℕ) (other : n ≢ m) where
 
   seen_beside : (seen : Bool) (store new : StoreState) → IsSeenSet seen store at m new → StaysSeen store new at n
   seen_beside true store new h = same_stays at n store new h
-  seen_beside false store new h = flag_beside store new (question store.layers at m) refl h
+  seen_beside false store new h =
+      subst (λ (s : StoreState). StaysSeen store s at n) (sym h.2) (told_stays at n store h.0 (flag_beside store h.0 (question store.layers at m) refl h.1))
 
   pub answer_beside : (store new : StoreState) (answer : Answer) (kind : Kind) → are_disjoint at.config at.templates ≡ true → IsAnswerSet store at m kind answer new → StaysSeen store new at n
   answer_beside store new answer kind disjoint h =

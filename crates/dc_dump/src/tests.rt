@@ -1,11 +1,12 @@
 // What is said of questions, over layers in memory, and set again where none stood.
 ghost use Rattle.std.specs.Prelude.{◌≡◌, true, length};
 ghost use Rattle.dc_conf.specs.Plans.{are_disjoint, IsOver};
+ghost use Rattle.dc_conf.specs.Trees.{shape};
 
 use crate::answers::Answer;
 use crate::lines::{is_sayable, lines_of};
 use crate::{Said, selections};
-use dc_conf::{Base, LayerSort, LayerSpec, Plan};
+use dc_conf::{LayerSort, LayerSpec, Plan};
 use dc_item::read_records;
 use dc_layer::{FileLayer, Layer};
 use dc_outside::MemLink;
@@ -58,21 +59,11 @@ fn two_layers(
 
 // The plans of the two: one of questions, and one of templates.
 fn two_plans() -> (Plan, Plan)
-    ensures config { IsOver result.0 2 }
-    ensures templates { IsOver result.1 2 }
-    ensures apart { are_disjoint result.0 result.1 ≡ true }
+    ensures config { IsOver (shape result.0) 2 }
+    ensures templates { IsOver (shape result.1) 2 }
+    ensures apart { are_disjoint (shape result.0) (shape result.1) ≡ true }
 {
-    let config = Plan {
-        base: Base::Leaf(0),
-        backup: None,
-        debug: false,
-    };
-    let templates = Plan {
-        base: Base::Leaf(1),
-        backup: None,
-        debug: false,
-    };
-    (config, templates)
+    (Plan::Leaf(0), Plan::Leaf(1))
 }
 
 // What is said of the questions of the first of two layers: the text, and behind it each that is left out, with a mark.

@@ -3,6 +3,7 @@ use Rattle.std.proofs.Common.{◌≡◌, ℕ, List, [], ◌∷◌, refl, sym, ap
 use Rattle.std.specs.Prelude.{Bool, Option, Some, Result, Ok, Err, OnOk, OnErr, IfErr}
 use Rattle.dc_text.specs.declared.memory.OutOfMemory.{OutOfMemory}
 use Rattle.dc_words.specs.declared.stream.Line.TheVariants.{Whole}
+use Rattle.dc_outside.specs.LinkCalls.{Tells}
 use Rattle.dc_outside.specs.State.{LinkState}
 use Rattle.dc_serve.specs.LinkRun.{ServesLink}
 use Rattle.dc_serve.specs.declared.outcome.LinkEnd.{LinkEnd}
@@ -105,6 +106,16 @@ if_err (Err error) P p = p
 -- the last line was done, and is told
 pub last_told : (state mid left : SelectorState) → mid ≡ after_taken state (taken_at_end state.joining) → TellsAll mid left → FinishesLast state left link.Done
 last_told state mid left is tells = inl (subst (λ (s : SelectorState). TellsAll s left) is tells, refl)
+
+-- ---- what is told
+
+-- what the line had to tell was told, and then what the layers told, which was forgotten
+pub all_told : (old : SelectorState) (store : StoreState) (at : QuestionContext) (mid err : LinkState) (text told left : List ℕ) → store.layers ≡ old.store.layers → store.told ≡ [] → at ≡ old.at
+    → text ≡ old.untold → Tells text old.err mid → told ≡ old.store.told → Tells told mid err → left ≡ [] → TellsAll old (record old { store = store; at = at; err = err; untold = left })
+all_told old store at mid err text told left same forgot stays has first had second none = record {
+  told = (mid, subst (λ t. Tells t old.err mid) has first, subst (λ t. Tells t mid err) had second);
+  new_is = λ i. record old { store = stored (same i) (forgot i); at = stays i; err = err; untold = none i };
+}
 
 -- ---- the run
 

@@ -4,9 +4,8 @@ use Rattle.dc_text.specs.Ascii.{newline}
 use Rattle.dc_text.specs.declared.memory.OutOfMemory.{OutOfMemory}
 use Rattle.dc_words.specs.declared.stream.Line.{Line}
 use Rattle.dc_words.specs.declared.stream.Line.TheVariants.{Whole, TooLong}
-use Rattle.dc_outside.specs.LinkCalls.{Sends}
+use Rattle.dc_outside.specs.LinkCalls.{Tells}
 use Rattle.dc_outside.specs.State.{LinkState}
-use Rattle.dc_outside.specs.declared.link.LinkError.{LinkError}
 use Rattle.dc_serve.specs.declared.machine.Response.{Response}
 use Rattle.dc_serve.specs.declared.machine.Response.TheVariants.{Silent}
 use Rattle.dc_question.specs.Questions.{QuestionContext}
@@ -98,17 +97,12 @@ after_taken state taken = after_joined (record state { joining = taken.joining }
 abbrev pub HandlesSelection : SelectorState → Line → Response → SelectorState → Type 0
 HandlesSelection old line did new = (did ≡ Silent) × (new ≡ after_taken old (taken old.joining line))
 
--- what a line has to tell is said on standard error, as far as that takes it
-abbrev pub TellsText : List ℕ → LinkState → LinkState → Type 0
-TellsText [] old new = new ≡ old
-TellsText (byte ∷ bytes) old new = (answer : Result (Unit {0}) LinkError) × Sends (byte ∷ bytes) old new answer
-
--- from a state with something to tell to one in which it is told
+-- from a state with something to tell to one in which it is told: first what the line has to tell, and then what the layers told
 pub record TellsAll (old new : SelectorState) : Type 0 where
-  pub told : TellsText old.untold old.err new.err
-  pub new_is : new ≡ record old { err = new.err; untold = [] }
+  pub told : (mid : LinkState) × Tells old.untold old.err mid × Tells old.store.told mid new.err
+  pub new_is : new ≡ record old { store = stored old.store.layers []; err = new.err; untold = [] }
 
--- a line came, and what it has to tell was told behind it
+-- a line came, and what there is to tell was told behind it
 pub record TakesSelection (old : SelectorState) (line : Line) (did : Response) (new : SelectorState) : Type 0 where
   pub mid : SelectorState
   pub handled : HandlesSelection old line did mid

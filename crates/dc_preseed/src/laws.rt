@@ -59,10 +59,12 @@ pub fn checked_lines_change_nothing()
         → line_set store at line false unseen ≡ Ok (done, new) → line_set store at line true unseen ≡ Ok (done, store) }
 {}
 
-/// Selections that are only checked change no table.
+/// Selections that are only checked change no table, and the layers tell nothing of them.
 pub fn checked_selections_change_nothing()
-    ensures { (start left : SelectorState) (old new : LinkState) (ended : LinkEnd OutOfMemory) (before code : ℕ)
-        → IsSelected start left old new ended before code → start.choices.check ≡ true → left.store ≡ start.store }
+    ensures tables { (start left : SelectorState) (old new : LinkState) (ended : LinkEnd OutOfMemory) (before code : ℕ)
+        → IsSelected start left old new ended before code → start.choices.check ≡ true → left.store.layers ≡ start.store.layers }
+    ensures told { (start left : SelectorState) (old new : LinkState) (ended : LinkEnd OutOfMemory) (before code : ℕ)
+        → IsSelected start left old new ended before code → start.choices.check ≡ true → start.store.told ≡ [] → left.store ≡ start.store }
 {}
 
 /// Nothing is sent on the link that selections come on, so that the code of the last reply stays.
@@ -76,7 +78,7 @@ pub fn selections_say_nothing()
 /// Where the input of selections ended, the joined lines of all that came were done in turn, however it was cut, and nothing else was.
 pub fn selections_do_the_whole_text()
     ensures { (start left : SelectorState) (old new : LinkState) (before code : ℕ) → (selected : IsSelected start left old new LinkEnd.Done before code)
-        → start.joining ≡ at_start → start.untold ≡ [] → DoesText (got selected.serves.run.pieces) start left }
+        → start.joining ≡ at_start → start.untold ≡ [] → start.store.told ≡ [] → DoesText (got selected.serves.run.pieces) start left }
 {}
 
 /// How some lines are joined, and what some lines say, as it is worked out.

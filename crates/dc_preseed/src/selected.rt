@@ -4,6 +4,7 @@ ghost use Rattle.std.proofs.Props.{props};
 ghost use Rattle.dc_conf.specs.Plans.{are_disjoint};
 ghost use Rattle.dc_question.specs.Questions.{IsSetOver};
 ghost use Rattle.dc_preseed.specs.Joiner.{at_start};
+ghost use Rattle.dc_preseed.specs.Over.{everywhere_prop};
 
 use crate::joining::Joiner;
 use dc_layer::Layer;
@@ -33,7 +34,7 @@ pub struct SelectedQuestions<'s> {
     pub untold: Text,
     pub refused: bool,
     of: PhantomData<Box<dyn Layer>>,
-    ghost over: { IsSetOver questions.context (length questions.store.now.layers.items) } by { Prim.hlevel props },
+    ghost over: { IsSetOver questions.context (length questions.store.now.layers.items) } by { Prim.hlevel (props, everywhere_prop) },
     ghost apart: { are_disjoint questions.context.config questions.context.templates ≡ true } by { Prim.hlevel props },
 }
 

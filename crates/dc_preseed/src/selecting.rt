@@ -1,5 +1,5 @@
 // Selections that come over a link.
-ghost use Rattle.std.specs.Prelude.{◌≡◌, Err, Some, IfOk, OnOk, OnErr};
+ghost use Rattle.std.specs.Prelude.{◌≡◌, [], Err, Some, IfOk, OnOk, OnErr};
 ghost use Rattle.std.specs.Borrow.{GName};
 ghost use Rattle.dc_outside.specs.State.{LinkState};
 ghost use Rattle.dc_words.specs.declared.stream.Line.TheVariants.{Whole};
@@ -10,7 +10,8 @@ use crate::joining::Joined;
 use crate::lines::{LineDone, LineFault, set_line};
 use crate::selected::SelectedQuestions;
 use dc_layer::Layer;
-use dc_outside::Link;
+use dc_outside::{Link, tell};
+use dc_question::Questions;
 use dc_serve::{LineMachine, LinkEnd, Response};
 use dc_text::{Mem, OutOfMemory, Text};
 use dc_words::Line;
@@ -52,17 +53,17 @@ impl<'s, 'e, E: Link> LineMachine for Selector<'s, 'e, E> {
 }
 
 impl<'s, 'e, E: Link> Selector<'s, 'e, E> {
-    // Tells what there is to tell, as far as standard error takes it.
+    // Tells what there is to tell, as far as standard error takes it: first what the line has to tell, then what the layers told.
     fn tell_all(&mut self)
         ensures told { TellsAll (machine_of state E.link self.old) (machine_of state E.link self.new) }
         ensures borrows { borrows_of self.new ≡ borrows_of self.old }
     {
         let selections = &mut self.selections;
+        let told = told_of(&mut selections.questions);
         let none = Text::new(selections.questions.alloc);
         let untold = std::mem::replace(&mut selections.untold, none);
-        if !untold.bytes().is_empty() {
-            let _ = self.err.write(untold.bytes());
-        }
+        tell(self.err, untold.bytes());
+        tell(self.err, told.bytes());
     }
 
     /// Finishes selections whose link was served to this end: where the input ended, what still goes on is a line.
@@ -232,4 +233,16 @@ fn line_text(alloc: Global, number: u64, text: &[u8]) -> Mem<Text>
     line.append(text)?;
     line.push(b'\n')?;
     Ok(line)
+}
+
+// What the layers told, which is forgotten then.
+fn told_of(questions: &mut Questions<'_>) -> Text
+    ensures told { result ≡ questions.old.store.now.told }
+    ensures forgotten { questions.new.store.now.told ≡ [] }
+    ensures layers { questions.new.store.now.layers.items ≡ questions.old.store.now.layers.items }
+    ensures context { questions.new.context ≡ questions.old.context }
+    ensures borrows { questions.new.store.ghost_name ≡ questions.old.store.ghost_name }
+{
+    let store = &mut *questions.store;
+    std::mem::replace(&mut store.told, Text::new(questions.alloc))
 }

@@ -1,6 +1,7 @@
 // Selections over layers, behind a link.
 ghost use Rattle.std.specs.Prelude.{◌≡◌, length, map as each, true};
 ghost use Rattle.dc_conf.specs.Plans.{IsOver, are_disjoint};
+ghost use Rattle.dc_conf.specs.Trees.{shape};
 ghost use Rattle.dc_preseed.specs.Selecting.{HasSelected, IsSelected, borrows_of, machine_of, selections_over};
 
 use crate::selected::{Choices, SelectedQuestions};
@@ -26,8 +27,9 @@ pub struct Selected {
 }
 
 /// Takes the selections that come on the link, into these layers, by the plans of questions and of templates, for a user of the language
-/// (debconf-set-selections(1)). Each joined line is done, and told on `err`, before the next is taken. At the end of the input what still goes on is
-/// a line; where the link failed or too many bytes came it is passed over. The layers are given back as the lines left them, in their order.
+/// (debconf-set-selections(1)). Each joined line is done before the next is taken, and told on `err`: first what the line has to tell, and then what
+/// the layers told. At the end of the input what still goes on is a line; where the link failed or too many bytes came it is passed over. The
+/// layers are given back as the lines left them, in their order.
 pub fn take_selections<L: Link, E: Link>(
     alloc: Global,
     io: &mut L,
@@ -39,11 +41,11 @@ pub fn take_selections<L: Link, E: Link>(
     choices: Choices,
     last_code: u8,
 ) -> Selected
-    requires config { IsOver config.now (length layers.old.items) }
-    requires templates { IsOver templates.now (length layers.old.items) }
-    requires disjoint { are_disjoint config.now templates.now ≡ true }
+    requires config { IsOver (shape config.now) (length layers.old.items) }
+    requires templates { IsOver (shape templates.now) (length layers.old.items) }
+    requires disjoint { are_disjoint (shape config.now) (shape templates.now) ≡ true }
     ensures { HasSelected
-        (selections_over (each state layers.old.items) (record { config = config.now; templates = templates.now; lang = lang.now }) choices (E.link err.old))
+        (selections_over (each state layers.old.items) (record { config = shape config.now; templates = shape templates.now; lang = lang.now }) choices (E.link err.old))
         (each state layers.new.items) (E.link err.new) result.refused (L.link io.old) (L.link io.new) result.end last_code result.last_code }
 {
     let mut store = Store::new(alloc, std::mem::replace(layers, Vec::new(alloc)));

@@ -1,5 +1,15 @@
-// Lines of selections: how they are joined, and what they say. What they do over a link is on the page of dc_transcripts.
-use crate::{Joined, Joiner, Selection, SelectionError, SelectionFault, read_selection};
+// Lines of selections: how they are joined, what they say, and what is told of them. What they do over a link is on the page of dc_transcripts.
+ghost use Rattle.std.specs.Prelude.{◌≡◌, true, length};
+ghost use Rattle.dc_conf.specs.Plans.{are_disjoint, IsOver};
+ghost use Rattle.dc_conf.specs.Trees.{shape};
+
+use crate::{
+    Choices, Joined, Joiner, Selection, SelectionError, SelectionFault, read_selection,
+    take_selections,
+};
+use dc_conf::{LayerSort, LayerSpec, Plan};
+use dc_layer::{FileLayer, Layer};
+use dc_outside::MemLink;
 use dc_text::Text;
 use dc_words::{Line, MAX_LINE};
 use std::alloc::Global;
@@ -170,4 +180,75 @@ fn lines_say_values_and_flags_or_have_a_fault(rt: HostRuntime) {
         let words = said(&rt, rt.alloc(), line.as_bytes());
         assert_eq!(rt; words.bytes(), want.as_bytes(), "at {line}");
     }
+}
+
+// A layer in a file, which holds no record.
+fn layer(rt: &impl Abort, alloc: Global) -> Box<dyn Layer> {
+    let mut layer = FileLayer::blank(alloc);
+    let spec = LayerSpec {
+        name: Text::new(alloc),
+        sort: LayerSort::File,
+        place: Text::new(alloc),
+        extension: Text::new(alloc),
+        mode: 0o600,
+        backup: false,
+        readonly: false,
+        required: true,
+        accept_name: None,
+        reject_name: None,
+        accept_type: None,
+        reject_type: None,
+    };
+    layer.set_up(spec).expect(rt, "patterns");
+    Box::new(alloc, layer).expect(rt, "memory")
+}
+
+// A layer of questions, and one of templates.
+fn two_layers(rt: &impl Abort, alloc: Global) -> Vec<Box<dyn Layer>>
+    ensures { length result.items ≡ 2 }
+{
+    let mut layers: Vec<Box<dyn Layer>> = Vec::new(alloc);
+    layers.push(layer(rt, alloc)).expect(rt, "memory");
+    layers.push(layer(rt, alloc)).expect(rt, "memory");
+    layers
+}
+
+// The plans of the two: one of questions, of which it is told what is done, and one of templates.
+fn two_plans(rt: &impl Abort, alloc: Global) -> (Plan, Plan)
+    ensures config { IsOver (shape result.0) 2 }
+    ensures templates { IsOver (shape result.1) 2 }
+    ensures apart { are_disjoint (shape result.0) (shape result.1) ≡ true }
+{
+    let questions = Box::new(alloc, Plan::Leaf(0)).expect(rt, "memory");
+    (Plan::Debug(questions), Plan::Leaf(1))
+}
+
+#[test]
+fn lines_tell_before_the_layers(rt: HostRuntime) {
+    let alloc = rt.alloc();
+    let mut layers = two_layers(&rt, alloc);
+    let (config, templates) = two_plans(&rt, alloc);
+    let text = b"p p/a string one\np p/a\np p/a seen \\\nfalse\n";
+    let mut io = MemLink::new(alloc, text, &[7], &[]).expect(&rt, "memory");
+    let mut err = MemLink::new(alloc, b"", &[], &[]).expect(&rt, "memory");
+    let choices = Choices {
+        verbose: true,
+        check: false,
+        unseen: false,
+    };
+    let selected = take_selections(
+        alloc,
+        &mut io,
+        &mut err,
+        &mut layers,
+        &config,
+        &templates,
+        &Text::new(alloc),
+        choices,
+        0,
+    );
+    assert!(rt; selected.refused);
+    let want =
+        b"line 1: p/a\ndebug: put p/a\nline 2: too few words\nline 3: p/a\ndebug: set-flag p/a\n";
+    assert_eq!(rt; err.sent().bytes(), want.as_slice());
 }

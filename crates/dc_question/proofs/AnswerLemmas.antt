@@ -6,7 +6,7 @@ use Rattle.std.proofs.lemmas.List.Elements.{All-nil, All-cons, All-head, All-tai
 use Rattle.std.proofs.lemmas.List.Kept.{AllPairs-cons}
 use Rattle.dc_text.specs.Maps.{AreDistinct as AllDiffer}
 use Rattle.dc_text.specs.Settled.{settled}
-use Rattle.dc_conf.specs.Plans.{IsOver, places}
+use Rattle.dc_conf.specs.Plans.{IsOver}
 use Rattle.dc_item.specs.Item.{ItemParts}
 use Rattle.dc_item.specs.After.{after_at}
 use Rattle.dc_item.specs.declared.op.After.TheVariants.{Gone}
@@ -15,7 +15,7 @@ use Rattle.dc_item.proofs.AfterLemmas.{after_gone}
 use Rattle.dc_layer.specs.State.{LayerState}
 use Rattle.dc_store.specs.Plans.{StoreState, look}
 use Rattle.dc_store.specs.Batches.{Write, AreDistinct, AllDistinct, AreOver, names_of, is_refused, all_done}
-use Rattle.dc_store.proofs.LawLemmas.{changeable_taken}
+use Rattle.dc_store.proofs.Changeable.{changeable_taken}
 use Rattle.dc_question.specs.Changes.{value_write, values_set}
 use Rattle.dc_question.specs.Questions.{QuestionContext, IsSetOver, kind, can_change}
 use Rattle.dc_question.proofs.ApartLemmas.{no_pairs}
@@ -51,7 +51,7 @@ set_stays key value (Some parts) e = (after_gone (SetField key value) parts).0 e
 -- the write that gives one its value isn't refused
 value_taken : (ls : List LayerState) (at : QuestionContext) (a : List ℕ × List ℕ) → can_change ls at a.0 ≡ true → is_refused ls (value_write ls at a) ≡ false
 value_taken ls at a h =
-    ap not (changeable_taken ls (places at.config.base) a.0 (kind ls at a.0) (SetField (codes "value") (settled a.1)) h (set_stays (codes "value") (settled a.1) (look ls at.config a.0)))
+    ap not (changeable_taken ls at.config a.0 (kind ls at a.0) (SetField (codes "value") (settled a.1)) h (set_stays (codes "value") (settled a.1) (look ls at.config a.0)))
 
 values_taken : (ls : List LayerState) (at : QuestionContext) (answers : List (List ℕ × List ℕ)) → All (λ a. can_change ls at a.0 ≡ true) answers
     → list_any (is_refused ls) (each (value_write ls at) answers) ≡ false

@@ -4,9 +4,9 @@ use Rattle.std.specs.Prelude.{◌&&◌, ◌||◌, nat_eq}
 use Rattle.std.specs.List.{All, AllPairs, list_all, list_any}
 use Rattle.std.proofs.lemmas.List.Elements.{All-nil, All-cons, All-contains}
 use Rattle.std.proofs.lemmas.List.Kept.{AllPairs-cons}
-use Rattle.dc_conf.specs.declared.plans.Plan.{Plan}
-use Rattle.dc_conf.specs.Plans.{are_disjoint}
-use Rattle.dc_store.specs.Batches.{Write, all_places, AreApart, AreDistinct, AllDistinct}
+use Rattle.dc_conf.specs.Trees.{Tree}
+use Rattle.dc_conf.specs.Plans.{are_disjoint, all_places}
+use Rattle.dc_store.specs.Batches.{Write, AreApart, AreDistinct, AllDistinct}
 
 all_pass : {X : Type 0} (p : X → Bool) (xs : List X) → list_all p xs ≡ true → All (λ x. p x ≡ true) xs
 all_pass p [] e = All-nil (λ x. p x ≡ true)
@@ -23,7 +23,7 @@ none_pass p (x ∷ xs) e = elim (p x) as (λ b. p x ≡ b → not (b || list_any
 ] refl e
 
 -- disjoint plans are apart
-pub apart : (p q : Plan) → are_disjoint p q ≡ true → AreApart p q
+pub apart : (p q : Tree) → are_disjoint p q ≡ true → AreApart p q
 apart p q h place in_p in_q =
     let clear : not (list_any (nat_eq place) (all_places q)) ≡ true
     = All-contains (λ x. not (list_any (nat_eq x) (all_places q)) ≡ true) (all_places p) place (all_pass (λ x. not (list_any (nat_eq x) (all_places q))) (all_places p) h) in_p in
@@ -31,7 +31,7 @@ apart p q h place in_p in_q =
     let same : nat_eq place place ≡ true = eq-eqb place place refl in
     cc
 
-pub apart_too : (p q : Plan) → are_disjoint p q ≡ true → AreApart q p
+pub apart_too : (p q : Tree) → are_disjoint p q ≡ true → AreApart q p
 apart_too p q h place in_q in_p = apart p q h place in_p in_q
 
 pub no_pairs : {X : Type 0} (R : X → X → Type 0) → AllPairs R []

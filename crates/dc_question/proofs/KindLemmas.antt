@@ -19,7 +19,7 @@ use Rattle.dc_item.specs.declared.op.Op.TheVariants.{Put, SetField, DropField, S
 use Rattle.dc_item.specs.declared.effect.Effect.TheVariants as effect
 use Rattle.dc_item.proofs.AfterLemmas.{parts_eq-Decides}
 use Rattle.dc_template.specs.declared.kinds.Kind.{Kind}
-use Rattle.dc_conf.specs.declared.plans.Plan.{Plan}
+use Rattle.dc_conf.specs.Trees.{Tree}
 use Rattle.dc_layer.specs.State.{LayerState}
 use Rattle.dc_store.specs.Plans.{look, look_below, look_after, seen_after}
 use Rattle.dc_store.specs.Batches.{Write, is_refused}
@@ -31,17 +31,17 @@ use Rattle.dc_question.specs.Readings.{kind_by, template_of}
 
 -- ---- what is seen then
 
-pub same_seen : {A : Type 0} (ls : List LayerState) (p : Plan) (name : List ℕ) (op : Op) (f : Option ItemParts → A) (item : Option ItemParts) (made : After)
+pub same_seen : {A : Type 0} (ls : List LayerState) (p : Tree) (name : List ℕ) (op : Op) (f : Option ItemParts → A) (item : Option ItemParts) (made : After)
     → item ≡ look ls p name → made ≡ after_at op item → made ≡ Same → f item ≡ f (look_after ls p name op)
 same_seen ls p name op f item made found is same =
     ap (λ m. f (seen_after item (look_below ls p name) m)) (sym same ∙ is) ∙ ap (λ i. f (seen_after i (look_below ls p name) (after_at op i))) found
 
-pub changed_seen : {A : Type 0} (ls : List LayerState) (p : Plan) (name : List ℕ) (op : Op) (f : Option ItemParts → A) (item : Option ItemParts) (made : After) (new : ItemParts)
+pub changed_seen : {A : Type 0} (ls : List LayerState) (p : Tree) (name : List ℕ) (op : Op) (f : Option ItemParts → A) (item : Option ItemParts) (made : After) (new : ItemParts)
     → item ≡ look ls p name → made ≡ after_at op item → made ≡ Changed new → f (Some new) ≡ f (look_after ls p name op)
 changed_seen ls p name op f item made new found is changed =
     ap (λ m. f (seen_after item (look_below ls p name) m)) (sym changed ∙ is) ∙ ap (λ i. f (seen_after i (look_below ls p name) (after_at op i))) found
 
-pub gone_seen : {A : Type 0} (ls : List LayerState) (p : Plan) (name : List ℕ) (op : Op) (f : Option ItemParts → A) (item below : Option ItemParts) (made : After)
+pub gone_seen : {A : Type 0} (ls : List LayerState) (p : Tree) (name : List ℕ) (op : Op) (f : Option ItemParts → A) (item below : Option ItemParts) (made : After)
     → item ≡ look ls p name → below ≡ look_below ls p name → made ≡ after_at op item → made ≡ Gone → f below ≡ f (look_after ls p name op)
 gone_seen ls p name op f item below made found lower is gone =
     ap f lower ∙ ap (λ m. f (seen_after item (look_below ls p name) m)) (sym gone ∙ is) ∙ ap (λ i. f (seen_after i (look_below ls p name) (after_at op i))) found
@@ -68,7 +68,7 @@ module _ {A : Type 0} (f : Option ItemParts → A) (reads : ReadsFields f) where
       ] refl
 
   -- an item that is put is read
-  pub put_seen : (ls : List LayerState) (p : Plan) (name : List ℕ) (op : Op) (new : ItemParts) → op ≡ Put new → f (Some new) ≡ f (look_after ls p name op)
+  pub put_seen : (ls : List LayerState) (p : Tree) (name : List ℕ) (op : Op) (new : ItemParts) → op ≡ Put new → f (Some new) ≡ f (look_after ls p name op)
   put_seen ls p name op new is =
       put_made new (look ls p name) (look_below ls p name) ∙ ap (λ o. f (look_after ls p name o)) (sym is)
 
@@ -119,7 +119,7 @@ module _ {A : Type 0} (f : Option ItemParts → A) (reads : ReadsFields f) where
   owners_kept (DropOwners os) None on = refl
   owners_kept (DropOwners os) (Some parts) on = kept_by (DropOwners os) parts (parts_eq (asked (DropOwners os) parts) parts) (is_nil (keys (asked (DropOwners os) parts).owners)) refl
 
-  pub owners_seen : (ls : List LayerState) (p : Plan) (name : List ℕ) (op : Op) (item : Option ItemParts) (does : Bool) → item ≡ look ls p name → is_on_owners op ≡ true
+  pub owners_seen : (ls : List LayerState) (p : Tree) (name : List ℕ) (op : Op) (item : Option ItemParts) (does : Bool) → item ≡ look ls p name → is_on_owners op ≡ true
       → does ≡ is_gone (after_at op item) → does ≡ false → f item ≡ f (look_after ls p name op)
   owners_seen ls p name op item does found on is stays =
       owners_made op item (look_below ls p name) on (sym is ∙ stays) ∙ ap (λ i. f (seen_after i (look_below ls p name) (after_at op i))) found
@@ -130,7 +130,7 @@ gone_by (Changed item) h = cc
 gone_by Gone h = refl
 
 -- where the item goes, the one below it is seen
-pub below_seen : {A : Type 0} (f : Option ItemParts → A) (ls : List LayerState) (p : Plan) (name : List ℕ) (op : Op) (item below : Option ItemParts) (does : Bool)
+pub below_seen : {A : Type 0} (f : Option ItemParts → A) (ls : List LayerState) (p : Tree) (name : List ℕ) (op : Op) (item below : Option ItemParts) (does : Bool)
     → item ≡ look ls p name → below ≡ look_below ls p name → does ≡ is_gone (after_at op item) → does ≡ true → f below ≡ f (look_after ls p name op)
 below_seen f ls p name op item below does found lower is goes =
     gone_seen ls p name op f item below (after_at op item) found lower refl (gone_by (after_at op item) (sym is ∙ goes))

@@ -19,6 +19,7 @@ use Rattle.dc_item.proofs.ItemLemmas.{contains_key-set_of}
 use Rattle.dc_conf.specs.Plans.{are_disjoint}
 use Rattle.dc_store.specs.Plans.{StoreState, look, look_below, seen_after, is_owned, owned}
 use Rattle.dc_store.specs.Batches.{Write, AreDistinct, is_refused, all_done}
+use Rattle.dc_store.specs.StoreLaws.{KeepsApart}
 use Rattle.dc_store.proofs.ListingLemmas.{is_in, same_text, owned_listed}
 use Rattle.dc_store.proofs.TakenLemmas.{row_stays, row_seen}
 use Rattle.dc_question.specs.Ownership.{template_write, write_beside, losers, lost_by, losses, leave_batch, purged}
@@ -113,7 +114,7 @@ free_there p (v ∷ before) rest w h = free_there p before rest w ((or_false (p 
   or_false true b e = cc
   or_false false b e = (refl, e)
 
-module _ (store : StoreState) (at : QuestionContext) (owner name : List ℕ) (disjoint : are_disjoint at.config at.templates ≡ true) (alone : at.config.backup ≡ None) where
+module _ (store : StoreState) (at : QuestionContext) (owner name : List ℕ) (disjoint : are_disjoint at.config at.templates ≡ true) (alone : KeepsApart at.config) where
   abbrev names : List (List ℕ)
   names = owned store.layers at.config owner
 

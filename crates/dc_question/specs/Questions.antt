@@ -3,7 +3,7 @@
 use Rattle.std.specs.Prelude.{◌≡◌, ℕ, Bool, List, Option, Some, None, Result, Ok, Err, is_some, option_map, option_and_then, if◌then◌else◌}
 use Rattle.std.specs.FinMap as map
 use Rattle.dc_text.specs.Names.{is_name}
-use Rattle.dc_conf.specs.declared.plans.Plan.{Plan}
+use Rattle.dc_conf.specs.Trees.{Tree}
 use Rattle.dc_item.specs.Item.{ItemParts}
 use Rattle.dc_template.specs.declared.kinds.Kind.{Kind}
 use Rattle.dc_layer.specs.State.{LayerState}
@@ -16,8 +16,8 @@ use Rattle.dc_question.specs.declared.errors.QuestionError.TheVariants.{NoQuesti
 
 -- where questions and templates stand, and the user's language
 pub record QuestionContext : Type 0 where
-  pub config : Plan
-  pub templates : Plan
+  pub config : Tree
+  pub templates : Tree
   pub lang : List ℕ
 
 -- both plans speak of so many layers

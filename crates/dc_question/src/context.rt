@@ -12,9 +12,14 @@ pub struct QuestionContext<'q> {
 }
 
 impl<'q> Model for QuestionContext<'q> {
+    ghost use Rattle.std.specs.Coded.{codes};
+    ghost use Rattle.dc_conf.specs.Trees.{shape};
+    ghost use Rattle.dc_store.specs.TreeCodes.{tree_code};
     ghost use Rattle.dc_question.specs.Questions.{QuestionContext as SettingOf};
 
     ghost Value = { SettingOf };
 
-    ghost view = { λ s. record { config = s.config.now; templates = s.templates.now; lang = s.lang.now } };
+    ghost coded = { Prim.hlevel (codes, tree_code) };
+
+    ghost view = { λ s. record { config = shape s.config.now; templates = shape s.templates.now; lang = s.lang.now } };
 }

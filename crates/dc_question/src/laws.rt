@@ -9,6 +9,7 @@ ghost use Rattle.dc_layer.specs.State.{LayerState};
 ghost use Rattle.dc_template.specs.Stanzas.{Stanza};
 ghost use Rattle.dc_template.specs.declared.kinds.Kind.{Kind};
 ghost use Rattle.dc_store.specs.Plans.{StoreState, look, look_below, is_owned};
+ghost use Rattle.dc_store.specs.StoreLaws.{KeepsApart};
 ghost use Rattle.dc_store.specs.Batches.{Write, AllDistinct, is_refused, all_done, first_refused};
 ghost use Rattle.dc_question.specs.Changes.{batch_for, value_write, values_set};
 ghost use Rattle.dc_question.specs.Ownership.{register_batch, leave_batch, load_batch, purged};
@@ -56,10 +57,11 @@ pub fn refused_rows_change_nothing()
 {}
 
 /// Once an owner's questions are purged, no question that is seen has it, unless one that another had hidden has come into sight:
-/// where questions and templates share no layer, and those of questions have no backup.
+/// where questions and templates share no layer, and where no place that is asked stands under a backup's second plan, which no
+/// configuration does.
 pub fn purged_questions_lose_the_owner()
     ensures { (store new : StoreState) (at : QuestionContext) (owner name : List ℕ)
-        → are_disjoint at.config at.templates ≡ true → at.config.backup ≡ None → purged store at owner ≡ Ok new
+        → are_disjoint at.config at.templates ≡ true → KeepsApart at.config → purged store at owner ≡ Ok new
         → is_owned owner (look new.layers at.config name) ≡ true → is_owned owner (look_below store.layers at.config name) ≡ true }
 {}
 

@@ -3,6 +3,7 @@ ghost use Rattle.std.specs.Prelude.{◌≡◌, Err, length, map as each, option_
 ghost use Rattle.std.specs.Option.{option_copied};
 ghost use Rattle.dc_question.specs.Asked.{asked, HasPlans, seen};
 ghost use Rattle.dc_question.specs.declared.errors.QuestionError.TheVariants.{NoQuestion};
+ghost use Rattle.dc_conf.specs.Trees.{shape};
 ghost use Rattle.dc_conf.specs.Plans.{IsOver};
 ghost use Rattle.dc_item.specs.Owners.{owners_left};
 ghost use Rattle.dc_store.specs.Plans.{look};
@@ -40,11 +41,11 @@ impl<'q> Questions<'q> {
         templates: &'q Plan,
         lang: &'q Text,
     ) -> Questions<'q>
-        requires config { IsOver config.now (length store.old.layers.items) }
-        requires templates { IsOver templates.now (length store.old.layers.items) }
+        requires config { IsOver (shape config.now) (length store.old.layers.items) }
+        requires templates { IsOver (shape templates.now) (length store.old.layers.items) }
         ensures store { result.store.now ≡ store.old }
         ensures held { result.store.ghost_name ≡ store.entry.ghost_name }
-        ensures context { result.context ≡ record { config = config.now; templates = templates.now; lang = lang.now } }
+        ensures context { result.context ≡ record { config = shape config.now; templates = shape templates.now; lang = lang.now } }
     {
         Questions {
             alloc,

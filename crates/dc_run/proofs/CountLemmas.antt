@@ -20,7 +20,7 @@ use Rattle.dc_serve.specs.Ends.{LinkCounts}
 use Rattle.dc_serve.specs.LinkRun.{Answered}
 use Rattle.dc_serve.specs.declared.outcome.LinkEnd.{LinkEnd}
 use Rattle.dc_serve.specs.declared.outcome.LinkEnd.TheVariants as link
-use Rattle.dc_session.specs.Machine.{Handles, Aborts}
+use Rattle.dc_session.specs.Machine.{TakesLine, Aborts}
 use Rattle.dc_session.specs.Serving.{IsServed, Resources}
 use Rattle.dc_outside.specs.State.{FilesState, LinkState}
 use Rattle.dc_session.specs.SessionState.{SessionState, TerminalState}
@@ -36,7 +36,7 @@ use Rattle.dc_run.specs.declared.outcome.ToolAnswer.{ToolAnswer}
 use Rattle.dc_run.specs.declared.outcome.ToolEnd.{ToolEnd}
 use Rattle.dc_run.specs.declared.outcome.ToolEnd.TheVariants as tool
 use Rattle.dc_run.specs.declared.settings.Settings.{Settings}
-use Rattle.dc_run.specs.declared.starting.Roots.{Roots}
+use Rattle.dc_run.specs.Roots.{CopyRoots, Roots}
 use Rattle.dc_run.specs.Ends.{tool_end_of, end_of, end_of_conf, end_of_pattern, end_of_load, end_unwaited, Both, Stays, MayRise, LinksCount, ProgramCounts}
 use Rattle.dc_run.specs.Finishing.{Finishes, FinishesWhere}
 use Rattle.dc_run.specs.Headline.{HasRunTool}
@@ -46,7 +46,6 @@ use Rattle.dc_preseed.specs.declared.selected.Choices.{Choices}
 use Rattle.dc_text.specs.declared.memory.OutOfMemory.{OutOfMemory as NoMemory}
 use Rattle.dc_run.specs.declared.outcome.PatternAt.{PatternAt}
 use Rattle.dc_run.specs.declared.outcome.PatternAt.TheVariants.{Database, Word}
-use Rattle.dc_run.specs.declared.starting.CopyRoots.{CopyRoots}
 use Rattle.dc_tools.specs.Copying.{Copying}
 use Rattle.dc_run.specs.Saves.{Save}
 use Rattle.dc_run.specs.Running.{IsNotStarted, IsStarted, end_unstarted, Awaits}
@@ -152,7 +151,7 @@ module _ (before now : Counts) where
 served_counts : (start : SessionState) (left : Resources) (old new : LinkState) (ended : LinkEnd StepError) (before code : ℕ) → IsServed start left old new ended before code
     → ServedCounts (tool_end_of ended) old.counts new.counts
 served_counts start left old new ended before code is =
-    by_session old.counts new.counts is.served ended (ends_so is.served is.state left.layers ended is.finishes) is.counts
+    by_session old.counts new.counts is.served ended (ends_so is.served is.state left ended is.finishes) is.counts
 
 -- ---- its terminal
 
@@ -161,7 +160,7 @@ abbrev TerminalCounts : LinkEnd StepError → Counts → Counts → Type 0
 TerminalCounts (link.Broken error) before now = CountsBreak error before now
 TerminalCounts ended before now = Stays before now
 
-module _ (start new : SessionState) (turns : List (Transition SessionState)) (rest : List Line) (talk : List Piece) (input : Option (List ℕ)) (code_before code : ℕ) (course : IsExecution Handles start turns) where
+module _ (start new : SessionState) (turns : List (Transition SessionState)) (rest : List Line) (talk : List Piece) (input : Option (List ℕ)) (code_before code : ℕ) (course : IsExecution TakesLine start turns) where
   unused : new ≡ state_after start turns → new.terminal.link.counts ≡ start.terminal.link.counts
   unused is = ap (λ (s : SessionState). s.terminal.link.counts) is ∙ course_counts start turns course
 
@@ -223,7 +222,7 @@ communicated_links start before now code answer left nobody is child =
     let ran = served.ran in
     rw is.ended_is
     (own_links before now child (tool_end_of is.ended)
-    (no_term served.served is.ended (ends_so served.served served.state left.layers is.ended served.finishes)
+    (no_term served.served is.ended (ends_so served.served served.state left is.ended served.finishes)
     (λ broken. unbroken start served.state ran.transitions ran.rest ran.pieces before.io.input code answer.last_code ran.course nobody step.Term refl
     (subst (λ (e : LinkEnd StepError). Answered Aborts e start ran.transitions ran.rest ran.pieces before.io.input code served.state answer.last_code) broken ran.answered)))
     (served_counts start left before.io now.io is.ended code answer.last_code served))
@@ -271,7 +270,7 @@ started_links command start before now code answer left asks is =
     let ran = served.ran in
     let shown = terminal_counts start served.state ran.transitions ran.rest ran.pieces is.mid.input code answer.last_code ran.course served.served ran.answered in
     rw is.ended_is
-    (program_links before now served.served is.ended (ends_so served.served served.state left.layers is.ended served.finishes)
+    (program_links before now served.served is.ended (ends_so served.served served.state left is.ended served.finishes)
     (subst (λ (c : Counts). ServedCounts (tool_end_of is.ended) c now.child.counts) (ap (λ (l : LinkState). l.counts) is.starts.state)
     (served_counts start left is.mid now.child is.ended code answer.last_code served))
     (subst (λ (c : Counts). TerminalCounts served.served c now.io.counts) (ap (λ (l : LinkState). l.counts) asks)

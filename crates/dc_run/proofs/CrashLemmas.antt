@@ -55,7 +55,7 @@ use Rattle.dc_serve.specs.declared.outcome.LinkEnd.{LinkEnd}
 use Rattle.dc_serve.specs.declared.outcome.LinkEnd.TheVariants as link
 use Rattle.dc_session.specs.Answers.{CommandInputs, answer, after_command, names_on}
 use Rattle.dc_session.specs.Asking.{with_seen}
-use Rattle.dc_session.specs.Machine.{Handles, Steps, StepsHeard, Aborts, HasDone, GivesInPart, IsDoneInPart}
+use Rattle.dc_session.specs.Machine.{Handles, TakesLine, Steps, StepsHeard, Aborts, HasDone, GivesInPart, IsDoneInPart}
 use Rattle.dc_session.specs.declared.stepped.StepError.TheVariants as step
 use Rattle.dc_session.specs.Serving.{IsFinished, Finishes as FinishesSession, IsServed, Resources}
 use Rattle.dc_outside.specs.State.{FilesState}
@@ -71,8 +71,7 @@ use Rattle.dc_run.specs.Ends.{IsEnded, tool_end_of, comes_to_save, end_by, end_u
 use Rattle.dc_run.specs.Running.{Awaits}
 use Rattle.dc_run.specs.Finishing.{images_of}
 use Rattle.dc_run.specs.Jobs.{CopiesBy, HasTaken, Uses}
-use Rattle.dc_run.specs.declared.starting.CopyRoots.{CopyRoots}
-use Rattle.dc_run.specs.declared.starting.Roots.{Roots}
+use Rattle.dc_run.specs.Roots.{CopyRoots, Roots}
 use Rattle.dc_run.specs.Kills.{AllDone}
 use Rattle.dc_run.specs.Saves.{Save, AreSaves, Commits}
 use Rattle.dc_run.specs.Starting.{conf_text, IsConfiguration, EndsBefore, HasLoaded, HasReadConf, databases_of, has_files, keeps_changes, roots}
@@ -237,9 +236,12 @@ steps_keep old new (Whole line) did steps = heard_keeps (heard old.asking.escape
 heeds_keep : (old new : SessionState) (line : Line) (did : Response) → Handles old line did new → specs_of new ≡ specs_of old
 heeds_keep old new line did steps = steps_keep old new line steps.stepped steps.steps
 
-course_keeps : (start : SessionState) (turns : List (Transition SessionState)) → IsExecution Handles start turns → specs_of (state_after start turns) ≡ specs_of start
+takes_keep : (old new : SessionState) (line : Line) (did : Response) → TakesLine old line did new → specs_of new ≡ specs_of old
+takes_keep old new line did takes = ap specs_of takes.tells.new_is ∙ heeds_keep old takes.mid line did takes.handled
+
+course_keeps : (start : SessionState) (turns : List (Transition SessionState)) → IsExecution TakesLine start turns → specs_of (state_after start turns) ≡ specs_of start
 course_keeps start [] is = refl
-course_keeps start (turn ∷ turns) is = course_keeps turn.new turns is.2 ∙ heeds_keep start turn.new turn.line turn.did is.0
+course_keeps start (turn ∷ turns) is = course_keeps turn.new turns is.2 ∙ takes_keep start turn.new turn.line turn.did is.0
 
 last_after : (start : SessionState) (gone : List (Transition SessionState)) (last : Transition SessionState) → state_after start (gone ++ last ∷ []) ≡ last.new
 last_after start [] last = refl
@@ -263,11 +265,11 @@ module _ (start new : SessionState) (turns : List (Transition SessionState)) (re
   state_left (link.Broken step.Term) is answered = absurd is
   state_left (link.Broken step.OutOfMemory) is answered = absurd is
 
-  reads_to : IsExecution Handles start turns → new ≡ state_after start turns → new.files.view.disk ≡ start.files.view.disk
+  reads_to : IsExecution TakesLine start turns → new ≡ state_after start turns → new.files.view.disk ≡ start.files.view.disk
   reads_to course is = ap (λ (s : SessionState). s.files.view.disk) is ∙ course_reads start turns course
 
   -- at each end the session has only read files
-  session_reads : IsExecution Handles start turns → (ended : LinkEnd StepError) → Answered Aborts ended start turns rest talk input before new code → new.files.view.disk ≡ start.files.view.disk
+  session_reads : IsExecution TakesLine start turns → (ended : LinkEnd StepError) → Answered Aborts ended start turns rest talk input before new code → new.files.view.disk ≡ start.files.view.disk
   session_reads course link.Done answered = reads_to course (state_left link.Done tt answered)
   session_reads course link.LinkFault answered = reads_to course (state_left link.LinkFault tt answered)
   session_reads course link.TooLong answered = reads_to course (state_left link.TooLong tt answered)
@@ -295,12 +297,12 @@ all_seen_keep : (at : QuestionContext) (store : StoreState) (names : List (List 
 all_seen_keep at store [] = refl
 all_seen_keep at store (name ∷ names) = all_seen_keep at (with_seen at store name) names ∙ seen_keeps at store name
 
-module _ (state : SessionState) (layers : List LayerState) where
-  finished_keeps : (served ended : LinkEnd StepError) → IsFinished state served layers ended → specs_in layers ≡ specs_of state
+module _ (state : SessionState) (left : Resources) where
+  finished_keeps : (served ended : LinkEnd StepError) → IsFinished state served left ended → specs_in left.layers ≡ specs_of state
   finished_keeps served ended (inl all) = ap specs_in all.0 ∙ all_seen_keep state.at state.store state.asking.asked
-  finished_keeps served ended (inr none) = same_specs state.asking.asked state.store.layers layers none.0
+  finished_keeps served ended (inr none) = same_specs state.asking.asked state.store.layers left.layers none.0
 
-  session_keeps : (served ended : LinkEnd StepError) → FinishesSession served state layers ended → specs_in layers ≡ specs_of state
+  session_keeps : (served ended : LinkEnd StepError) → FinishesSession served state left ended → specs_in left.layers ≡ specs_of state
   session_keeps link.Done ended finishes = finished_keeps link.Done ended finishes
   session_keeps link.LinkFault ended finishes = finished_keeps link.LinkFault ended finishes
   session_keeps link.TooLong ended finishes = finished_keeps link.TooLong ended finishes
@@ -391,8 +393,8 @@ served_keeps start old new before given left ended ended_is served =
     record {
       disk = ap (λ (f : FilesState). f.view.disk) served.files_are ∙ session_reads start served.state ran.transitions ran.rest ran.pieces old.input before given.last_code ran.course served.served ran.answered;
       specs = λ saves is.
-          let done : IsEnded (tool_end_of served.served) = was_served served.served ended (ends_so served.served served.state left.layers ended served.finishes) (subst IsEnded ended_is is) in
-          session_keeps served.state left.layers served.served ended served.finishes
+          let done : IsEnded (tool_end_of served.served) = was_served served.served ended (ends_so served.served served.state left ended served.finishes) (subst IsEnded ended_is is) in
+          session_keeps served.state left served.served ended served.finishes
           ∙ ap specs_of (state_left start served.state ran.transitions ran.rest ran.pieces old.input before given.last_code served.served done ran.answered)
           ∙ course_keeps start ran.transitions ran.course;
     }

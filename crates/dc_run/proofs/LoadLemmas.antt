@@ -2,7 +2,8 @@
 use Rattle.std.proofs.Common.{◌≡◌, ◌≢◌, ◌≤◌, ◌<◌, ◌-◌, ℕ, Bool, true, false, cond, List, [], ◌∷◌, ◌++◌, length, take, drop, get_or, Option, refl, sym, ap, subst, ◌∙◌, arith, Result, Ok, Err}
 use Rattle.std.specs.Prelude.{◌||◌, is_some}
 use Rattle.dc_layer.specs.State.{LayerState}
-use Rattle.dc_store.specs.Plans.{StoreState}
+use Rattle.dc_store.specs.Plans.{StoreState, stored}
+use Rattle.dc_session.specs.Answers.{loading}
 use Rattle.dc_question.specs.Ownership.{loaded}
 use Rattle.dc_question.specs.declared.errors.QuestionError.{QuestionError}
 use Rattle.dc_session.specs.FileLoading.{LoadsFile, file_end, end_by}
@@ -15,7 +16,7 @@ use Rattle.dc_session.specs.declared.template_loading.FileEnd.{FileEnd}
 use Rattle.dc_session.specs.declared.template_loading.FileEnd.TheVariants as file
 use Rattle.dc_run.specs.EndLines.{HasSaid}
 use Rattle.dc_run.specs.Inside.{end_text, is_unread, told_line, GoesThrough, LoadsOne, LoadsFiles, HasLoadedOver, status_by}
-use Rattle.dc_run.specs.TemplateLoading.{refused_by, refusal_of, FileTurn, IsFileCourse, state_after, lines_of, refuses, EndsAt, HasLoadedFiles}
+use Rattle.dc_run.specs.TemplateLoading.{refused_by, refusal_of, FileTurn, IsFileCourse, state_after, lines_at, lines_of, refuses, EndsAt, HasLoadedFiles}
 use Rattle.dc_run.specs.declared.loading_templates.FilesLoaded.{FilesLoaded}
 use Rattle.dc_run.specs.declared.outcome.ToolAnswer.{ToolAnswer}
 use Rattle.dc_run.specs.declared.outcome.ToolEnd.{ToolEnd}
@@ -53,31 +54,40 @@ refused_same path file.Missing = refl
 refused_same path (file.Faulty line) = refl
 refused_same path (file.Refused error) = refl
 
-module _ (start left : SessionState) (path : List ℕ) (ended : FileEnd) (does : LoadsFile path start ended left) where
+module _ (start mid : SessionState) (path : List ℕ) (ended : FileEnd) (does : LoadsFile path start ended mid) where
   readable : is_unread ended ≡ false → does.found ≢ Unreadable
   readable here same = let wrong : true ≡ false = sym (ap is_unread (does.ended_is ∙ ap (file_end start) same)) ∙ here in cc
 
   text_is : end_text path ended ≡ refusal_of start path does.found
   text_is = ap (end_text path) does.ended_is ∙ text_same start path does.found
 
-  pub gone_through : (old new : LinkState) (refused : Bool) → is_unread ended ≡ false → refused ≡ is_some (end_text [] ended) → HasSaid (told_line (end_text path ended)) old new → GoesThrough start path old new refused left
-  gone_through old new refused here is told = record {
-    turn = record { path = path; found = does.found; new = left };
-    path_is = refl;
-    left_is = refl;
-    taken = record { finds = does.finds; readable = readable here; new_is = does.new_is };
-    refused_is = is ∙ refused_same path ended ∙ ap is_some text_is;
-    said = subst (λ (text : Option (List ℕ)). HasSaid (told_line text) old new) text_is told;
-  }
+  -- what the layers told was taken, and told behind the file's own line
+  pub gone_through : (left : SessionState) (told : List ℕ) (old between new : LinkState) (refused : Bool) → left ≡ record mid { store = stored mid.store.layers [] } → told ≡ mid.store.told → is_unread ended ≡ false
+      → refused ≡ is_some (end_text [] ended) → HasSaid (told_line (end_text path ended)) old between → HasSaid told between new → GoesThrough start path old new refused left
+  gone_through left told old between new refused taken told_is here is own said =
+      let files_are : left.files ≡ mid.files = ap (λ (s : SessionState). s.files) taken in
+      let told_then : told ≡ (loading start start.owner does.found).store.told = told_is ∙ ap (λ (s : SessionState). s.store.told) does.new_is in
+      record {
+        turn = record { path = path; found = does.found; new = left };
+        path_is = refl;
+        left_is = refl;
+        taken = record {
+          finds = subst (Finds path start.files does.found) (sym files_are) does.finds;
+          readable = readable here;
+          new_is = taken ∙ (λ i. record (does.new_is i) { store = stored (does.new_is i).store.layers [] }) ∙ (λ i. record start { store = stored (loading start start.owner does.found).store.layers []; files = sym files_are i });
+        };
+        refused_is = is ∙ refused_same path ended ∙ ap is_some text_is;
+        said = said_then _ _ old between new (subst (λ (text : Option (List ℕ)). HasSaid (told_line text) old between) text_is own) (subst (λ (t : List ℕ). HasSaid t between new) told_then said);
+      }
 
   -- the tool ends at a file that can't be read
-  pub ended_at : (kept : List ℕ) → is_unread ended ≡ true → kept ≡ path → (later : List (List ℕ)) → EndsAt (tool.FilesFault kept) start (path ∷ later) left
+  pub ended_at : (kept : List ℕ) → is_unread ended ≡ true → kept ≡ path → (later : List (List ℕ)) → EndsAt (tool.FilesFault kept) start (path ∷ later) mid
   ended_at kept gone is later =
       let none : does.found ≡ Unreadable = unread start does.found (sym (ap is_unread does.ended_is) ∙ gone) in (
         later,
         (λ i. sym is i ∷ later),
-        subst (λ (p : List ℕ). Finds p start.files Unreadable left.files) (sym is) (subst (λ (f : Found). Finds path start.files f left.files) none does.finds),
-        does.new_is ∙ ap (λ (f : Found). record start { store = (Rattle.dc_session.specs.Answers.loading start start.owner f).store; files = left.files }) none,
+        subst (λ (p : List ℕ). Finds p start.files Unreadable mid.files) (sym is) (subst (λ (f : Found). Finds path start.files f mid.files) none does.finds),
+        does.new_is ∙ ap (λ (f : Found). record start { store = (loading start start.owner f).store; files = mid.files }) none,
       )
 
 -- ---- all files
@@ -120,19 +130,19 @@ module _ (start : SessionState) where
       let turn : FileTurn = gone.turn in
       let turns : List FileTurn = more.loads.turns in
       record {
-        said = told_line (refusal_of start path turn.found) ++ more.said;
+        said = lines_at start turn ++ more.said;
         loads = record {
           turns = turn ∷ turns;
           rest = more.loads.rest;
           paths_are = (λ i. (sym is ∙ sym gone.path_is) i ∷ (sym (rest_all (first ∷ paths)) ∙ more.loads.paths_are) i);
           course = (gone.taken, subst (λ (s : SessionState). IsFileCourse s turns) gone.left_is more.loads.course);
           ends = subst (λ (s : SessionState). EndsAt later.ended (state_after s turns) more.loads.rest left) gone.left_is more.loads.ends;
-          said_is = (λ i. told_line (refusal_of start (sym gone.path_is i) turn.found) ++ (more.loads.said_is ∙ ap (λ (s : SessionState). lines_of s turns) gone.left_is) i);
+          said_is = ap (λ (l : List ℕ). lines_at start turn ++ l) (more.loads.said_is ∙ ap (λ (s : SessionState). lines_of s turns) gone.left_is);
           status_is =
               ap status_by joins ∙ joined refused later.refused (refuses turn.new turns) (more.loads.status_is ∙ ap (λ (s : SessionState). cond (refuses s turns) 1 0) gone.left_is)
-              ∙ ap (λ (r : Bool). cond (r || refuses turn.new turns) 1 0) (gone.refused_is ∙ ap (λ (p : List ℕ). is_some (refusal_of start p turn.found)) (sym gone.path_is));
+              ∙ ap (λ (r : Bool). cond (r || refuses turn.new turns) 1 0) gone.refused_is;
         };
-        telling = said_then (told_line (refusal_of start path turn.found)) more.said old mid new gone.said more.telling;
+        telling = said_then (lines_at start turn) more.said old mid new gone.said more.telling;
       }
 
 -- ---- the files so far, and those that are left

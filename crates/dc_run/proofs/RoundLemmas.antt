@@ -10,7 +10,7 @@ use Rattle.dc_run.specs.declared.outcome.End.TheVariants.{Done}
 use Rattle.dc_run.specs.declared.outcome.ToolEnd.{ToolEnd}
 use Rattle.dc_run.specs.declared.outcome.ToolEnd.TheVariants as tool
 use Rattle.dc_run.specs.declared.settings.Settings.{Settings}
-use Rattle.dc_run.specs.declared.starting.Roots.{Roots}
+use Rattle.dc_run.specs.Roots.{Roots}
 use Rattle.dc_cli.specs.declared.tool.Tool.{Tool}
 use Rattle.dc_run.specs.Ends.{status_of, end_by, comes_to_save}
 use Rattle.dc_run.specs.Finishing.{Finishes, FinishesWhere}

@@ -25,12 +25,11 @@ use Rattle.dc_run.specs.declared.outcome.End.TheVariants as end
 use Rattle.dc_run.specs.declared.outcome.Outcome.{Outcome}
 use Rattle.dc_run.specs.declared.outcome.ToolAnswer.{ToolAnswer}
 use Rattle.dc_run.specs.declared.settings.Settings.{Settings}
-use Rattle.dc_run.specs.declared.starting.Roots.{Roots}
+use Rattle.dc_run.specs.Roots.{CopyRoots, Roots}
 use Rattle.dc_run.specs.EndLines.{end_line, HasSaid}
 use Rattle.dc_run.specs.Ends.{status_of, tool_end_of, comes_to_save}
 use Rattle.dc_run.specs.Headline.{HasRunTool, HasRunWords}
 use Rattle.dc_run.specs.Jobs.{HasCommunicated, CopiesBy, answers_said, refused_status, shown_text}
-use Rattle.dc_run.specs.declared.starting.CopyRoots.{CopyRoots}
 use Rattle.dc_run.specs.Rounds.{Whole, Round, HasDone}
 use Rattle.dc_teletype.specs.TerminalLines.{TypeAhead}
 use Rattle.dc_run.specs.Saves.{Save, Commits}
@@ -44,17 +43,17 @@ use Rattle.dc_run.proofs.Saying.{none_said}
 -- ---- a session that was served
 
 -- it ends as its link was served, unless memory ran out
-ended_by : (state : SessionState) (layers : List LayerState) (served ended : LinkEnd StepError) → IsFinished state served layers ended → (ended ≡ served) ⊎ (ended ≡ link.OutOfMemory)
-ended_by state layers served ended (inl all) = inl all.1
-ended_by state layers served ended (inr none) = inr none.1
+ended_by : (state : SessionState) (left : Resources) (served ended : LinkEnd StepError) → IsFinished state served left ended → (ended ≡ served) ⊎ (ended ≡ link.OutOfMemory)
+ended_by state left served ended (inl all) = inl all.2
+ended_by state left served ended (inr none) = inr none.2
 
-pub ends_so : (served : LinkEnd StepError) (state : SessionState) (layers : List LayerState) (ended : LinkEnd StepError) → FinishesSession served state layers ended → (ended ≡ served) ⊎ (ended ≡ link.OutOfMemory)
-ends_so link.Done state layers ended finishes = ended_by state layers link.Done ended finishes
-ends_so link.LinkFault state layers ended finishes = ended_by state layers link.LinkFault ended finishes
-ends_so link.TooLong state layers ended finishes = ended_by state layers link.TooLong ended finishes
-ends_so link.OutOfMemory state layers ended finishes = inr finishes.1
-ends_so (link.Broken step.Term) state layers ended finishes = inl finishes.1
-ends_so (link.Broken step.OutOfMemory) state layers ended finishes = inr finishes.1
+pub ends_so : (served : LinkEnd StepError) (state : SessionState) (left : Resources) (ended : LinkEnd StepError) → FinishesSession served state left ended → (ended ≡ served) ⊎ (ended ≡ link.OutOfMemory)
+ends_so link.Done state left ended finishes = ended_by state left link.Done ended finishes
+ends_so link.LinkFault state left ended finishes = ended_by state left link.LinkFault ended finishes
+ends_so link.TooLong state left ended finishes = ended_by state left link.TooLong ended finishes
+ends_so link.OutOfMemory state left ended finishes = inr finishes.2
+ends_so (link.Broken step.Term) state left ended finishes = inl finishes.2
+ends_so (link.Broken step.OutOfMemory) state left ended finishes = inr finishes.2
 
 -- ---- what a tool does
 

@@ -9,7 +9,7 @@ use Rattle.dc_outside.specs.declared.link.LinkError.TheVariants.{Failed, OutOfMe
 use Rattle.dc_outside.specs.declared.link.Piece.{Piece}
 use Rattle.dc_outside.specs.declared.link.Piece.TheVariants.{Sent, Cut}
 use Rattle.dc_outside.specs.Counts.{Counts, Rose}
-use Rattle.dc_outside.specs.LinkCalls.{Sends}
+use Rattle.dc_outside.specs.LinkCalls.{Sends, Tells}
 use Rattle.dc_outside.specs.State.{LinkState}
 use Rattle.dc_outside.specs.Talk.{then_pieces, got, sent}
 use Rattle.dc_serve.proofs.Talks.{then_pieces-nil, then_pieces-then_pieces, got-append}
@@ -99,6 +99,11 @@ none_said old = record {
   in_parts = record { parts = []; text_is = refl; bytes_are = refl };
   whole = inl (refl, refl);
 }
+
+-- a text that is told is said
+pub told_said : (text : List ℕ) (old new : LinkState) → Tells text old new → HasSaid text old new
+told_said [] old new same = subst (HasSaid [] old) (sym same) (none_said old)
+told_said (byte ∷ bytes) old new told = written_said (byte ∷ bytes) old new told.0 told.1
 
 -- three texts, and more
 pub three_said : (a b c : List ℕ) (l0 l1 l2 l3 : LinkState) → HasSaid a l0 l1 → HasSaid b l1 l2 → HasSaid c l2 l3 → HasSaid (a ++ b ++ c) l0 l3

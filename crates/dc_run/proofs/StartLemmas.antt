@@ -1,17 +1,19 @@
 -- What a run does before its tool.
-use Rattle.std.proofs.Common.{◌≡◌, ℕ, zero, suc, take, drop, ◌++◌, Bool, true, false, List, [], ◌∷◌, map as each, length, Option, Some, None, Ok, refl, sym, ap, subst, ◌∙◌, inl, inr, arith, if◌then◌else◌}
-use Rattle.std.specs.Prelude.{Result, Err}
+use Rattle.std.proofs.Common.{◌≡◌, ℕ, zero, suc, take, drop, ◌++◌, Bool, true, false, List, [], ◌∷◌, length, Option, Some, None, Ok, refl, sym, ap, subst, inl, inr, arith, if◌then◌else◌}
+use Rattle.std.specs.Prelude.{Result, Err, option_map, option_to_list}
 use Rattle.std.specs.List.{AllByRecursion}
 use Rattle.dc_outside.specs.Counts.{Counts}
 use Rattle.dc_outside.specs.Disk.{Disk}
 use Rattle.dc_outside.specs.State.{FilesState, FilesView}
-use Rattle.dc_conf.specs.Configuration.{Configuration, IsAnswer}
+use Rattle.dc_conf.specs.Configuration.{AreDisjoint, Configuration, HavePlans, IsAnswer, IsOnce}
 use Rattle.dc_conf.specs.declared.faults.ConfError.{ConfError}
 use Rattle.dc_outside.specs.Disk.{bytes_at}
 use Rattle.dc_outside.specs.Steps.{after_look}
 use Rattle.dc_outside.specs.declared.files.FilesOp.TheVariants.{Read}
 use Rattle.dc_save.specs.Loading.{IsTextAt, text_in}
 use Rattle.dc_conf.specs.Plans.{IsOver, are_disjoint}
+use Rattle.dc_conf.specs.Trees.{shape}
+use Rattle.dc_conf.specs.declared.nodes.Node.{Node}
 use Rattle.dc_conf.specs.declared.plans.Plan.{Plan}
 use Rattle.dc_conf.specs.declared.plans.Resolved.{Resolved}
 use Rattle.dc_conf.specs.declared.spec.LayerSpec.{LayerSpec}
@@ -21,13 +23,14 @@ use Rattle.dc_save.specs.declared.loading.LoadError.{LoadError}
 use Rattle.dc_shelf.specs.Shelves.{LoadsAll, all_patterns, all_set_up}
 use Rattle.dc_cli.specs.declared.tool.Tool.{Tool}
 use Rattle.dc_cli.specs.declared.tool.Tool.TheVariants.{Communicate, LoadTemplate, Run, Show, CopyDb, SetSelections, GetSelections, Drill}
-use Rattle.dc_run.specs.Inside.{AreApartIn, ArePatternsOf, IsResolvedFor, IsUnbuilt, copy_by}
-use Rattle.dc_run.specs.Starting.{AreApart, EndsBefore, ReadsConf, HasLoaded, HasReadConf, HasStarted, IsConfiguration, IsCopyOver, IsFit, are_patterns, conf_read, conf_text, copy_roots, databases_of, has_files, pattern_words, plan_in, roots, source_of}
+use Rattle.dc_run.specs.Inside.{AreApartIn, ArePatternsOf, IsCopyBy, IsResolvedFor, IsUnbuilt, plans_of}
+use Rattle.dc_run.specs.Starting.{AreApart, AreDisjointFor, AreOver, EndsBefore, ReadsConf, HasEachOnce, HasLoaded, HasReadConf, HasStarted, IsConfiguration, IsCopyIn, IsCopyOver, IsFit, IsPlanIn, are_patterns, conf_read, conf_text, databases_of, dest_of, has_files, pattern_words, roots, source_of}
 use Rattle.dc_run.specs.Ends.{end_of_conf}
 use Rattle.dc_run.specs.World.{stock_of}
 use Rattle.dc_run.specs.declared.outcome.End.{End}
-use Rattle.dc_run.specs.declared.starting.CopyRoots.{CopyRoots}
-use Rattle.dc_run.specs.declared.starting.Roots.{Roots}
+use Rattle.dc_run.specs.Roots.{shaped, shaped_copy}
+use Rattle.dc_run.specs.declared.starting.CopyRoots.{CopyRoots as CopyRootsOf}
+use Rattle.dc_run.specs.declared.starting.Roots.{Roots as RootsOf}
 
 -- a vector that was changed as a slice
 pub whole_slice : {A : Type 0} (new old : List A) (count : ℕ) → count ≡ length old → length new ≡ length old → take count (new ++ drop (length new) old) ≡ new
@@ -120,59 +123,102 @@ module _ (used : Tool) (path : List ℕ) (conf : Configuration) (old mid : Files
 
 -- ---- what a tool takes from the configuration
 
--- what is copied by the patterns of a tool
-copied : (used : Tool) (conf : Configuration) (by_name by_owner : Option Sought) → ArePatternsOf used by_name by_owner → copy_by used conf by_name by_owner ≡ copy_roots used conf
-copied (Communicate owner) conf by_name by_owner are = refl
-copied (LoadTemplate owner paths) conf by_name by_owner are = refl
-copied (Run owner frontend priority command) conf by_name by_owner are = refl
-copied (Show database shown) conf by_name by_owner are = refl
-copied (CopyDb copy) conf by_name by_owner are = cc
-copied (SetSelections verbose check unseen) conf by_name by_owner are = refl
-copied GetSelections conf by_name by_owner are = refl
-copied (Drill count) conf by_name by_owner are = refl
-
--- the roots of a tool, by these patterns
-pub record AreRootsOf (used : Tool) (conf : Configuration) (by_name by_owner : Option Sought) (taken : Roots) : Type 0 where
+-- the roots of a tool, of these plans and by these patterns
+pub record AreRootsOf (used : Tool) (conf : Configuration) (plans : List Plan) (by_name by_owner : Option Sought) (taken : RootsOf) : Type 0 where
   pub conf_is : taken.conf ≡ conf
-  pub config_is : taken.config ≡ plan_in used conf (source_of used conf)
-  pub templates_is : taken.templates ≡ plan_in used conf conf.templates
-  pub copy_is : taken.copy ≡ copy_by used conf by_name by_owner
+  pub plans_are : plans_of taken ≡ plans
+  pub copy_is : IsCopyBy used by_name by_owner taken.copy
 
-pub started : (used : Tool) (path : List ℕ) (conf : Configuration) (old files : FilesState) (layers : List LayerState) (by_name by_owner : Option Sought) (taken : Roots) → ArePatternsOf used by_name by_owner → AreRootsOf used conf by_name by_owner taken
-    → HasLoaded used path conf old (stock_of files layers) (Ok tt) → HasStarted used path old (stock_of files layers) taken
-started used path conf old files layers by_name by_owner taken patterns are loaded =
-    let copy_is : taken.copy ≡ copy_roots used conf = are.copy_is ∙ copied used conf by_name by_owner patterns in
-    record {
-      loaded = subst (λ found. HasLoaded used path found old (stock_of files layers) (Ok tt)) (sym are.conf_is) loaded;
-      config_is = subst (λ found. taken.config ≡ plan_in used found (source_of used found)) (sym are.conf_is) are.config_is;
-      templates_is = subst (λ found. taken.templates ≡ plan_in used found found.templates) (sym are.conf_is) are.templates_is;
-      copy_is = subst (λ found. taken.copy ≡ copy_roots used found) (sym are.conf_is) copy_is;
-    }
+-- what is copied into
+abbrev dests : Option CopyRootsOf → List Plan
+dests made = option_to_list (option_map (λ copy. copy.dest) made)
 
-abbrev AllOver : Tool → Configuration → ℕ → Type 0
-AllOver used conf count = AllByRecursion (λ plan. IsOver plan count) (each (plan_in used conf) (roots used conf))
+abbrev HaveDest : Tool → Configuration → Option CopyRootsOf → Type 0
+HaveDest used conf made = HavePlans conf.nodes (databases_of used conf) (dests made) (dest_of used)
 
-all_over : (used : Tool) (conf : Configuration) (resolved : Resolved) (count : ℕ) → IsResolvedFor used conf resolved → count ≡ length resolved.specs → AllOver used conf count
-all_over used conf resolved count is same =
-    subst (λ plans. AllByRecursion (λ plan. IsOver plan count) plans) is.plans_are (subst (λ n. AllByRecursion (λ plan. IsOver plan n) resolved.plans) (sym same) is.over)
+none_copied : (made : Option CopyRootsOf) → made ≡ None → option_map shaped_copy made ≡ None
+none_copied made is = ap (option_map shaped_copy) is
 
-same_disjoint : (one other two more : Plan) → one ≡ two → other ≡ more → are_disjoint two more ≡ true → are_disjoint one other ≡ true
-same_disjoint one other two more first second apart = ap (λ plan. are_disjoint plan other) first ∙ ap (λ plan. are_disjoint two plan) second ∙ apart
+-- what is copied by the patterns of a tool
+copied : (used : Tool) (conf : Configuration) (by_name by_owner : Option Sought) (made : Option CopyRootsOf) → ArePatternsOf used by_name by_owner → IsCopyBy used by_name by_owner made
+    → HaveDest used conf made → IsCopyIn used conf (option_map shaped_copy made)
+copied (Communicate owner) conf by_name by_owner made are is have = none_copied made is
+copied (LoadTemplate owner paths) conf by_name by_owner made are is have = none_copied made is
+copied (Run owner frontend priority command) conf by_name by_owner made are is have = none_copied made is
+copied (Show database shown) conf by_name by_owner made are is have = none_copied made is
+copied (CopyDb copy) conf by_name by_owner made are is have =
+    subst (λ (m : Option CopyRootsOf). HaveDest (CopyDb copy) conf m → IsCopyIn (CopyDb copy) conf (option_map shaped_copy m)) (sym is.1)
+    (λ there. record { dest = there.0; by_name = are.0; by_owner = are.1 }) have
+copied (SetSelections verbose check unseen) conf by_name by_owner made are is have = none_copied made is
+copied GetSelections conf by_name by_owner made are is have = none_copied made is
+copied (Drill count) conf by_name by_owner made are is have = none_copied made is
 
-apart_by : (used : Tool) (conf : Configuration) (by_name by_owner : Option Sought) (taken : Roots) (count : ℕ) → AreRootsOf used conf by_name by_owner taken → AllOver used conf count
-    → AreApartIn used (each (plan_in used conf) (roots used conf)) → AreApart used taken count
-apart_by (Communicate owner) conf by_name by_owner taken count are over apart = same_disjoint _ _ _ _ are.config_is are.templates_is apart
-apart_by (LoadTemplate owner paths) conf by_name by_owner taken count are over apart = same_disjoint _ _ _ _ are.config_is are.templates_is apart
-apart_by (Run owner frontend priority command) conf by_name by_owner taken count are over apart = same_disjoint _ _ _ _ are.config_is are.templates_is apart
-apart_by (Show database shown) conf by_name by_owner taken count are over apart = tt
-apart_by (CopyDb copy) conf by_name by_owner taken count are over apart =
-    subst (λ (made : Option CopyRoots). IsCopyOver made taken.config count) (sym are.copy_is)
-    (over.1.1.0, ap (λ plan. are_disjoint plan (plan_in (CopyDb copy) conf copy.dest.word)) are.config_is ∙ apart)
-apart_by (SetSelections verbose check unseen) conf by_name by_owner taken count are over apart = same_disjoint _ _ _ _ are.config_is are.templates_is apart
-apart_by GetSelections conf by_name by_owner taken count are over apart = same_disjoint _ _ _ _ are.config_is are.templates_is apart
-apart_by (Drill questions) conf by_name by_owner taken count are over apart = same_disjoint _ _ _ _ are.config_is are.templates_is apart
+copy_once : (made : Option CopyRootsOf) → AllByRecursion IsOnce (dests made) → AllByRecursion HasEachOnce (option_to_list (option_map (λ copy. copy.dest) (option_map shaped_copy made)))
+copy_once None once = tt
+copy_once (Some copy) once = once
 
-pub apart_used : (used : Tool) (conf : Configuration) (resolved : Resolved) (by_name by_owner : Option Sought) (taken : Roots) (count : ℕ) → AreRootsOf used conf by_name by_owner taken → IsResolvedFor used conf resolved
-    → count ≡ length resolved.specs → AreApart used taken count
-apart_used used conf resolved by_name by_owner taken count are is same =
-    apart_by used conf by_name by_owner taken count are (all_over used conf resolved count is same) (subst (AreApartIn used) is.plans_are is.apart)
+-- the plans of questions and of templates alone
+two_apart : (config templates : Plan) (made : Option CopyRootsOf) → made ≡ None → AreDisjoint (config ∷ templates ∷ dests made) → are_disjoint (shape config) (shape templates) ≡ true
+two_apart config templates made none apart = subst (λ (m : Option CopyRootsOf). AreDisjoint (config ∷ templates ∷ dests m)) none apart
+
+apart_by : (used : Tool) (by_name by_owner : Option Sought) (taken : RootsOf) (count : ℕ) → IsCopyBy used by_name by_owner taken.copy → AllByRecursion (λ plan. IsOver (shape plan) count) (plans_of taken)
+    → AreApartIn used (plans_of taken) → AreApart used (shaped taken) count
+apart_by (Communicate owner) by_name by_owner taken count is over apart = two_apart taken.config taken.templates taken.copy is apart
+apart_by (LoadTemplate owner paths) by_name by_owner taken count is over apart = two_apart taken.config taken.templates taken.copy is apart
+apart_by (Run owner frontend priority command) by_name by_owner taken count is over apart = two_apart taken.config taken.templates taken.copy is apart
+apart_by (Show database shown) by_name by_owner taken count is over apart = tt
+apart_by (CopyDb copy) by_name by_owner taken count is over apart =
+    subst (λ (m : Option CopyRootsOf). AllByRecursion (λ plan. IsOver (shape plan) count) (dests m) → AreApartIn (CopyDb copy) (taken.config ∷ taken.templates ∷ dests m)
+    → IsCopyOver (option_map shaped_copy m) (shape taken.config) count) (sym is.1)
+    (λ more too. (more.0, too)) over.1.1 apart
+apart_by (SetSelections verbose check unseen) by_name by_owner taken count is over apart = two_apart taken.config taken.templates taken.copy is apart
+apart_by GetSelections by_name by_owner taken count is over apart = two_apart taken.config taken.templates taken.copy is apart
+apart_by (Drill questions) by_name by_owner taken count is over apart = two_apart taken.config taken.templates taken.copy is apart
+
+disjoint_for : (used : Tool) (taken : RootsOf) (count : ℕ) → AreApart used (shaped taken) count → AreDisjointFor used (shaped taken)
+disjoint_for (Communicate owner) taken count apart = apart
+disjoint_for (LoadTemplate owner paths) taken count apart = apart
+disjoint_for (Run owner frontend priority command) taken count apart = apart
+disjoint_for (Show database shown) taken count apart = tt
+disjoint_for (CopyDb copy) taken count apart = tt
+disjoint_for (SetSelections verbose check unseen) taken count apart = apart
+disjoint_for GetSelections taken count apart = apart
+disjoint_for (Drill questions) taken count apart = apart
+
+module _ (used : Tool) (conf : Configuration) (resolved : Resolved) (by_name by_owner : Option Sought) (taken : RootsOf) (are : AreRootsOf used conf resolved.plans by_name by_owner taken) (is : IsResolvedFor used conf resolved) where
+  -- of the plans of the roots what is of all that were resolved
+  of_taken : (P : List Plan → Type 0) → P resolved.plans → P (plans_of taken)
+  of_taken P given = subst P (sym are.plans_are) given
+
+  have : HavePlans conf.nodes (databases_of used conf) (plans_of taken) (roots used conf)
+  have = of_taken (λ plans. HavePlans conf.nodes (databases_of used conf) plans (roots used conf)) is.plans_are
+
+  all_over : (count : ℕ) → count ≡ length resolved.specs → AllByRecursion (λ plan. IsOver (shape plan) count) (plans_of taken)
+  all_over count same =
+      of_taken (AllByRecursion (λ plan. IsOver (shape plan) count)) (subst (λ n. AllByRecursion (λ plan. IsOver (shape plan) n) resolved.plans) (sym same) is.over)
+
+  pub over_used : (count : ℕ) → count ≡ length resolved.specs → AreOver (shaped taken) count
+  over_used count same = let all = all_over count same in record { config = all.0; templates = all.1.0 }
+
+  pub apart_used : (count : ℕ) → count ≡ length resolved.specs → AreApart used (shaped taken) count
+  apart_used count same = apart_by used by_name by_owner taken count are.copy_is (all_over count same) (of_taken (AreApartIn used) is.apart)
+
+  pub started : (path : List ℕ) (old files : FilesState) (layers : List LayerState) → ArePatternsOf used by_name by_owner
+      → HasLoaded used path conf old (stock_of files layers) (Ok tt) → HasStarted used path old (stock_of files layers) (shaped taken)
+  started path old files layers patterns loaded =
+      let once = of_taken (AllByRecursion IsOnce) is.once in
+      record {
+        loaded = subst (λ found. HasLoaded used path found old (stock_of files layers) (Ok tt)) (sym are.conf_is) loaded;
+        config_is = subst (λ found. IsPlanIn used found (shape taken.config) (source_of used found)) (sym are.conf_is) have.0;
+        templates_is = subst (λ found. IsPlanIn used found (shape taken.templates) found.templates) (sym are.conf_is) have.1.0;
+        copy_is = subst (λ found. IsCopyIn used found (option_map shaped_copy taken.copy)) (sym are.conf_is) (copied used conf by_name by_owner taken.copy patterns are.copy_is have.1.1);
+        once = (once.0, (once.1.0, copy_once taken.copy once.1.1));
+        apart = disjoint_for used taken (length resolved.specs) (apart_used (length resolved.specs) refl);
+      }
+
+-- there are as many plans as names
+pub as_many : (nodes : List Node) (specs : List LayerSpec) (plans : List Plan) (names : List (List ℕ)) → HavePlans nodes specs plans names → length plans ≡ length names
+as_many nodes specs [] [] have = refl
+as_many nodes specs [] (name ∷ names) have = ap length (sym have)
+as_many nodes specs (plan ∷ plans) [] have = absurd have
+as_many nodes specs (plan ∷ plans) (name ∷ names) have = let rest = as_many nodes specs plans names have.1 in omega (arith, rest)

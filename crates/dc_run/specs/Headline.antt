@@ -4,7 +4,7 @@ use Rattle.std.specs.Prelude.{◌≡◌, ◌⊎◌, ℕ, List, []}
 use Rattle.dc_run.specs.declared.outcome.End.TheVariants as end
 use Rattle.dc_run.specs.declared.outcome.Outcome.{Outcome}
 use Rattle.dc_run.specs.declared.settings.Settings.{Settings}
-use Rattle.dc_run.specs.declared.starting.Roots.{Roots}
+use Rattle.dc_run.specs.Roots.{Roots}
 use Rattle.dc_cli.specs.Tools.{Names, AreRefusedAt}
 use Rattle.dc_cli.specs.declared.tool.Tool.{Tool}
 use Rattle.dc_run.specs.Crashes.{KeepsDatabases}

@@ -1,11 +1,15 @@
 -- What the inner functions of a run promise. No public clause cites these.
-use Rattle.std.specs.Prelude.{◌≡◌, ◌⊎◌, ℕ, ◌==◌, nat_lt, Bool, true, false, List, [], ◌∷◌, ◌++◌, ◌<◌, ◌≤◌, length, map as each, Option, Some, None, is_some, option_map, Result, Ok, Err, codes, decimal, if◌then◌else◌}
+use Rattle.std.specs.Prelude.{◌≡◌, ◌⊎◌, ℕ, ◌==◌, nat_lt, Bool, true, false, List, [], ◌∷◌, ◌++◌, ◌<◌, ◌≤◌, length, Option, Some, None, is_some, option_map, option_to_list, Result, Ok, Err, codes, decimal, if◌then◌else◌}
 use Rattle.std.specs.Option.{option_map_or}
 use Rattle.std.specs.List.{AllByRecursion, flat_map}
-use Rattle.dc_conf.specs.Configuration.{AreDisjoint, Configuration}
+use Rattle.dc_conf.specs.Configuration.{AreDisjoint, Configuration, HavePlans, IsOnce}
 use Rattle.dc_conf.specs.Plans.{IsOver, are_disjoint}
+use Rattle.dc_conf.specs.Trees.{shape}
 use Rattle.dc_conf.specs.declared.plans.Plan.{Plan}
 use Rattle.dc_conf.specs.declared.plans.Resolved.{Resolved}
+use Rattle.dc_conf.specs.declared.spec.LayerSort.TheVariants.{File, Tree as InTree, Pack}
+use Rattle.dc_conf.specs.declared.spec.LayerSpec.{LayerSpec}
+use Rattle.dc_shelf.specs.Shelves.{count_of}
 use Rattle.dc_layer.specs.Patterns.{Sought}
 use Rattle.dc_layer.specs.declared.pattern.PatternError.{PatternError}
 use Rattle.dc_store.specs.StoreLaws.{AreSameButAll}
@@ -32,7 +36,8 @@ use Rattle.dc_run.specs.declared.serving.RunAsking.{RunAsking}
 use Rattle.dc_cli.specs.declared.tool.Tool.{Tool}
 use Rattle.dc_cli.specs.declared.tool.Tool.TheVariants.{Run, Show, CopyDb}
 use Rattle.dc_cli.specs.declared.tool.PlacedWord.{PlacedWord}
-use Rattle.dc_run.specs.Jobs.{Copies, Prints, PrintsMade, TellsUnsaid, told_status, refusal_lines, refused_status, selections_end}
+use Rattle.dc_tools.specs.declared.report.CopyReport.{CopyReport}
+use Rattle.dc_run.specs.Jobs.{Copies, Prints, PrintsMade, TellsUnsaid, refused_status, selections_end}
 use Rattle.dc_drill.specs.Drilling.{Drills}
 use Rattle.dc_dump.specs.declared.saying.Said.{Said}
 use Rattle.dc_preseed.specs.Selecting.{HasSelected, selections_over}
@@ -42,15 +47,16 @@ use Rattle.dc_frontend.specs.declared.frontend.Frontend.TheVariants.{Noninteract
 use Rattle.dc_session.specs.SessionState.{TerminalState}
 use Rattle.dc_run.specs.declared.settings.Settings.{Settings}
 use Rattle.dc_run.specs.declared.outcome.ToolEnd.TheVariants as tool
-use Rattle.dc_run.specs.Starting.{IsRefusedFor, chosen, session_at, are_patterns, databases_of, plan_in, roots, sought, wrong_database}
+use Rattle.dc_run.specs.Starting.{IsRefusedFor, IsWrongWord, chosen, session_at, are_patterns, databases_of, roots, sought}
 use Rattle.dc_run.specs.declared.outcome.End.{End}
 use Rattle.dc_run.specs.declared.outcome.End.TheVariants as end
 use Rattle.dc_run.specs.declared.outcome.PatternAt.TheVariants.{Word}
-use Rattle.dc_run.specs.declared.starting.CopyRoots.{CopyRoots}
-use Rattle.dc_run.specs.declared.starting.Roots.{Roots}
+use Rattle.dc_run.specs.Roots.{CopyRoots, Roots}
+use Rattle.dc_run.specs.declared.starting.CopyRoots.{CopyRoots as CopyRootsOf}
+use Rattle.dc_run.specs.declared.starting.Roots.{Roots as RootsOf}
 use Rattle.dc_run.specs.EndLines.{HasSaid}
 use Rattle.dc_run.specs.Ends.{end_of_pattern, tool_end_of}
-use Rattle.dc_run.specs.TemplateLoading.{FileTurn, IsFileTurn, refusal_of, EndsAt, HasLoadedFiles}
+use Rattle.dc_run.specs.TemplateLoading.{FileTurn, IsFileTurn, refusal_of, lines_at, EndsAt, HasLoadedFiles}
 
 -- ---- one template file
 
@@ -71,14 +77,14 @@ is_unread _ = false
 abbrev pub told_line : Option (List ℕ) → List ℕ
 told_line text = option_map_or (λ line. line ++ newline ∷ []) text []
 
--- the file was read, and its templates were loaded, or it was told why not
+-- the file was read, and its templates were loaded, or it was told why not, and behind it what the layers told
 pub record GoesThrough (start : SessionState) (path : List ℕ) (old new : LinkState) (refused : Bool) (left : SessionState) : Type 0 where
   pub turn : FileTurn
   pub path_is : turn.path ≡ path
   pub left_is : left ≡ turn.new
   pub taken : IsFileTurn start turn
-  pub refused_is : refused ≡ is_some (refusal_of start path turn.found)
-  pub said : HasSaid (told_line (refusal_of start path turn.found)) old new
+  pub refused_is : refused ≡ is_some (refusal_of start turn.path turn.found)
+  pub said : HasSaid (lines_at start turn) old new
 
 -- or the tool ended at it, and nothing was told
 abbrev pub LoadsOne : SessionState → List ℕ → LinkState → LinkState → Result Bool ToolEnd → SessionState → Type 0
@@ -145,22 +151,29 @@ HasCommand used = Unit {0}
 -- the destination of a copy shares no database with its source, and neither does that of questions with that of templates, where these are used
 abbrev pub AreApartIn : Tool → List Plan → Type 0
 AreApartIn (Show database shown) plans = Unit {0}
-AreApartIn (CopyDb copy) (source ∷ templates ∷ dest ∷ []) = are_disjoint source dest ≡ true
+AreApartIn (CopyDb copy) (source ∷ templates ∷ dest ∷ []) = are_disjoint (shape source) (shape dest) ≡ true
 AreApartIn (CopyDb copy) plans = ⊥
 AreApartIn used plans = AreDisjoint plans
+
+-- at most sixteen databases are of each sort
+pub record AreFew (specs : List LayerSpec) : Type 0 where
+  pub files : count_of File specs ≤ 16
+  pub trees : count_of InTree specs ≤ 16
+  pub packs : count_of Pack specs ≤ 16
 
 -- the databases that a tool reaches, and the plan of each of its roots
 pub record IsResolvedFor (used : Tool) (conf : Configuration) (resolved : Resolved) : Type 0 where
   pub specs_are : resolved.specs ≡ databases_of used conf
-  pub plans_are : resolved.plans ≡ each (plan_in used conf) (roots used conf)
-  pub over : AllByRecursion (λ plan. IsOver plan (length resolved.specs)) resolved.plans
-  pub few : length resolved.specs ≤ 16
-  pub right : wrong_database used conf ≡ None
+  pub plans_are : HavePlans conf.nodes (databases_of used conf) resolved.plans (roots used conf)
+  pub over : AllByRecursion (λ plan. IsOver (shape plan) (length resolved.specs)) resolved.plans
+  pub once : AllByRecursion IsOnce resolved.plans
+  pub few : AreFew resolved.specs
+  pub right : IsWrongWord used conf None
   pub apart : AreApartIn used resolved.plans
 
 -- a word names a wrong database, or memory ran out
 abbrev pub IsUnresolvedFor : Tool → Configuration → End → Type 0
-IsUnresolvedFor used conf how = (how ≡ end.OutOfMemory) ⊎ ((word : ℕ) × (how ≡ end.Usage word) × (wrong_database used conf ≡ Some word))
+IsUnresolvedFor used conf how = (how ≡ end.OutOfMemory) ⊎ ((word : ℕ) × (how ≡ end.Usage word) × IsWrongWord used conf (Some word))
 
 -- the end of a run whose root at this place is unknown: one of the configuration itself is none
 abbrev pub unknown_end : Tool → ℕ → End
@@ -170,7 +183,7 @@ unknown_end used root = end.OutOfMemory
 
 -- the place of the destination, where its plan shares a database with that of the source
 abbrev pub overlap_in : Tool → List Plan → Option ℕ
-overlap_in (CopyDb copy) (source ∷ templates ∷ dest ∷ []) = if are_disjoint source dest then None else Some copy.dest.place
+overlap_in (CopyDb copy) (source ∷ templates ∷ dest ∷ []) = if are_disjoint (shape source) (shape dest) then None else Some copy.dest.place
 overlap_in used plans = None
 
 -- ---- the patterns of a tool
@@ -199,10 +212,14 @@ abbrev pub ArePatternsOf : Tool → Option Sought → Option Sought → Type 0
 ArePatternsOf (CopyDb copy) by_name by_owner = (by_name ≡ option_map sought copy.by_name) × (by_owner ≡ option_map sought copy.by_owner)
 ArePatternsOf used by_name by_owner = Unit {0}
 
--- a copy by these patterns, of a tool that copies
-abbrev pub copy_by : Tool → Configuration → Option Sought → Option Sought → Option CopyRoots
-copy_by (CopyDb copy) conf by_name by_owner = Some (record { dest = plan_in (CopyDb copy) conf copy.dest.word; by_name = by_name; by_owner = by_owner })
-copy_by used conf by_name by_owner = None
+-- a tool that copies does it by these patterns, and no other copies
+abbrev pub IsCopyBy : Tool → Option Sought → Option Sought → Option CopyRootsOf → Type 0
+IsCopyBy (CopyDb copy) by_name by_owner made = (dest : Plan) × (made ≡ Some (record { dest = dest; by_name = by_name; by_owner = by_owner }))
+IsCopyBy used by_name by_owner made = made ≡ None
+
+-- the plans of the roots
+abbrev pub plans_of : RootsOf → List Plan
+plans_of roots = roots.config ∷ roots.templates ∷ option_to_list (option_map (λ copy. copy.dest) roots.copy)
 
 -- ---- show and copydb
 
@@ -225,7 +242,7 @@ pub record HasPrinted (text : List ℕ) (old new : LinkState) (before : ℕ) (an
 abbrev pub copying_by : Roots → CopyRoots → Copying
 copying_by roots copy = record { source = roots.config; dest = copy.dest; templates = roots.templates; by_name = copy.by_name; by_owner = copy.by_owner }
 
--- the items were copied over these layers, and what was refused is told
+-- the items were copied over these layers, and what is reported of them is told
 pub record HasCopiedOver (copy : Copying) (layers left : List LayerState) (old new : LinkState) (before : ℕ) (answer : ToolAnswer) : Type 0 where
   pub said : List ℕ
   pub copies : Copies copy layers left answer.ended said answer.status
@@ -238,10 +255,11 @@ abbrev pub CopiesOver : Roots → List LayerState → List LayerState → LinkSt
 CopiesOver roots layers left old new before answer =
     (copy : CopyRoots) × (roots.copy ≡ Some copy) × HasCopiedOver (copying_by roots copy) layers left old new before answer
 
--- the answer of a copy that refused these items, each of which is told, or that ran out of memory
-abbrev pub TellsCopied : {E : Type 0} → Result (List (List ℕ)) E → LinkState → LinkState → ℕ → ToolAnswer → Type 0
-TellsCopied (Ok refused) old new before answer =
-    HasSaid (refusal_lines refused) old new × (answer ≡ record { ended = tool.Done; is_started = false; last_code = before; status = told_status refused })
+-- the answer of a copy whose report was told, or that ran out of memory
+abbrev pub TellsCopied : {E : Type 0} → Result CopyReport E → LinkState → LinkState → ℕ → ToolAnswer → Type 0
+TellsCopied (Ok report) old new before answer =
+    HasSaid report.lines old new
+    × (answer ≡ record { ended = tool.Done; is_started = false; last_code = before; status = refused_status report.refused })
 TellsCopied (Err error) old new before answer = (new ≡ old) × (answer ≡ record { ended = tool.OutOfMemory; is_started = false; last_code = before; status = 0 })
 
 -- ---- set-selections, get-selections and drill

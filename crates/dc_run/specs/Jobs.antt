@@ -9,6 +9,7 @@ use Rattle.dc_question.specs.Questions.{QuestionContext}
 use Rattle.dc_store.specs.Plans.{StoreState, names, stored}
 use Rattle.dc_store.specs.StoreLaws.{AreSameButAll}
 use Rattle.dc_tools.specs.Copying.{Copying, IsCopied}
+use Rattle.dc_tools.specs.declared.report.CopyReport.{CopyReport}
 use Rattle.dc_tools.specs.Listing.{owners_text_of, databases_text_of}
 use Rattle.dc_tools.specs.Showing.{owner_text}
 use Rattle.dc_serve.specs.declared.outcome.LinkEnd.{LinkEnd}
@@ -30,8 +31,8 @@ use Rattle.dc_cli.specs.declared.tool.Shown.{Shown}
 use Rattle.dc_cli.specs.declared.tool.Shown.TheVariants.{Questions, Owners, Databases}
 use Rattle.dc_run.specs.declared.outcome.ToolEnd.{ToolEnd}
 use Rattle.dc_run.specs.declared.outcome.ToolEnd.TheVariants as tool
-use Rattle.dc_run.specs.declared.starting.CopyRoots.{CopyRoots}
-use Rattle.dc_run.specs.declared.starting.Roots.{Roots}
+use Rattle.dc_run.specs.Roots.{CopyRoots}
+use Rattle.dc_run.specs.Roots.{Roots}
 use Rattle.dc_run.specs.Ends.{tool_end_of}
 use Rattle.dc_run.specs.Running.{HasRunProgram}
 use Rattle.dc_run.specs.TemplateLoading.{HasLoadedFiles}
@@ -89,24 +90,15 @@ abbrev pub copying : SessionState → CopyRoots → Copying
 copying start copy =
     record { source = start.at.config; dest = copy.dest; templates = start.at.templates; by_name = copy.by_name; by_owner = copy.by_owner }
 
--- a line for each name, with these words behind it
-abbrev pub named_lines : List ℕ → List (List ℕ) → List ℕ
-named_lines words names = flat_map (λ name. name ++ words) names
+-- the status is 1 where something was refused
+abbrev pub refused_status : Bool → ℕ
+refused_status refused = if refused then 1 else 0
 
--- a line for each item that was refused
-abbrev pub refusal_lines : List (List ℕ) → List ℕ
-refusal_lines names = named_lines (codes " can't be changed\n") names
-
--- the status is 1 where an item was told of
-abbrev pub told_status : List (List ℕ) → ℕ
-told_status [] = 0
-told_status (name ∷ names) = 1
-
--- The items were copied, and it was told which were refused; or memory ran out.
+-- The items were copied, and what is reported of them, item by item, was told; or memory ran out.
 abbrev pub Copies : Copying → List LayerState → List LayerState → ToolEnd → List ℕ → ℕ → Type 0
 Copies copy old new tool.Done said status =
-    (refused : List (List ℕ)) × (store : StoreState) × IsCopied copy (stored old []) store refused × (new ≡ store.layers)
-    × (said ≡ refusal_lines refused) × (status ≡ told_status refused)
+    (report : CopyReport) × (store : StoreState) × IsCopied copy (stored old []) store report × (new ≡ store.layers)
+    × (said ≡ report.lines) × (status ≡ refused_status report.refused)
 Copies copy old new tool.OutOfMemory said status = said ≡ []
 Copies copy old new ended said status = ⊥
 
@@ -135,10 +127,6 @@ selections_end link.TooLong = tool.TooLong
 selections_end link.OutOfMemory = tool.OutOfMemory
 selections_end (link.Broken error) = tool.OutOfMemory
 
--- the status is 1 where a line was refused
-abbrev pub refused_status : Bool → ℕ
-refused_status refused = if refused then 1 else 0
-
 -- the selections that came on the link were taken so, and told as they were
 pub record HasTaken (choices : Choices) (start : SessionState) (old new : LinkState) (before : ℕ) (answer : ToolAnswer) (left : Resources) : Type 0 where
   pub state : SelectorState
@@ -154,6 +142,15 @@ pub record HasTaken (choices : Choices) (start : SessionState) (old new : LinkSt
 -- what is said of all questions of these layers
 abbrev pub answers_said : List LayerState → QuestionContext → Said
 answers_said layers at = said_of layers at (names layers at.config)
+
+-- a line for each name, with these words behind it
+abbrev pub named_lines : List ℕ → List (List ℕ) → List ℕ
+named_lines words names = flat_map (λ name. name ++ words) names
+
+-- the status is 1 where a name was told
+abbrev pub told_status : List (List ℕ) → ℕ
+told_status [] = 0
+told_status (name ∷ names) = 1
 
 -- a line for each question that can't be said
 abbrev pub unsaid_lines : List (List ℕ) → List ℕ

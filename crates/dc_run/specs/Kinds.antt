@@ -1,7 +1,7 @@
 -- The words of a configuration's faults, as they are told.
 use Rattle.std.specs.Prelude.{ℕ, List, codes}
 use Rattle.dc_conf.specs.declared.faults.ConfKind.{ConfKind}
-use Rattle.dc_conf.specs.declared.faults.ConfKind.TheVariants.{NoColon, Twice, TooMany, NoConfig, NoTemplates, NoName, NoDriver, UnknownDriver, MissingField, BadValue, SamePlace, UnknownDatabase, Nested, SharedDatabase}
+use Rattle.dc_conf.specs.declared.faults.ConfKind.TheVariants.{NoColon, Twice, TooMany, NoConfig, NoTemplates, NoName, NoDriver, UnknownDriver, MissingField, BadValue, SamePlace, UnknownDatabase, Cycle, SharedDatabase}
 
 abbrev pub kind_word : ConfKind → List ℕ
 kind_word NoColon = codes "NoColon"
@@ -16,5 +16,5 @@ kind_word MissingField = codes "MissingField"
 kind_word BadValue = codes "BadValue"
 kind_word SamePlace = codes "SamePlace"
 kind_word UnknownDatabase = codes "UnknownDatabase"
-kind_word Nested = codes "Nested"
+kind_word Cycle = codes "Cycle"
 kind_word SharedDatabase = codes "SharedDatabase"

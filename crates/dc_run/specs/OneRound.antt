@@ -5,7 +5,7 @@ use Rattle.dc_run.specs.declared.outcome.End.{End}
 use Rattle.dc_run.specs.declared.outcome.Outcome.{Outcome}
 use Rattle.dc_run.specs.declared.outcome.ToolAnswer.{ToolAnswer}
 use Rattle.dc_run.specs.declared.settings.Settings.{Settings}
-use Rattle.dc_run.specs.declared.starting.Roots.{Roots}
+use Rattle.dc_run.specs.Roots.{Roots}
 use Rattle.dc_cli.specs.declared.tool.Tool.{Tool}
 use Rattle.dc_run.specs.EndLines.{end_line, HasSaid}
 use Rattle.dc_run.specs.Ends.{status_of}

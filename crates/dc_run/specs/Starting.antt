@@ -2,17 +2,17 @@
 -- database that its roots reach is set up, and each is loaded.
 use Rattle.std.specs.Prelude.{◌≡◌, ◌⊎◌, ℕ, Bool, nat_le, List, [], ◌∷◌, ◌++◌, true, false, not, Option, Some, None, option_and_then, option_map, option_to_list, Result, Ok, Err, codes, if◌then◌else◌}
 use Rattle.std.specs.Option.{option_or, option_map_or}
-use Rattle.std.specs.List.{find, flat_map, list_all}
+use Rattle.std.specs.List.{AllByRecursion, find, flat_map, list_all}
 use Rattle.dc_text.specs.Ascii.{newline}
 use Rattle.dc_outside.specs.Disk.{Disk}
 use Rattle.dc_outside.specs.Counts.{FaultRose, RefusalRose}
 use Rattle.dc_outside.specs.Steps.{after_look}
 use Rattle.dc_outside.specs.State.{FilesView, LinkState}
 use Rattle.dc_outside.specs.declared.files.FilesOp.TheVariants.{Read}
-use Rattle.dc_conf.specs.Configuration.{Configuration, IsAnswer, is_among, reached, plan_of}
-use Rattle.dc_conf.specs.Plans.{IsOver, are_disjoint}
+use Rattle.dc_conf.specs.Configuration.{Configuration, IsAnswer, IsPlan, is_among, reached}
+use Rattle.dc_conf.specs.Plans.{IsOver, all_places, are_disjoint, stand_once}
+use Rattle.dc_conf.specs.Trees.{Tree}
 use Rattle.dc_conf.specs.declared.faults.ConfError.{ConfError}
-use Rattle.dc_conf.specs.declared.plans.Plan.{Plan}
 use Rattle.dc_conf.specs.declared.spec.LayerSpec.{LayerSpec}
 use Rattle.dc_layer.specs.Patterns.{Sought, is_pattern, is_plain}
 use Rattle.dc_layer.specs.declared.pattern.PatternError.{PatternError}
@@ -32,9 +32,9 @@ use Rattle.dc_shelf.specs.declared.shelf.NotSetUp.{NotSetUp}
 use Rattle.dc_run.specs.declared.outcome.End.{End}
 use Rattle.dc_run.specs.declared.outcome.End.TheVariants as end
 use Rattle.dc_run.specs.declared.settings.Settings.{Settings}
-use Rattle.dc_run.specs.declared.starting.Roots.{Roots}
 use Rattle.dc_run.specs.declared.outcome.PatternAt.TheVariants.{Word}
-use Rattle.dc_run.specs.declared.starting.CopyRoots.{CopyRoots}
+use Rattle.dc_run.specs.Roots.{CopyRoots, Roots, plans_in, shaped}
+use Rattle.dc_run.specs.declared.starting.Roots.{Roots as RootsOf}
 use Rattle.dc_run.specs.Ends.{end_of_conf, end_of_pattern, end_of_patterns, end_of_load}
 use Rattle.dc_run.specs.World.{RunState, Stock}
 use Rattle.dc_cli.specs.Tools.{owner_of}
@@ -104,9 +104,9 @@ abbrev pub keeps_changes : Tool → Bool
 keeps_changes (SetSelections verbose check unseen) = not check
 keeps_changes used = has_files used
 
--- the plan of one of them
-abbrev pub plan_in : Tool → Configuration → List ℕ → Plan
-plan_in used conf name = plan_of conf (databases_of used conf) name
+-- a plan is that of one of them
+abbrev pub IsPlanIn : Tool → Configuration → Tree → List ℕ → Type 0
+IsPlanIn used conf plan name = IsPlan conf.nodes (databases_of used conf) plan name
 
 -- ---- the words that name databases
 
@@ -117,17 +117,26 @@ is_known conf database = is_among conf.databases database.word
 abbrev pub first_unknown : Configuration → List PlacedWord → Option ℕ
 first_unknown conf words = option_map (λ database. database.place) (find (λ database. not (is_known conf database)) words)
 
--- the destination shares a database with the source
-abbrev pub overlaps : Tool → Configuration → CopyWords → Bool
-overlaps used conf copy = not (are_disjoint (plan_in used conf copy.source.word) (plan_in used conf copy.dest.word))
+-- whether the destination shares no database with the source
+pub record AreDisjointIn (conf : Configuration) (copy : CopyWords) (apart : Bool) : Type 0 where
+  pub source : Tree
+  pub dest : Tree
+  pub source_is : IsPlanIn (CopyDb copy) conf source copy.source.word
+  pub dest_is : IsPlanIn (CopyDb copy) conf dest copy.dest.word
+  pub apart_is : are_disjoint source dest ≡ apart
 
--- The place of the first word that names a wrong database: one that the configuration doesn't have, or a destination that shares one with the
--- source.
-abbrev pub wrong_database : Tool → Configuration → Option ℕ
-wrong_database (Show database shown) conf = first_unknown conf (option_to_list database)
-wrong_database (CopyDb copy) conf =
-    option_or (first_unknown conf (copy.source ∷ copy.dest ∷ [])) (if overlaps (CopyDb copy) conf copy then Some copy.dest.place else None)
-wrong_database used conf = None
+-- The place of the first word of a copy that names a wrong database, if there is one, by the first that the configuration doesn't have: else a
+-- destination that shares a database with the source is wrong.
+abbrev pub IsWrongCopy : Option ℕ → Configuration → CopyWords → Option ℕ → Type 0
+IsWrongCopy (Some unknown) conf copy word = word ≡ Some unknown
+IsWrongCopy None conf copy None = AreDisjointIn conf copy true
+IsWrongCopy None conf copy (Some word) = (word ≡ copy.dest.place) × AreDisjointIn conf copy false
+
+-- the place of the first word of a tool that names a wrong database, if there is one
+abbrev pub IsWrongWord : Tool → Configuration → Option ℕ → Type 0
+IsWrongWord (Show database shown) conf word = word ≡ first_unknown conf (option_to_list database)
+IsWrongWord (CopyDb copy) conf word = IsWrongCopy (first_unknown conf (copy.source ∷ copy.dest ∷ [])) conf copy word
+IsWrongWord used conf word = word ≡ None
 
 -- ---- the words that are patterns
 
@@ -165,7 +174,7 @@ pub record AreOver (roots : Roots) (count : ℕ) : Type 0 where
   pub templates : IsOver roots.templates count
 
 -- so is the one into which a copy is made, and it shares no layer with the source
-abbrev pub IsCopyOver : Option CopyRoots → Plan → ℕ → Type 0
+abbrev pub IsCopyOver : Option CopyRoots → Tree → ℕ → Type 0
 IsCopyOver None source count = ⊥
 IsCopyOver (Some copy) source count = IsOver copy.dest count × (are_disjoint source copy.dest ≡ true)
 
@@ -256,13 +265,13 @@ pub record IsWrongDatabase (used : Tool) (path : List ℕ) (old new : FilesState
   pub end_is : how ≡ end.Usage word
   pub conf : Configuration
   pub conf_is : IsConfiguration used old.view.disk path conf
-  pub wrong : wrong_database used conf ≡ Some word
+  pub wrong : IsWrongWord used conf (Some word)
   pub read : HasReadConf used path old new
 
 -- the text at the path is this configuration, and it has the databases that the tool's words name
 pub record IsChosen (used : Tool) (disk : Option Disk) (path : List ℕ) (conf : Configuration) : Type 0 where
   pub conf_is : IsConfiguration used disk path conf
-  pub databases : wrong_database used conf ≡ None
+  pub databases : IsWrongWord used conf None
 
 -- a word of the tool is refused as a pattern, and those before it are patterns
 pub record IsWrongPattern (used : Tool) (path : List ℕ) (old new : FilesState) (how : End) : Type 0 where
@@ -316,20 +325,38 @@ EndsBefore used path old new how =
 -- ---- what is done before the tool, by the answer
 
 -- what a copy is made into, and the patterns by which it is chosen
-abbrev pub copy_roots : Tool → Configuration → Option CopyRoots
-copy_roots (CopyDb copy) conf =
-    Some (record { dest = plan_in (CopyDb copy) conf copy.dest.word; by_name = option_map sought copy.by_name; by_owner = option_map sought copy.by_owner })
-copy_roots used conf = None
+pub record IsCopyOf (copy : CopyWords) (conf : Configuration) (made : CopyRoots) : Type 0 where
+  pub dest : IsPlanIn (CopyDb copy) conf made.dest copy.dest.word
+  pub by_name : made.by_name ≡ option_map sought copy.by_name
+  pub by_owner : made.by_owner ≡ option_map sought copy.by_owner
+
+-- the same of the tool that copies, and nothing of any other
+abbrev pub IsCopyIn : Tool → Configuration → Option CopyRoots → Type 0
+IsCopyIn (CopyDb copy) conf None = ⊥
+IsCopyIn (CopyDb copy) conf (Some made) = IsCopyOf copy conf made
+IsCopyIn used conf made = made ≡ None
+
+-- the plans of questions and of templates share no database, where questions are asked or set, or templates loaded
+abbrev pub AreDisjointFor : Tool → Roots → Type 0
+AreDisjointFor (Show database shown) roots = Unit {0}
+AreDisjointFor (CopyDb copy) roots = Unit {0}
+AreDisjointFor used roots = are_disjoint roots.config roots.templates ≡ true
+
+-- each place stands once in the plan
+abbrev pub HasEachOnce : Tree → Type 0
+HasEachOnce plan = stand_once (all_places plan) ≡ true
 
 -- all layers were loaded, and these are the configuration, the plans of the tool's databases, and what it copies by
 pub record HasStarted (used : Tool) (path : List ℕ) (old : FilesState) (new : Stock) (roots : Roots) : Type 0 where
   pub loaded : HasLoaded used path roots.conf old new (Ok tt)
-  pub config_is : roots.config ≡ plan_in used roots.conf (source_of used roots.conf)
-  pub templates_is : roots.templates ≡ plan_in used roots.conf roots.conf.templates
-  pub copy_is : roots.copy ≡ copy_roots used roots.conf
+  pub config_is : IsPlanIn used roots.conf roots.config (source_of used roots.conf)
+  pub templates_is : IsPlanIn used roots.conf roots.templates roots.conf.templates
+  pub copy_is : IsCopyIn used roots.conf roots.copy
+  pub once : AllByRecursion HasEachOnce (plans_in roots)
+  pub apart : AreDisjointFor used roots
 
-abbrev pub Starts : Tool → List ℕ → FilesState → Stock → Result Roots End → Type 0
-Starts used path old new (Ok roots) = HasStarted used path old new roots
+abbrev pub Starts : Tool → List ℕ → FilesState → Stock → Result RootsOf End → Type 0
+Starts used path old new (Ok roots) = HasStarted used path old new (shaped roots)
 Starts used path old new (Err how) = EndsBefore used path old new how
 
 -- what reading the configuration does

@@ -1,10 +1,10 @@
 -- What the tool `loadtemplate` does with its files, one after another (debconf-loadtemplate(1)): the templates of each are loaded, or it is told
--- why not and the next file goes on. A file that can't be read ends the tool.
+-- why not and the next file goes on. What the layers tell of a file is told behind that. A file that can't be read ends the tool.
 use Rattle.std.specs.Prelude.{◌≡◌, ◌≢◌, ◌⊎◌, ℕ, Bool, false, ◌||◌, List, [], ◌∷◌, ◌++◌, Option, Some, None, is_some, Result, Ok, Err, codes, decimal, if◌then◌else◌}
 use Rattle.std.specs.Option.{option_map_or}
 use Rattle.dc_text.specs.Ascii.{newline}
 use Rattle.dc_proto.specs.declared.command.Command.TheVariants.{LoadTemplateFile}
-use Rattle.dc_store.specs.Plans.{StoreState}
+use Rattle.dc_store.specs.Plans.{StoreState, stored}
 use Rattle.dc_question.specs.Ownership.{loaded}
 use Rattle.dc_question.specs.declared.errors.QuestionError.{QuestionError}
 use Rattle.dc_session.specs.Answers.{loading}
@@ -37,11 +37,16 @@ pub record FileTurn : Type 0 where
   pub found : Found
   pub new : SessionState
 
--- the file was read, and its templates were loaded as X_LOADTEMPLATEFILE loads them
+-- the file was read, its templates were loaded as X_LOADTEMPLATEFILE loads them, and what the layers told at that was taken
 pub record IsFileTurn (old : SessionState) (turn : FileTurn) : Type 0 where
   pub finds : Finds turn.path old.files turn.found turn.new.files
   pub readable : turn.found ≢ Unreadable
-  pub new_is : turn.new ≡ record old { store = (loading old old.owner turn.found).store; files = turn.new.files }
+  pub new_is : turn.new ≡ record old { store = stored (loading old old.owner turn.found).store.layers []; files = turn.new.files }
+
+-- what is told of a file: why it is refused, where it is, and behind it what the layers told
+abbrev pub lines_at : SessionState → FileTurn → List ℕ
+lines_at state turn =
+    option_map_or (λ text. text ++ newline ∷ []) (refusal_of state turn.path turn.found) [] ++ (loading state state.owner turn.found).store.told
 
 -- ---- all files
 
@@ -57,10 +62,10 @@ abbrev pub state_after : SessionState → List FileTurn → SessionState
 state_after start [] = start
 state_after start (turn ∷ turns) = state_after turn.new turns
 
--- a line for each file that is refused
+-- what is told of the files, in order
 abbrev pub lines_of : SessionState → List FileTurn → List ℕ
 lines_of start [] = []
-lines_of start (turn ∷ turns) = option_map_or (λ text. text ++ newline ∷ []) (refusal_of start turn.path turn.found) [] ++ lines_of turn.new turns
+lines_of start (turn ∷ turns) = lines_at start turn ++ lines_of turn.new turns
 
 -- one of the files is refused
 abbrev pub refuses : SessionState → List FileTurn → Bool

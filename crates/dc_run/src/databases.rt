@@ -1,14 +1,14 @@
 // The databases on which a tool works, and the words that name them.
 ghost use Rattle.std.specs.Prelude.{◌≡◌, IfOk, IfErr, nat_eq, not};
 ghost use Rattle.std.specs.List.{list_any};
-ghost use Rattle.dc_conf.specs.Plans.{all_places, are_disjoint, places as places_of};
+ghost use Rattle.dc_conf.specs.Plans.{all_places, all_places_of, are_apart_from, are_disjoint};
+ghost use Rattle.dc_conf.specs.Trees.{shape, shapes};
 ghost use Rattle.dc_run.specs.Inside.{IsResolvedFor, IsUnresolvedFor, overlap_in, unknown_end};
 ghost use Rattle.dc_run.specs.Starting.{IsSomeConfiguration, roots as roots_of, source_of};
 
 use crate::outcome::End;
 use dc_cli::Tool;
-use dc_conf::{Base, Conf, Plan, ResolveError, Resolved};
-use dc_store::places;
+use dc_conf::{Conf, Plan, PlanList, ResolveError, Resolved};
 use dc_text::{List, Mem, Text};
 use std::alloc::Global;
 
@@ -94,36 +94,49 @@ fn overlap_at(used: &Tool, plans: &[Plan]) -> Option<usize>
 }
 
 // Whether two plans share a database.
+#[cycle(share)]
 fn share(one: &Plan, other: &Plan) -> bool
-    ensures { result ≡ not (are_disjoint one.now other.now) }
+    ensures { result ≡ not (are_disjoint (shape one.now) (shape other.now)) }
 {
-    is_met(&one.base, other)
-        || match &one.backup {
-            None => false,
-            Some(backup) => is_met(backup, other),
-        }
+    match one {
+        Plan::Leaf(place) => has_place(other, *place),
+        Plan::Stack(plans) => some_share(plans, other),
+        Plan::Backup(first, second) => share(first, other) || share(second, other),
+        Plan::Debug(plan) => share(plan, other),
+    }
 }
 
-// Whether the plan has one of the base's places.
-fn is_met(base: &Base, plan: &Plan) -> bool
-    ensures { result ≡ list_any (λ place. list_any (nat_eq place) (all_places plan.now)) (places_of base.now) }
+// Whether one of the plans shares a database with another plan.
+#[cycle(share)]
+fn some_share(plans: &PlanList, other: &Plan) -> bool
+    ensures { result ≡ not (are_apart_from (all_places_of (shapes plans.now)) (all_places (shape other.now))) }
 {
-    places(base).iter().any(|place| has_place(plan, *place))
+    match plans {
+        PlanList::End => false,
+        PlanList::More(plan, rest) => share(plan, other) || some_share(rest, other),
+    }
 }
 
-// Whether the plan has the place.
+// Whether the plan speaks of the place.
+#[cycle(speak)]
 fn has_place(plan: &Plan, place: usize) -> bool
-    ensures { result ≡ list_any (nat_eq place) (all_places plan.now) }
+    ensures { result ≡ list_any (nat_eq place) (all_places (shape plan.now)) }
 {
-    is_place_of(&plan.base, place)
-        || match &plan.backup {
-            None => false,
-            Some(backup) => is_place_of(backup, place),
-        }
+    match plan {
+        Plan::Leaf(one) => place == *one,
+        Plan::Stack(plans) => some_have_place(plans, place),
+        Plan::Backup(first, second) => has_place(first, place) || has_place(second, place),
+        Plan::Debug(plan) => has_place(plan, place),
+    }
 }
 
-fn is_place_of(base: &Base, place: usize) -> bool
-    ensures { result ≡ list_any (nat_eq place) (places_of base.now) }
+// Whether one of the plans does.
+#[cycle(speak)]
+fn some_have_place(plans: &PlanList, place: usize) -> bool
+    ensures { result ≡ list_any (nat_eq place) (all_places_of (shapes plans.now)) }
 {
-    places(base).iter().any(|one| place == *one)
+    match plans {
+        PlanList::End => false,
+        PlanList::More(plan, rest) => has_place(plan, place) || some_have_place(rest, place),
+    }
 }

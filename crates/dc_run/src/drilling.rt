@@ -3,6 +3,8 @@ ghost use Rattle.std.specs.Prelude.{◌≡◌, length, map as each, true};
 ghost use Rattle.dc_conf.specs.Plans.{are_disjoint};
 ghost use Rattle.dc_run.specs.Inside.{DrillsOver, HasDrilledOver};
 ghost use Rattle.dc_run.specs.Starting.{AreOver};
+ghost use Rattle.dc_conf.specs.Trees.{shape};
+ghost use Rattle.dc_run.specs.Roots.{shaped};
 
 use crate::outcome::{ToolAnswer, ToolEnd};
 use crate::settings::Settings;
@@ -28,9 +30,9 @@ pub fn drill_layers<L: Link>(
     used: &mut Vec<Box<dyn Layer>>,
     last_code: u8,
 ) -> ToolAnswer
-    requires roots { AreOver roots.now (length used.old.items) }
-    requires disjoint { are_disjoint roots.now.config roots.now.templates ≡ true }
-    ensures drilled { HasDrilledOver count roots.now settings.now (each state used.old.items) (each state used.new.items)
+    requires roots { AreOver (shaped roots.now) (length used.old.items) }
+    requires disjoint { are_disjoint (shape roots.now.config) (shape roots.now.templates) ≡ true }
+    ensures drilled { HasDrilledOver count (shaped roots.now) settings.now (each state used.old.items) (each state used.new.items)
         (L.link io.old) (L.link io.new) last_code result }
 {
     let ended = match text_drilled(alloc, count, roots, settings, used) {
@@ -53,9 +55,9 @@ fn text_drilled(
     settings: &Settings,
     used: &mut Vec<Box<dyn Layer>>,
 ) -> Result<Text, LinkEnd<StepError>>
-    requires roots { AreOver roots.now (length used.old.items) }
-    requires disjoint { are_disjoint roots.now.config roots.now.templates ≡ true }
-    ensures { DrillsOver count roots.now settings.now (each state used.old.items) (each state used.new.items) result }
+    requires roots { AreOver (shaped roots.now) (length used.old.items) }
+    requires disjoint { are_disjoint (shape roots.now.config) (shape roots.now.templates) ≡ true }
+    ensures { DrillsOver count (shaped roots.now) settings.now (each state used.old.items) (each state used.new.items) result }
 {
     let Ok(owner) = Name::read(alloc, b"drill") else {
         return Err(LinkEnd::OutOfMemory);

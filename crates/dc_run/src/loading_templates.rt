@@ -1,6 +1,7 @@
 // Template files loaded one after another.
 ghost use Rattle.std.specs.Prelude.{◌≡◌, ◌||◌, [], is_some, length, map as each, true};
 ghost use Rattle.dc_conf.specs.Plans.{IsOver, are_disjoint};
+ghost use Rattle.dc_conf.specs.Trees.{shape};
 ghost use Rattle.dc_session.specs.Serving.{resources_of};
 ghost use Rattle.dc_session.specs.SessionState.{LinkState, TerminalState};
 ghost use Rattle.dc_session.specs.declared.asking.Asking.{Asking};
@@ -8,7 +9,7 @@ ghost use Rattle.dc_session.specs.declared.policy.AskPolicy.{AskPolicy};
 ghost use Rattle.dc_run.specs.Inside.{end_text, is_unread, status_by, loading_over, LoadsOne, LoadsFiles, HasLoadedOver};
 
 use crate::outcome::{ToolAnswer, ToolEnd};
-use crate::telling::tell_file;
+use crate::telling::{tell_file, tell_text};
 use dc_conf::Plan;
 use dc_layer::Layer;
 use dc_outside::{Files, Link};
@@ -21,8 +22,9 @@ use std::marker::PhantomData;
 
 /// What template files are loaded into.
 trait TakesTemplates {
-    ghost use Rattle.std.specs.Prelude.{◌≡◌};
+    ghost use Rattle.std.specs.Prelude.{◌≡◌, []};
     ghost use Rattle.dc_session.specs.SessionState.{LinkState, SessionState, TerminalState};
+    ghost use Rattle.dc_store.specs.Plans.{stored};
     ghost use Rattle.dc_session.specs.FileLoading.{Loads};
     ghost use Rattle.dc_session.specs.declared.asking.Asking.{Asking};
     ghost use Rattle.dc_session.specs.declared.policy.AskPolicy.{AskPolicy};
@@ -39,6 +41,16 @@ trait TakesTemplates {
     fn load_file(&mut self, path: &Text) -> Mem<FileEnd>
         ensures loads { (terminal : TerminalState) (err : LinkState) (policy : AskPolicy) (asking : Asking)
             → Loads path.now (state_at self.old terminal err policy asking) (state_at self.new terminal err policy asking) result }
+        ensures kept { kept self.new ≡ kept self.old };
+
+    /// Takes what the layers told.
+    fn take_told(&mut self) -> Text
+        ensures told { (terminal : TerminalState) (err : LinkState) (policy : AskPolicy) (asking : Asking)
+            → result ≡ (state_at self.old terminal err policy asking).store.told }
+        ensures left { (terminal : TerminalState) (err : LinkState) (policy : AskPolicy) (asking : Asking)
+            → state_at self.new terminal err policy asking ≡ record (state_at self.old terminal err policy asking) {
+              store = stored (state_at self.old terminal err policy asking).store.layers [];
+            } }
         ensures kept { kept self.new ≡ kept self.old };
 }
 
@@ -67,11 +79,28 @@ impl<'s, 'f, F: Files> TakesTemplates for Loader<'s, 'f, F> {
             Err(_) => Err(OutOfMemory),
         }
     }
+
+    fn take_told(&mut self) -> Text {
+        let desk = &mut self.desk;
+        told_of(&mut desk.questions)
+    }
+}
+
+// What the layers told, which is forgotten then.
+fn told_of(questions: &mut Questions<'_>) -> Text
+    ensures told { result ≡ questions.old.store.now.told }
+    ensures forgotten { questions.new.store.now.told ≡ [] }
+    ensures layers { questions.new.store.now.layers.items ≡ questions.old.store.now.layers.items }
+    ensures context { questions.new.context ≡ questions.old.context }
+    ensures borrows { questions.new.store.ghost_name ≡ questions.old.store.ghost_name }
+{
+    let store = &mut *questions.store;
+    std::mem::replace(&mut store.told, Text::new(questions.alloc))
 }
 
 /// Loads the template files at the paths, in order, into these layers, by the plans of questions and of templates, for a user of the
-/// language and for an owner, whatever a session asks (debconf-loadtemplate(1)). A file that is refused is told on `err`, and the status is 1 where there was
-/// one. The layers are given back as they are then, in their order. The code of the last reply so far is handed in and back.
+/// language and for an owner, whatever a session asks (debconf-loadtemplate(1)). Why a file is refused, where it is, is told on `err`, and then the status is 1;
+/// what the layers tell of a file is told behind it. The layers are given back as they are then, in their order. The code of the last reply so far is handed in and back.
 pub fn load_template_files<E: Link, F: Files>(
     alloc: Global,
     err: &mut E,
@@ -84,12 +113,12 @@ pub fn load_template_files<E: Link, F: Files>(
     paths: &List<Text>,
     last_code: u8,
 ) -> ToolAnswer
-    requires config { IsOver config.now (length layers.old.items) }
-    requires templates { IsOver templates.now (length layers.old.items) }
-    requires disjoint { are_disjoint config.now templates.now ≡ true }
+    requires config { IsOver (shape config.now) (length layers.old.items) }
+    requires templates { IsOver (shape templates.now) (length layers.old.items) }
+    requires disjoint { are_disjoint (shape config.now) (shape templates.now) ≡ true }
     ensures { (terminal : TerminalState) (untold : LinkState) (policy : AskPolicy) (asking : Asking) → HasLoadedOver
         (loading_over (resources_of (each state layers.old.items) (F.files files.old) terminal untold)
-        (record { config = config.now; templates = templates.now; lang = lang.now }) owner.now policy asking)
+        (record { config = shape config.now; templates = shape templates.now; lang = lang.now }) owner.now policy asking)
         paths.now (E.link err.old) (E.link err.new) last_code result (each state layers.new.items) (F.files files.new) }
 {
     let mut store = Store::new(alloc, std::mem::replace(layers, Vec::new(alloc)));
@@ -154,7 +183,7 @@ fn either(one: bool, other: bool) -> bool
     one || other
 }
 
-// Loads one file, and tells whether it was refused, or ends the tool.
+// Loads one file, tells what is to be told of it, and answers whether it was refused, or ends the tool.
 fn load_one<S: TakesTemplates, E: Link>(
     session: &mut S,
     err: &mut E,
@@ -176,7 +205,9 @@ fn load_one<S: TakesTemplates, E: Link>(
     if is_unreadable(&ended) {
         return Err(ToolEnd::FilesFault { path: kept });
     }
+    let told = session.take_told();
     tell_file(err, path, &ended);
+    tell_text(err, &told);
     Ok(is_refused(&ended))
 }
 

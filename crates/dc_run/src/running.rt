@@ -10,6 +10,7 @@ ghost use Rattle.dc_run.specs.Running.{Awaits};
 ghost use Rattle.dc_run.specs.Saves.{Save};
 ghost use Rattle.dc_run.specs.Starting.{AreApart, AreOver};
 ghost use Rattle.dc_run.specs.World.{IsReady, run_state, world};
+ghost use Rattle.dc_run.specs.Roots.{shaped};
 
 use crate::copying::copy_database;
 use crate::drilling::drill_layers;
@@ -133,11 +134,11 @@ fn use_tool<L: Link, E: Link, C: Child, F: Files>(
     teletype: &mut Teletype,
     last_code: u8,
 ) -> ToolAnswer
-    requires roots { AreOver roots.now (length used.old.items) }
-    requires apart { AreApart tool.now roots.now (length used.old.items) }
+    requires roots { AreOver (shaped roots.now) (length used.old.items) }
+    requires apart { AreApart tool.now (shaped roots.now) (length used.old.items) }
     requires idle { IsIdle (C.link child.old).program.life }
     requires command { HasCommand tool.now }
-    ensures does { HasDone tool.now roots.now settings.now
+    ensures does { HasDone tool.now (shaped roots.now) settings.now
         (run_state (L.link io.old) (C.link child.old) (E.link err.old) (F.files files.old) (each state used.old.items) teletype.old.ahead last_code)
         (run_state (L.link io.new) (C.link child.new) (E.link err.new) (F.files files.new) (each state used.new.items) teletype.new.ahead
         result.last_code)

@@ -4,8 +4,8 @@ ghost use Rattle.dc_run.specs.Inside.{HasPrintedAnswers, HasToldUnsaid, PrintsAn
 ghost use Rattle.dc_run.specs.Jobs.{answers_said, told_status};
 ghost use Rattle.dc_run.specs.Starting.{AreOver};
 ghost use Rattle.dc_store.specs.Views.{store_in};
+ghost use Rattle.dc_run.specs.Roots.{shaped};
 
-use crate::copying::status_of_told;
 use crate::outcome::{ToolAnswer, ToolEnd};
 use crate::showing::print;
 use crate::starting::Roots;
@@ -30,8 +30,8 @@ pub fn say_answers<L: Link, E: Link>(
     used: &mut Vec<Box<dyn Layer>>,
     last_code: u8,
 ) -> ToolAnswer
-    requires { AreOver roots.now (length used.old.items) }
-    ensures printed { HasPrintedAnswers (answers_said (each state used.old.items) (context_by roots.now lang.now))
+    requires { AreOver (shaped roots.now) (length used.old.items) }
+    ensures printed { HasPrintedAnswers (answers_said (each state used.old.items) (context_by (shaped roots.now) lang.now))
         (L.link io.old) (L.link io.new) (E.link err.old) (E.link err.new) last_code result }
     ensures layers { each state used.new.items ≡ each state used.old.items }
 {
@@ -43,8 +43,8 @@ pub fn say_answers<L: Link, E: Link>(
 
 // What is said of all questions.
 fn all_answers(alloc: Global, roots: &Roots, lang: &Text, store: &mut Store) -> Mem<Said>
-    requires { AreOver roots.now (length store.old.layers.items) }
-    ensures said { IfOk result (λ said. said ≡ answers_said (store_in state store.old).layers (context_by roots.now lang.now)) }
+    requires { AreOver (shaped roots.now) (length store.old.layers.items) }
+    ensures said { IfOk result (λ said. said ≡ answers_said (store_in state store.old).layers (context_by (shaped roots.now) lang.now)) }
     ensures kept { store.new ≡ store.old }
 {
     let names = store.names(&roots.config)?;
@@ -95,4 +95,11 @@ fn tell_printed<E: Link>(err: &mut E, ended: &ToolEnd, left_out: &[Name])
         return;
     }
     tell_unsaid(err, left_out)
+}
+
+// The status of a tool that tells of these, which is 1 where there is one.
+fn status_of_told(names: &[Name]) -> u8
+    ensures { result ≡ told_status names.now }
+{
+    if names.is_empty() { 0 } else { 1 }
 }

@@ -4,6 +4,8 @@ ghost use Rattle.dc_conf.specs.Plans.{are_disjoint};
 ghost use Rattle.dc_run.specs.Inside.{HasTakenOver, context_by};
 ghost use Rattle.dc_run.specs.Jobs.{refused_status, selections_end as selections_end_of};
 ghost use Rattle.dc_run.specs.Starting.{AreOver};
+ghost use Rattle.dc_conf.specs.Trees.{shape};
+ghost use Rattle.dc_run.specs.Roots.{shaped};
 
 use crate::outcome::{ToolAnswer, ToolEnd};
 use crate::starting::Roots;
@@ -26,9 +28,9 @@ pub fn select<L: Link, E: Link>(
     used: &mut Vec<Box<dyn Layer>>,
     last_code: u8,
 ) -> ToolAnswer
-    requires roots { AreOver roots.now (length used.old.items) }
-    requires disjoint { are_disjoint roots.now.config roots.now.templates ≡ true }
-    ensures taken { HasTakenOver choices (context_by roots.now lang.now) (each state used.old.items) (each state used.new.items)
+    requires roots { AreOver (shaped roots.now) (length used.old.items) }
+    requires disjoint { are_disjoint (shape roots.now.config) (shape roots.now.templates) ≡ true }
+    ensures taken { HasTakenOver choices (context_by (shaped roots.now) lang.now) (each state used.old.items) (each state used.new.items)
         (L.link io.old) (L.link io.new) (E.link err.old) (E.link err.new) last_code result }
 {
     let taken = take_selections(
@@ -46,7 +48,7 @@ pub fn select<L: Link, E: Link>(
         ended: selections_end(taken.end),
         is_started: false,
         last_code: taken.last_code,
-        status: status_of_lines(taken.refused),
+        status: status_of_refused(taken.refused),
     }
 }
 
@@ -62,7 +64,8 @@ fn selections_end(end: LinkEnd<OutOfMemory>) -> ToolEnd
     }
 }
 
-fn status_of_lines(refused: bool) -> u8
+/// The status of a tool, which is 1 where something was refused.
+pub fn status_of_refused(refused: bool) -> u8
     ensures { result ≡ refused_status refused }
 {
     if refused { 1 } else { 0 }

@@ -11,6 +11,8 @@ ghost use Rattle.dc_run.specs.World.{links_of, run_state};
 ghost use Rattle.dc_session.specs.Serving.{IsServed, resources_of};
 ghost use Rattle.dc_session.specs.SessionState.{terminal_at};
 ghost use Rattle.dc_cli.specs.declared.tool.Tool.TheVariants.{Communicate};
+ghost use Rattle.dc_conf.specs.Trees.{shape};
+ghost use Rattle.dc_run.specs.Roots.{shaped};
 
 use crate::outcome::{ToolAnswer, ToolEnd, tool_end};
 use crate::settings::Settings;
@@ -47,12 +49,12 @@ pub fn communicate<L: Link, E: Link, F: Files>(
     teletype: &mut Teletype,
     last_code: u8,
 ) -> ToolAnswer
-    requires roots { AreOver roots.now (length used.old.items) }
-    requires disjoint { are_disjoint roots.now.config roots.now.templates ≡ true }
+    requires roots { AreOver (shaped roots.now) (length used.old.items) }
+    requires disjoint { are_disjoint (shape roots.now.config) (shape roots.now.templates) ≡ true }
     ensures served { (child : LinkState) → HasCommunicated
         (begun (Communicate owner.now)
         (run_state (L.link io.old) child (E.link err.old) (F.files files.old) (each state used.old.items) teletype.old.ahead last_code)
-        roots.now settings.now)
+        (shaped roots.now) settings.now)
         (L.link io.old) (L.link io.new) last_code result
         (resources_for (Communicate owner.now)
         (run_state (L.link io.new) child (E.link err.new) (F.files files.new) (each state used.new.items) teletype.new.ahead result.last_code)) }
@@ -96,14 +98,14 @@ pub fn run_program<L: Link, E: Link, C: Child, F: Files>(
     teletype: &mut Teletype,
     last_code: u8,
 ) -> ToolAnswer
-    requires roots { AreOver roots.now (length used.old.items) }
-    requires disjoint { are_disjoint roots.now.config roots.now.templates ≡ true }
+    requires roots { AreOver (shaped roots.now) (length used.old.items) }
+    requires disjoint { are_disjoint (shape roots.now.config) (shape roots.now.templates) ≡ true }
     requires idle { IsIdle (C.link child.old).program.life }
     requires some { 0 < length command.now }
     ensures ran { HasRunProgram command.now
         (begun (asked_run asking.now command.now)
         (run_state (L.link io.old) (C.link child.old) (E.link err.old) (F.files files.old) (each state used.old.items) teletype.old.ahead last_code)
-        roots.now settings.now)
+        (shaped roots.now) settings.now)
         (links_of (L.link io.old) (C.link child.old)) (links_of (L.link io.new) (C.link child.new)) last_code result
         (resources_for (asked_run asking.now command.now)
         (run_state (L.link io.new) (C.link child.new) (E.link err.new) (F.files files.new) (each state used.new.items) teletype.new.ahead
@@ -137,12 +139,12 @@ fn serve_program<L: Link, E: Link, C: Child, F: Files>(
     teletype: &mut Teletype,
     last_code: u8,
 ) -> ToolAnswer
-    requires roots { AreOver roots.now (length used.old.items) }
-    requires disjoint { are_disjoint roots.now.config roots.now.templates ≡ true }
+    requires roots { AreOver (shaped roots.now) (length used.old.items) }
+    requires disjoint { are_disjoint (shape roots.now.config) (shape roots.now.templates) ≡ true }
     ensures served { (command : List (List ℕ)) → HasServedProgram
         (begun (asked_run asking.now command)
         (run_state (L.link io.old) (C.link child.old) (E.link err.old) (F.files files.old) (each state used.old.items) teletype.old.ahead last_code)
-        roots.now settings.now)
+        (shaped roots.now) settings.now)
         (C.link child.old) (C.link child.new) last_code result
         (resources_for (asked_run asking.now command)
         (run_state (L.link io.new) (C.link child.new) (E.link err.new) (F.files files.new) (each state used.new.items) teletype.new.ahead
@@ -187,12 +189,12 @@ fn serve_for<L: Link, T: Link, E: Link, F: Files>(
     teletype: &mut Teletype,
     last_code: u8,
 ) -> Conversation<StepError>
-    requires roots { AreOver roots.now (length used.old.items) }
-    requires disjoint { are_disjoint roots.now.config roots.now.templates ≡ true }
+    requires roots { AreOver (shaped roots.now) (length used.old.items) }
+    requires disjoint { are_disjoint (shape roots.now.config) (shape roots.now.templates) ≡ true }
     ensures { IsServed
         (session_at
         (resources_of (each state used.old.items) (F.files files.old) (terminal_at (T.link terminal.old) teletype.old.ahead) (E.link err.old))
-        roots.now settings.now owner.now frontend threshold)
+        (shaped roots.now) settings.now owner.now frontend threshold)
         (resources_of (each state used.new.items) (F.files files.new) (terminal_at (T.link terminal.new) teletype.new.ahead) (E.link err.new))
         (L.link io.old) (L.link io.new) result.end last_code result.last_code }
 {

@@ -5,6 +5,7 @@ ghost use Rattle.dc_run.specs.Inside.{HasPrinted, context_by, owners_texts};
 ghost use Rattle.dc_run.specs.Jobs.{Prints, shown_text};
 ghost use Rattle.dc_run.specs.Starting.{AreOver};
 ghost use Rattle.dc_store.specs.Views.{store_in};
+ghost use Rattle.dc_run.specs.Roots.{shaped};
 
 use crate::outcome::{ToolAnswer, ToolEnd};
 use crate::starting::Roots;
@@ -28,8 +29,8 @@ pub fn show<L: Link>(
     used: &mut Vec<Box<dyn Layer>>,
     last_code: u8,
 ) -> ToolAnswer
-    requires { AreOver roots.now (length used.old.items) }
-    ensures printed { HasPrinted (shown_text shown.now roots.now.conf (each state used.old.items) (context_by roots.now lang.now))
+    requires { AreOver (shaped roots.now) (length used.old.items) }
+    ensures printed { HasPrinted (shown_text shown.now roots.now.conf (each state used.old.items) (context_by (shaped roots.now) lang.now))
         (L.link io.old) (L.link io.new) last_code result }
     ensures layers { each state used.new.items ≡ each state used.old.items }
 {
@@ -67,8 +68,8 @@ fn text_shown(
     lang: &Text,
     store: &mut Store,
 ) -> Mem<Text>
-    requires { AreOver roots.now (length store.old.layers.items) }
-    ensures text { IfOk result (λ text. text ≡ shown_text shown.now roots.now.conf (store_in state store.old).layers (context_by roots.now lang.now)) }
+    requires { AreOver (shaped roots.now) (length store.old.layers.items) }
+    ensures text { IfOk result (λ text. text ≡ shown_text shown.now roots.now.conf (store_in state store.old).layers (context_by (shaped roots.now) lang.now)) }
     ensures kept { store.new ≡ store.old }
 {
     match shown {

@@ -8,8 +8,9 @@ ghost use Rattle.dc_proto.specs.Priorities.{priority_of};
 ghost use Rattle.dc_shelf.specs.Shelves.{LoadsAll, all_set_up};
 ghost use Rattle.dc_save.specs.Loading.{text_in};
 ghost use Rattle.dc_run.specs.Ends.{end_of_conf as end_of_conf_by, end_of_patterns as end_of_patterns_by, end_of_load as end_of_load_by};
-ghost use Rattle.dc_run.specs.Inside.{ArePatternsOf, IsUnbuilt, copy_by};
-ghost use Rattle.dc_run.specs.Starting.{AreApart, AreOver, Starts, ReadsConf, added_line, are_patterns, chosen as chosen_of, conf_text, has_files as has_files_in, keeps_changes as keeps_changes_of, pattern_words, plan_in, roots, source_of};
+ghost use Rattle.dc_run.specs.Inside.{ArePatternsOf, IsCopyBy, IsUnbuilt, plans_of};
+ghost use Rattle.dc_run.specs.Roots.{shaped};
+ghost use Rattle.dc_run.specs.Starting.{AreApart, AreOver, Starts, ReadsConf, added_line, are_patterns, chosen as chosen_of, conf_text, has_files as has_files_in, keeps_changes as keeps_changes_of, pattern_words, roots};
 ghost use Rattle.dc_run.specs.World.{IsReady, stock_of, used_in};
 
 use crate::databases::resolve;
@@ -61,8 +62,8 @@ pub fn start<F: Files>(
 ) -> Result<Roots, End>
     requires { IsReady state shelf.old }
     ensures starts { Starts used.now path.now (F.files files.old) (stock_of (F.files files.new) (used_in state shelf.new)) result }
-    ensures over { IfOk result (λ roots. AreOver roots (length shelf.new.used.items)) }
-    ensures apart { IfOk result (λ roots. AreApart used.now roots (length shelf.new.used.items)) }
+    ensures over { IfOk result (λ roots. AreOver (shaped roots) (length shelf.new.used.items)) }
+    ensures apart { IfOk result (λ roots. AreApart used.now (shaped roots) (length shelf.new.used.items)) }
 {
     let conf = read_configuration(alloc, used, path, files)?;
     let resolved = resolve(alloc, used, &conf)?;
@@ -131,7 +132,7 @@ pub fn keeps_changes(tool: &Tool) -> bool
     }
 }
 
-// The roots of a tool, by their plans and its patterns.
+// The roots of a tool, of its plans in their order and its patterns.
 fn roots_of(
     used: &Tool,
     conf: Conf,
@@ -139,11 +140,10 @@ fn roots_of(
     by_name: Option<Pattern>,
     by_owner: Option<Pattern>,
 ) -> Roots
-    requires plans { plans ≡ each (plan_in used.now conf) (roots used.now conf) }
+    requires count { length plans ≡ length (roots used.now conf) }
     ensures conf { result.conf ≡ conf }
-    ensures config { result.config ≡ plan_in used.now conf (source_of used.now conf) }
-    ensures templates { result.templates ≡ plan_in used.now conf conf.templates }
-    ensures copy { result.copy ≡ copy_by used.now conf by_name by_owner }
+    ensures plans { plans_of result ≡ plans }
+    ensures copy { IsCopyBy used.now by_name by_owner result.copy }
 {
     let mut plans = plans;
     match used {
@@ -174,7 +174,7 @@ fn roots_of(
 
 /// The priority that was chosen: the first of the setting's and the configuration's word that is one (debconf(7)).
 pub fn chosen(settings: &Settings, roots: &Roots) -> Option<Priority>
-    ensures { result ≡ chosen_of settings.now roots.now }
+    ensures { result ≡ chosen_of settings.now (shaped roots.now) }
 {
     match priority_in(settings.priority.as_ref()) {
         Some(priority) => Some(priority),

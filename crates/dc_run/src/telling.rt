@@ -4,12 +4,12 @@ ghost use Rattle.dc_text.specs.Ascii.{newline};
 ghost use Rattle.dc_session.specs.Refusals.{refusal};
 ghost use Rattle.dc_run.specs.EndLines.{end_line, place_text, HasSaid};
 ghost use Rattle.dc_run.specs.Inside.{end_text, told_line};
-ghost use Rattle.dc_run.specs.Jobs.{named_lines, refusal_lines, unsaid_lines};
+ghost use Rattle.dc_run.specs.Jobs.{named_lines, unsaid_lines};
 ghost use Rattle.dc_run.specs.Kinds.{kind_word as kind_word_of};
 
 use crate::outcome::{End, PatternAt};
 use dc_conf::ConfKind;
-use dc_outside::Link;
+use dc_outside::{Link, tell};
 use dc_question::QuestionError;
 use dc_session::FileEnd;
 use dc_text::{Name, Text};
@@ -21,6 +21,14 @@ fn say<E: Link>(err: &mut E, bytes: &[u8])
     ensures { HasSaid bytes.now (E.link err.old) (E.link err.new) }
 {
     let _ = err.write(bytes);
+}
+
+/// Tells lines in one write, where there are any.
+#[tactic(auto, using(crate::proofs::Saying::told_said))]
+pub fn tell_text<E: Link>(err: &mut E, lines: &Text)
+    ensures { HasSaid lines.now (E.link err.old) (E.link err.new) }
+{
+    tell(err, lines.bytes())
 }
 
 fn say_number<E: Link>(err: &mut E, number: u64)
@@ -119,13 +127,6 @@ pub fn tell_file<E: Link>(err: &mut E, path: &Text, ended: &FileEnd)
     }
 }
 
-/// Tells of the items that a destination refused, each in a line (debconf-copydb(1)).
-pub fn tell_refused<E: Link>(err: &mut E, names: &[Name])
-    ensures { HasSaid (refusal_lines names.now) (E.link err.old) (E.link err.new) }
-{
-    tell_names(err, names, b" can't be changed\n")
-}
-
 /// Tells of the questions that can't be said in lines of selections, each in a line.
 pub fn tell_unsaid<E: Link>(err: &mut E, names: &[Name])
     ensures { HasSaid (unsaid_lines names.now) (E.link err.old) (E.link err.new) }
@@ -187,7 +188,7 @@ fn kind_word(kind: ConfKind) -> &'static [u8]
         ConfKind::BadValue => b"BadValue",
         ConfKind::SamePlace => b"SamePlace",
         ConfKind::UnknownDatabase => b"UnknownDatabase",
-        ConfKind::Nested => b"Nested",
+        ConfKind::Cycle => b"Cycle",
         ConfKind::SharedDatabase => b"SharedDatabase",
     }
 }

@@ -5,6 +5,7 @@ use Rattle.std.specs.Io.KnownBytes.{prepend_known, IsAtEnd}
 use Rattle.dc_frontend.specs.declared.shown.Shown.{Shown}
 use Rattle.dc_outside.proofs.Saying.{sent-append}
 use Rattle.dc_outside.specs.Disk.{Disk}
+use Rattle.dc_outside.specs.LinkCalls.{Tells}
 use Rattle.dc_outside.specs.Talk.{sent, got, then_pieces}
 use Rattle.dc_outside.specs.declared.files.FilesCall.{FilesCall}
 use Rattle.dc_outside.specs.declared.link.LinkError.{LinkError}
@@ -17,7 +18,7 @@ use Rattle.dc_proto.specs.Commands.{heard}
 use Rattle.dc_proto.specs.declared.command.Command.{Command}
 use Rattle.dc_proto.specs.declared.command.Heard.{Heard}
 use Rattle.dc_proto.specs.declared.command.Heard.TheVariants.{Nothing, Known, Refused}
-use Rattle.dc_serve.specs.Execution.{Transition, lines_of, IsExecution}
+use Rattle.dc_serve.specs.Execution.{Transition, lines_of, state_after, IsExecution}
 use Rattle.dc_serve.specs.declared.machine.Response.{Response}
 use Rattle.dc_teletype.specs.Dialogue.{Goes, opening}
 use Rattle.dc_teletype.specs.TerminalLines.{TypeAhead}
@@ -26,15 +27,17 @@ use Rattle.dc_teletype.specs.declared.teletype.Asked.{Asked}
 use Rattle.dc_teletype.specs.declared.teletype.Asked.TheVariants.{Answers}
 use Rattle.dc_teletype.proofs.OutcomeLemmas.{comes_to}
 use Rattle.dc_teletype.proofs.TypedLemmas.{one_rest, used_last}
-use Rattle.dc_session.specs.Alike.{IsToldAs, AreTerminalsAlike, AreAlike, AreTransitionsAlike}
+use Rattle.dc_store.specs.Plans.{stored}
+use Rattle.dc_session.specs.Alike.{IsToldAs, AreTerminalsAlike, AreAlike, AreTransitionsAlike, TellSame}
 use Rattle.dc_session.specs.Answers.{answer}
 use Rattle.dc_session.specs.Displays.{Display, Blank, OneLine, Dialogue, HasLine, HasDialogue, displayed, Shows}
-use Rattle.dc_session.specs.Machine.{Handles, Steps, StepsHeard, HasDone, Looks, file_of, sent_in}
+use Rattle.dc_session.specs.Machine.{Handles, TakesLine, TellsStore, Steps, StepsHeard, HasDone, Looks, file_of, sent_in}
 use Rattle.dc_session.specs.SessionState.{FilesState, LinkState, TerminalState, SessionState}
 use Rattle.dc_session.specs.declared.asking.Asking.{Asking}
 use Rattle.dc_session.specs.declared.stepped.Stepped.{Stepped}
-use Rattle.dc_session.proofs.Determined.{IsTold, one_looked, heeds_told, files_left}
+use Rattle.dc_session.proofs.Determined.{IsTold, one_looked, takes_told, files_left}
 use Rattle.dc_session.proofs.SameAnswers.{same_answer, same_display}
+use Rattle.dc_session.proofs.TellingLemmas.{takes_tells, none_told, more_told}
 
 -- ---- one use of a terminal
 
@@ -178,17 +181,68 @@ module _ (disk : Disk) (old : SessionState) (terminal : TerminalState) (err : Li
   steps_alike TooLong first second = (first.0 ∙ sym second.0, kept_alike first.1 second.1)
   steps_alike (Whole line) first second = heard_alike (heard old.asking.escape line) first second
 
-pub heeds_alike : (disk : Disk) (old : SessionState) (terminal : TerminalState) (err : LinkState) → AreTerminalsAlike old.terminal terminal → IsTold disk old.files.view → (did other : Response) (new left : SessionState) → new.files ≡ left.files → (line : Line)
+heeds_alike : (disk : Disk) (old : SessionState) (terminal : TerminalState) (err : LinkState) → AreTerminalsAlike old.terminal terminal → IsTold disk old.files.view → (did other : Response) (new left : SessionState) → new.files ≡ left.files → (line : Line)
     → Handles old line did new → Handles (record old { terminal = terminal; err = err }) line other left → (did ≡ other) × AreAlike new left
 heeds_alike disk old terminal err alike told did other new left files line first second =
     let same = steps_alike disk old terminal err alike told first.stepped second.stepped new left files line first.steps second.steps in
     (first.did_is ∙ ap (sent_in old.asking.escape) same.0 ∙ sym second.did_is, same.1)
 
+-- what is left once it is told
+told_alike : (mid new other last : SessionState) → AreAlike mid other → TellsStore mid new → TellsStore other last → AreAlike new last
+told_alike mid new other last alike first second =
+    let one_terminal : new.terminal ≡ mid.terminal = ap (λ (s : SessionState). s.terminal) first.new_is in
+    let other_terminal : last.terminal ≡ other.terminal = ap (λ (s : SessionState). s.terminal) second.new_is in
+    record {
+      rest = second.new_is ∙ ap (λ (s : SessionState). record s { store = stored s.store.layers []; err = last.err }) alike.rest
+          ∙ ap (λ (s : SessionState). record s { terminal = other.terminal; err = last.err }) (sym first.new_is)
+          ∙ ap (λ (t : TerminalState). record new { terminal = t; err = last.err }) (sym other_terminal);
+      terminals = moved_alike mid.asking mid.terminal other.terminal new.terminal last.terminal alike.terminals (Answers []) (Answers []) one_terminal other_terminal;
+    }
+
+-- two turns at a line, in sessions that are alike: the same is done, what is left is alike, and the same is told
+pub record TurnsAlike (old other : SessionState) (line : Line) (did again : Response) (new left : SessionState) : Type 0 where
+  pub does : did ≡ again
+  pub leaves : AreAlike new left
+  pub told : List ℕ
+  pub one_tells : Tells told old.err new.err
+  pub other_tells : Tells told other.err left.err
+
+pub takes_alike : (disk : Disk) (old other : SessionState) → AreAlike old other → IsTold disk old.files.view → (did again : Response) (new left : SessionState) → new.files ≡ left.files → (line : Line)
+    → TakesLine old line did new → TakesLine other line again left → TurnsAlike old other line did again new left
+takes_alike disk old other alike told did again new left files line first second =
+    let there : SessionState = record old { terminal = other.terminal; err = other.err } in
+    let handled : Handles there line again second.mid = subst (λ (s : SessionState). Handles s line again second.mid) alike.rest second.handled in
+    let mids : first.mid.files ≡ second.mid.files = sym (ap (λ (s : SessionState). s.files) first.tells.new_is) ∙ files ∙ ap (λ (s : SessionState). s.files) second.tells.new_is in
+    let same = heeds_alike disk old other.terminal other.err alike.terminals told did again first.mid second.mid mids line first.handled handled in
+    record {
+      does = same.0;
+      leaves = told_alike first.mid new second.mid left same.1 first.tells second.tells;
+      told = first.mid.store.told;
+      one_tells = takes_tells line old new did first;
+      other_tells = subst (λ (t : List ℕ). Tells t other.err left.err) (ap (λ (s : SessionState). s.store.told) same.1.rest) (takes_tells line other left again second);
+    }
+
 -- ---- courses
 
-courses_alike : (disk : Disk) (start other : SessionState) (a b : List (Transition SessionState)) → AreAlike start other → IsTold disk start.files.view → IsExecution Handles start a → IsExecution Handles other b
-    → lines_of a ≡ lines_of b → files_left a ≡ files_left b → AreTransitionsAlike a b
-courses_alike disk start other [] [] alike told first second lines files = record {}
+-- two courses do the same, leave what is alike, and tell the same
+abbrev pub GoAlike : SessionState → SessionState → List (Transition SessionState) → List (Transition SessionState) → Type 0
+GoAlike start other a b = AreTransitionsAlike a b × TellSame start.err (state_after start a).err other.err (state_after other b).err
+
+-- neither goes on
+pub none_alike : (start other : SessionState) → GoAlike start other [] []
+none_alike start other = (record {}, none_told start.err other.err)
+
+-- a turn more of each
+pub more_alike : (start other : SessionState) (one two : Transition SessionState) (a b : List (Transition SessionState)) (line : Line) → TurnsAlike start other line one.did two.did one.new two.new → GoAlike one.new two.new a b
+    → GoAlike start other (one ∷ a) (two ∷ b)
+more_alike start other one two a b line here later = (
+  (here.does, here.leaves, later.0),
+  more_told here.told here.told start.err one.new.err (state_after one.new a).err other.err two.new.err (state_after two.new b).err refl here.one_tells here.other_tells later.1,
+)
+
+courses_alike : (disk : Disk) (start other : SessionState) (a b : List (Transition SessionState)) → AreAlike start other → IsTold disk start.files.view → IsExecution TakesLine start a → IsExecution TakesLine other b
+    → lines_of a ≡ lines_of b → files_left a ≡ files_left b → GoAlike start other a b
+courses_alike disk start other [] [] alike told first second lines files = none_alike start other
 courses_alike disk start other [] (transition ∷ b) alike told first second lines files = cc
 courses_alike disk start other (transition ∷ a) [] alike told first second lines files = cc
 courses_alike disk start other (one ∷ a) (two ∷ b) alike told first second lines files =
@@ -196,10 +250,11 @@ courses_alike disk start other (one ∷ a) (two ∷ b) alike told first second l
     let rest : lines_of a ≡ lines_of b = cc in
     let left : one.new.files ≡ two.new.files = cc in
     let later_files : files_left a ≡ files_left b = cc in
-    let here = heeds_alike disk start other.terminal other.err alike.terminals told one.did two.did one.new two.new left two.line (subst (λ (l : Line). Handles start l one.did one.new) line first.0)
-    (subst (λ (s : SessionState). Handles s two.line two.did two.new) alike.rest second.0) in
-    (here.0, here.1, courses_alike disk one.new two.new a b here.1 (heeds_told disk start told one.did one.new one.line first.0) first.2 second.2 rest later_files)
+    let takes : TakesLine start two.line one.did one.new = subst (λ (l : Line). TakesLine start l one.did one.new) line first.0 in
+    let here = takes_alike disk start other alike told one.did two.did one.new two.new left two.line takes second.0 in
+    more_alike start other one two a b two.line here
+    (courses_alike disk one.new two.new a b here.leaves (takes_told disk start told one.did one.new two.line takes) first.2 second.2 rest later_files)
 
 pub alike_courses : (disk : Disk) (start other : SessionState) (calls : List FilesCall) (a b : List (Transition SessionState)) → start.files.view ≡ record { disk = Some disk; calls = Some calls } → AreAlike start other
-    → IsExecution Handles start a → IsExecution Handles other b → lines_of a ≡ lines_of b → files_left a ≡ files_left b → AreTransitionsAlike a b
+    → IsExecution TakesLine start a → IsExecution TakesLine other b → lines_of a ≡ lines_of b → files_left a ≡ files_left b → GoAlike start other a b
 alike_courses disk start other calls a b told alike = courses_alike disk start other a b alike (calls, told)

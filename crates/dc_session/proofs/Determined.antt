@@ -1,4 +1,4 @@
--- Where the files tell of the disk and of their calls, a session is a function of its state, a line and the files that are left.
+-- Where the files tell of the disk and of their calls, a session is a function of its state, a line and the files that are left, but for standard error.
 use Rattle.std.proofs.Common.{◌≡◌, ℕ, Bool, true, false, List, [], ◌∷◌, ◌++◌, Option, None, Some, refl, ap, sym, subst, ◌∙◌}
 use Rattle.std.specs.Prelude.{IfSome, Result, Ok, map as each}
 use Rattle.std.specs.List.{list_any}
@@ -11,6 +11,7 @@ use Rattle.dc_outside.specs.State.{FilesView}
 use Rattle.dc_outside.specs.declared.files.FilesCall.{FilesCall}
 use Rattle.dc_outside.specs.declared.files.FilesOp.TheVariants.{Read}
 use Rattle.dc_proto.specs.Commands.{heard}
+use Rattle.dc_outside.specs.LinkCalls.{Tells}
 use Rattle.dc_outside.specs.declared.link.LinkError.{LinkError}
 use Rattle.dc_teletype.specs.declared.teletype.Asked.{Asked}
 use Rattle.dc_teletype.specs.declared.teletype.Asked.TheVariants.{Answers}
@@ -18,19 +19,23 @@ use Rattle.dc_proto.specs.declared.command.Command.{Command}
 use Rattle.dc_proto.specs.declared.command.Heard.{Heard}
 use Rattle.dc_proto.specs.declared.command.Heard.TheVariants.{Nothing, Known, Refused}
 use Rattle.dc_serve.specs.declared.machine.Response.{Response}
-use Rattle.dc_serve.specs.Execution.{Transition, lines_of, IsExecution}
+use Rattle.dc_serve.specs.Execution.{Transition, lines_of, state_after, IsExecution}
 use Rattle.dc_template.specs.Reading.{Reads, IsBad}
 use Rattle.dc_template.specs.Stanzas.{Stanza}
 use Rattle.dc_template.proofs.FaultLaws.{one_fault, not_both}
-use Rattle.dc_session.specs.Answers.{CommandInputs, answer, after_command}
+use Rattle.dc_store.specs.Plans.{stored}
+use Rattle.dc_session.specs.Alike.{IsSameButErr, AreTransitionsSame, TellSame}
+use Rattle.dc_session.specs.Answers.{CommandOutcome, answer}
 use Rattle.dc_session.specs.Displays.{Display, Blank, displayed, Shows}
-use Rattle.dc_session.specs.Machine.{Handles, Steps, StepsHeard, HasDone, Looks, file_of, sent_in}
-use Rattle.dc_session.specs.SessionState.{FilesState, TerminalState, SessionState}
+use Rattle.dc_session.specs.Machine.{Handles, TakesLine, Steps, StepsHeard, HasDone, Looks, file_of, sent_in}
+use Rattle.dc_session.specs.SessionState.{FilesState, LinkState, TerminalState, SessionState}
 use Rattle.dc_session.specs.TemplateFiles.{Finds, HasRead}
 use Rattle.dc_session.specs.declared.stepped.Stepped.{Stepped}
 use Rattle.dc_session.specs.declared.template_files.Found.{Found}
 use Rattle.dc_session.specs.declared.template_files.Found.TheVariants.{Unreadable, Missing, Faulty, Templates}
-use Rattle.dc_session.proofs.TerminalLaws.{AsksNobody, displays_none, steps_nobody}
+use Rattle.dc_session.proofs.SameAnswers.{same_answer, same_display}
+use Rattle.dc_session.proofs.TellingLemmas.{takes_tells, none_told, more_told}
+use Rattle.dc_session.proofs.TerminalLaws.{AsksNobody, displays_none, takes_nobody}
 
 same_some : {A : Type 0} (a b : A) → Some a ≡ Some b → a ≡ b
 same_some a b is = cc
@@ -114,40 +119,70 @@ module _ (disk : Disk) (old new : FilesState) (told : IsTold disk old.view) wher
 
 -- ---- one line
 
-module _ (disk : Disk) (old : SessionState) (nobody : AsksNobody old) (told : IsTold disk old.files.view) (one other : Stepped) (new left : SessionState) (files : new.files ≡ left.files) where
+module _ (disk : Disk) (old : SessionState) (err : LinkState) (nobody : AsksNobody old) (told : IsTold disk old.files.view) (one other : Stepped) (new left : SessionState) (files : new.files ≡ left.files) where
+  -- the same session, with another standard error
+  abbrev there : SessionState
+  there = record old { err = err }
+
   -- nothing is shown, and nothing answered
   blank_given : (display : Display) (asked : Asked) (terminal : TerminalState) → display ≡ Blank → Shows old.asking display old.terminal (Ok asked) terminal → (asked ≡ Answers []) × (terminal ≡ old.terminal)
   blank_given display asked terminal blank shows =
       let still : Shows old.asking Blank old.terminal (Ok asked) terminal = subst (λ (d : Display). Shows old.asking d old.terminal (Ok asked) terminal) blank shows in
       (same_ok asked (Answers []) still.0, still.1)
 
-  done_once : (command : Command) → HasDone command old one new → HasDone command old other left → (one ≡ other) × (new ≡ left)
+  -- nothing was done
+  kept_once : new ≡ old → left ≡ there → IsSameButErr new left
+  kept_once new_is left_is = left_is ∙ (λ i. record (sym new_is i) { err = sym (ap (λ (s : SessionState). s.err) left_is) i })
+
+  done_once : (command : Command) → HasDone command old one new → HasDone command there other left → (one ≡ other) × IsSameButErr new left
   done_once command first second =
       let found : first.given.found ≡ second.given.found
       = one_looked disk old.files left.files told (file_of command) first.given.found second.given.found (subst (λ (f : FilesState). Looks (file_of command) old.files first.given.found f) files first.gives.looks) second.gives.looks in
       let unseen = displays_none old nobody command in
       let one_shown = blank_given (displayed old command) first.given.asked new.terminal unseen first.gives.shows in
-      let other_shown = blank_given (displayed old command) second.given.asked left.terminal unseen second.gives.shows in
+      let other_shown = blank_given (displayed old command) second.given.asked left.terminal unseen
+      (subst (λ (d : Display). Shows old.asking d old.terminal (Ok second.given.asked) left.terminal) (same_display old old.terminal err command) second.gives.shows) in
       let same : first.given ≡ second.given = (λ i. record { found = found i; asked = (one_shown.0 ∙ sym other_shown.0) i }) in
-      let terminal : new.terminal ≡ left.terminal = one_shown.1 ∙ sym other_shown.1 in (
-        first.stepped_is ∙ ap (λ (g : CommandInputs). (answer old command g).stepped) same ∙ sym second.stepped_is,
-        first.new_is ∙ (λ i. after_command old command (same i) (files i) (terminal i)) ∙ sym second.new_is,
+      let terminal : new.terminal ≡ left.terminal = one_shown.1 ∙ sym other_shown.1 in
+      let comes : answer old command first.given ≡ answer there command second.given = ap (answer old command) same ∙ sym (same_answer old old.terminal err command second.given) in
+      let same_err : err ≡ left.err = sym (ap (λ (s : SessionState). s.err) second.new_is) in (
+        first.stepped_is ∙ ap (λ (o : CommandOutcome). o.stepped) comes ∙ sym second.stepped_is,
+        second.new_is ∙ (λ i. record old { store = (sym comes i).store; files = sym files i; terminal = sym terminal i; err = same_err i; asking = (sym comes i).asking })
+            ∙ ap (λ (s : SessionState). record s { err = left.err }) (sym first.new_is),
       )
 
-  heard_once : (said : Heard) → StepsHeard said old one new → StepsHeard said old other left → (one ≡ other) × (new ≡ left)
-  heard_once Nothing first second = (first.0 ∙ sym second.0, first.1 ∙ sym second.1)
+  heard_once : (said : Heard) → StepsHeard said old one new → StepsHeard said there other left → (one ≡ other) × IsSameButErr new left
+  heard_once Nothing first second = (first.0 ∙ sym second.0, kept_once first.1 second.1)
   heard_once (Known command) first second = done_once command first second
-  heard_once (Refused reply) first second = (first.0 ∙ sym second.0, first.1 ∙ sym second.1)
+  heard_once (Refused reply) first second = (first.0 ∙ sym second.0, kept_once first.1 second.1)
 
-  steps_once : (line : Line) → Steps old line one new → Steps old line other left → (one ≡ other) × (new ≡ left)
-  steps_once TooLong first second = (first.0 ∙ sym second.0, first.1 ∙ sym second.1)
+  steps_once : (line : Line) → Steps old line one new → Steps there line other left → (one ≡ other) × IsSameButErr new left
+  steps_once TooLong first second = (first.0 ∙ sym second.0, kept_once first.1 second.1)
   steps_once (Whole line) first second = heard_once (heard old.asking.escape line) first second
 
-heeds_once : (disk : Disk) (old : SessionState) → AsksNobody old → IsTold disk old.files.view → (did other : Response) (new left : SessionState) → new.files ≡ left.files → (line : Line)
-    → Handles old line did new → Handles old line other left → (did ≡ other) × (new ≡ left)
-heeds_once disk old nobody told did other new left files line first second =
-    let same = steps_once disk old nobody told first.stepped second.stepped new left files line first.steps second.steps in
-    (first.did_is ∙ ap (sent_in old.asking.escape) same.0 ∙ sym second.did_is, same.1)
+-- two turns at a line, in sessions that are the same but for standard error: the same is done, the same is left, and the same is told
+pub record TurnsSame (old other : SessionState) (line : Line) (did again : Response) (new left : SessionState) : Type 0 where
+  pub does : did ≡ again
+  pub leaves : IsSameButErr new left
+  pub told : List ℕ
+  pub one_tells : Tells told old.err new.err
+  pub other_tells : Tells told other.err left.err
+
+pub takes_once : (disk : Disk) (old other : SessionState) → IsSameButErr old other → AsksNobody old → IsTold disk old.files.view → (did again : Response) (new left : SessionState) → new.files ≡ left.files → (line : Line)
+    → TakesLine old line did new → TakesLine other line again left → TurnsSame old other line did again new left
+takes_once disk old other alike nobody told did again new left files line first second =
+    let there : SessionState = record old { err = other.err } in
+    let handled : Handles there line again second.mid = subst (λ (s : SessionState). Handles s line again second.mid) alike second.handled in
+    let mids : first.mid.files ≡ second.mid.files = sym (ap (λ (s : SessionState). s.files) first.tells.new_is) ∙ files ∙ ap (λ (s : SessionState). s.files) second.tells.new_is in
+    let same = steps_once disk old other.err nobody told first.handled.stepped handled.stepped first.mid second.mid mids line first.handled.steps handled.steps in
+    record {
+      does = first.handled.did_is ∙ ap (sent_in old.asking.escape) same.0 ∙ sym handled.did_is;
+      leaves = second.tells.new_is ∙ ap (λ (s : SessionState). record s { store = stored s.store.layers []; err = left.err }) same.1
+          ∙ ap (λ (s : SessionState). record s { err = left.err }) (sym first.tells.new_is);
+      told = first.mid.store.told;
+      one_tells = takes_tells line old new did first;
+      other_tells = subst (λ (t : List ℕ). Tells t other.err left.err) (ap (λ (s : SessionState). s.store.told) same.1) (takes_tells line other left again second);
+    }
 
 module _ (disk : Disk) (old : SessionState) (told : IsTold disk old.files.view) (did : Stepped) (new : SessionState) where
   state_told : new ≡ old → IsTold disk new.files.view
@@ -162,29 +197,34 @@ module _ (disk : Disk) (old : SessionState) (told : IsTold disk old.files.view) 
   steps_told TooLong steps = state_told steps.1
   steps_told (Whole line) steps = heard_told (heard old.asking.escape line) steps
 
-pub heeds_told : (disk : Disk) (old : SessionState) → IsTold disk old.files.view → (did : Response) (new : SessionState) (line : Line) → Handles old line did new → IsTold disk new.files.view
-heeds_told disk old told did new line steps = steps_told disk old told steps.stepped new line steps.steps
+pub takes_told : (disk : Disk) (old : SessionState) → IsTold disk old.files.view → (did : Response) (new : SessionState) (line : Line) → TakesLine old line did new → IsTold disk new.files.view
+takes_told disk old told did new line takes =
+    subst (λ (s : SessionState). IsTold disk s.files.view) (sym takes.tells.new_is) (steps_told disk old told takes.handled.stepped takes.mid line takes.handled.steps)
 
 -- ---- courses
 
 abbrev pub files_left : List (Transition SessionState) → List FilesState
 files_left transitions = each (λ transition. transition.new.files) transitions
 
-courses : (disk : Disk) (start : SessionState) (a b : List (Transition SessionState)) → AsksNobody start → IsTold disk start.files.view → IsExecution Handles start a → IsExecution Handles start b
-    → lines_of a ≡ lines_of b → files_left a ≡ files_left b → a ≡ b
-courses disk start [] [] nobody told first second lines files = refl
-courses disk start [] (transition ∷ b) nobody told first second lines files = cc
-courses disk start (transition ∷ a) [] nobody told first second lines files = cc
-courses disk start (one ∷ a) (other ∷ b) nobody told first second lines files =
-    let line : one.line ≡ other.line = cc in
-    let rest : lines_of a ≡ lines_of b = cc in
-    let left : one.new.files ≡ other.new.files = cc in
-    let later_files : files_left a ≡ files_left b = cc in
-    let here = heeds_once disk start nobody told one.did other.did one.new other.new left other.line (subst (λ (l : Line). Handles start l one.did one.new) line first.0) second.0 in
-    let later : a ≡ b
-    = courses disk one.new a b (steps_nobody one.line start one.new first.0.stepped nobody first.0.steps) (heeds_told disk start told one.did one.new one.line first.0) first.2 (subst (λ (s : SessionState). IsExecution Handles s b) (sym here.1) second.2) rest later_files in
-    λ i. record { line = line i; did = here.0 i; new = here.1 i } ∷ later i
+-- two courses do and leave the same, but for standard error, and tell the same
+abbrev pub GoSame : SessionState → SessionState → List (Transition SessionState) → List (Transition SessionState) → Type 0
+GoSame start other a b = AreTransitionsSame a b × TellSame start.err (state_after start a).err other.err (state_after other b).err
 
-pub determined : (disk : Disk) (start : SessionState) (calls : List FilesCall) (a b : List (Transition SessionState)) → start.files.view ≡ record { disk = Some disk; calls = Some calls } → AsksNobody start
-    → IsExecution Handles start a → IsExecution Handles start b → lines_of a ≡ lines_of b → files_left a ≡ files_left b → a ≡ b
-determined disk start calls a b told nobody = courses disk start a b nobody (calls, told)
+courses : (disk : Disk) (start other : SessionState) (a b : List (Transition SessionState)) → IsSameButErr start other → AsksNobody start → IsTold disk start.files.view → IsExecution TakesLine start a → IsExecution TakesLine other b
+    → lines_of a ≡ lines_of b → files_left a ≡ files_left b → GoSame start other a b
+courses disk start other [] [] same nobody told first second lines files = (record {}, none_told start.err other.err)
+courses disk start other [] (transition ∷ b) same nobody told first second lines files = cc
+courses disk start other (transition ∷ a) [] same nobody told first second lines files = cc
+courses disk start other (one ∷ a) (two ∷ b) same nobody told first second lines files =
+    let line : one.line ≡ two.line = cc in
+    let rest : lines_of a ≡ lines_of b = cc in
+    let left : one.new.files ≡ two.new.files = cc in
+    let later_files : files_left a ≡ files_left b = cc in
+    let takes : TakesLine start two.line one.did one.new = subst (λ (l : Line). TakesLine start l one.did one.new) line first.0 in
+    let here = takes_once disk start other same nobody told one.did two.did one.new two.new left two.line takes second.0 in
+    let later = courses disk one.new two.new a b here.leaves (takes_nobody two.line start one.new one.did nobody takes) (takes_told disk start told one.did one.new two.line takes) first.2 second.2 rest later_files in
+    ((here.does, here.leaves, later.0), more_told here.told here.told start.err one.new.err (state_after one.new a).err other.err two.new.err (state_after two.new b).err refl here.one_tells here.other_tells later.1)
+
+pub determined : (disk : Disk) (start other : SessionState) (calls : List FilesCall) (a b : List (Transition SessionState)) → start.files.view ≡ record { disk = Some disk; calls = Some calls } → IsSameButErr start other → AsksNobody start
+    → IsExecution TakesLine start a → IsExecution TakesLine other b → lines_of a ≡ lines_of b → files_left a ≡ files_left b → GoSame start other a b
+determined disk start other calls a b told same nobody = courses disk start other a b same nobody (calls, told)

@@ -10,7 +10,7 @@ use Rattle.dc_proto.specs.declared.command.Heard.{Heard}
 use Rattle.dc_proto.specs.declared.command.Heard.TheVariants.{Nothing, Known, Refused}
 use Rattle.dc_serve.specs.declared.machine.Response.{Response}
 use Rattle.dc_serve.specs.Execution.{Transition, state_after, IsExecution}
-use Rattle.dc_session.specs.Machine.{Handles, Steps, StepsHeard, Aborts, BreaksHeard, BreaksIdle, BreaksOff, GivesInPart, IsDoneInPart, Looks, LooksInVain, file_of}
+use Rattle.dc_session.specs.Machine.{TakesLine, Steps, StepsHeard, Aborts, BreaksHeard, BreaksIdle, BreaksOff, GivesInPart, IsDoneInPart, Looks, LooksInVain, file_of}
 use Rattle.dc_session.specs.SessionState.{FilesState, SessionState}
 use Rattle.dc_session.specs.TemplateFiles.{Finds, FindsNoMemory}
 use Rattle.dc_session.specs.declared.stepped.StepError.{StepError}
@@ -57,8 +57,8 @@ steps_keep old new TooLong did steps = state_keeps old new steps.1
 steps_keep old new (Whole line) did steps = heard_keeps (heard old.asking.escape line) old new did steps
 
 -- a line leaves the disk as it was
-pub heeds_reads : (old new : SessionState) (line : Line) (did : Response) → Handles old line did new → KeepsDisk old.files new.files
-heeds_reads old new line did steps = steps_keep old new line steps.stepped steps.steps
+pub takes_reads : (old new : SessionState) (line : Line) (did : Response) → TakesLine old line did new → KeepsDisk old.files new.files
+takes_reads old new line did takes = ap (λ (s : SessionState). s.files.view.disk) takes.tells.new_is ∙ steps_keep old takes.mid line takes.handled.stepped takes.handled.steps
 
 given_part_keeps : (command : Command) (old new : SessionState) → GivesInPart command old new → KeepsDisk old.files new.files
 given_part_keeps command old new part = elim part.gives [
@@ -91,6 +91,6 @@ pub breaks_reads : (old new : SessionState) (line : Line) (error : StepError) �
 breaks_reads old new TooLong error idle = idle_keeps old new error idle
 breaks_reads old new (Whole line) error aborts = heard_breaks (heard old.asking.escape line) old new error aborts
 
-pub course_reads : (start : SessionState) (transitions : List (Transition SessionState)) → IsExecution Handles start transitions → KeepsDisk start.files (state_after start transitions).files
+pub course_reads : (start : SessionState) (transitions : List (Transition SessionState)) → IsExecution TakesLine start transitions → KeepsDisk start.files (state_after start transitions).files
 course_reads start [] course = refl
-course_reads start (transition ∷ transitions) course = course_reads transition.new transitions course.2 ∙ heeds_reads start transition.new transition.line transition.did course.0
+course_reads start (transition ∷ transitions) course = course_reads transition.new transitions course.2 ∙ takes_reads start transition.new transition.line transition.did course.0

@@ -19,7 +19,7 @@ use Rattle.dc_layer.specs.State.{LayerState}
 use Rattle.dc_store.specs.Plans.{StoreState, write, owned}
 use Rattle.dc_store.specs.Batches.{Write, commit, all_done, names_of, is_refused, first_refused}
 use Rattle.dc_store.specs.StoreLaws.{AreSameButAll}
-use Rattle.dc_store.proofs.Frames.{plan_keeps}
+use Rattle.dc_store.proofs.Walks.{plan_keeps}
 use Rattle.dc_store.proofs.RowLemmas.{same_all, same_all_refl, same_all_then}
 use Rattle.dc_teletype.specs.declared.teletype.Asked.{Asked}
 use Rattle.dc_teletype.specs.declared.teletype.Asked.TheVariants.{Answers, Back}

@@ -12,12 +12,14 @@ pub mod GoLemmas
 pub mod LineLaws
 pub mod LoadLemmas
 pub mod ProgressLemmas
+pub mod QuietLaws
 pub mod RunLaws
 pub mod SameAnswers
 pub mod NameLemmas
 pub mod ServeLemmas
 pub mod SetLaws
 pub mod TakenLaws
+pub mod TellingLemmas
 pub mod TerminalLaws
 pub mod TerminalLemmas
 pub mod Teeth

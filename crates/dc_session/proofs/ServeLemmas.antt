@@ -1,9 +1,10 @@
 -- A session that was served.
-use Rattle.std.proofs.Common.{◌≡◌, ℕ, Bool, List, [], Option, None, refl, sym, ap, subst, ◌∙◌, inr}
+use Rattle.std.proofs.Common.{◌≡◌, ℕ, Bool, List, [], Option, None, refl, sym, ap, subst, ◌∙◌, inl, inr}
 use Rattle.std.specs.Prelude.{Result, Ok, Err, IfOk, unwrap_or, option_and_then, codes}
 use Rattle.std.specs.Result.{result_ok}
 use Rattle.dc_text.specs.declared.memory.OutOfMemory.{OutOfMemory}
 use Rattle.dc_layer.specs.State.{LayerState}
+use Rattle.dc_outside.specs.LinkCalls.{Tells}
 use Rattle.dc_frontend.specs.Frontends.{frontend_of}
 use Rattle.dc_frontend.specs.declared.frontend.Frontend.{Frontend}
 use Rattle.dc_frontend.specs.declared.frontend.Frontend.TheVariants.{Teletype}
@@ -16,27 +17,49 @@ use Rattle.dc_serve.specs.LinkRun.{IsLinkRun, ServesLink}
 use Rattle.dc_serve.specs.declared.outcome.LinkEnd.{LinkEnd}
 use Rattle.dc_serve.specs.declared.outcome.LinkEnd.TheVariants as link
 use Rattle.dc_serve.proofs.Progress.{run_unstarted}
-use Rattle.dc_store.specs.Plans.{stored}
+use Rattle.dc_store.specs.Plans.{StoreState, stored}
+use Rattle.dc_store.specs.StoreLaws.{AreSameButAll}
 use Rattle.dc_teletype.specs.TerminalLines.{TypeAhead}
-use Rattle.dc_session.specs.Asking.{nothing_asked, threshold_by, frontend_by, policy_by}
+use Rattle.dc_session.specs.Asking.{finished, nothing_asked, threshold_by, frontend_by, policy_by}
 use Rattle.dc_session.specs.declared.asking.Asking.{Asking}
 use Rattle.dc_session.specs.declared.policy.AskPolicy.{AskPolicy}
-use Rattle.dc_session.specs.Machine.{Handles, Aborts}
-use Rattle.dc_session.specs.Serving.{IsServed, Finishes, Resources, resources_of, resources_in, session_over}
+use Rattle.dc_session.specs.Machine.{TellsStore, TakesLine, Aborts}
+use Rattle.dc_session.specs.Serving.{IsServed, IsFinished, Finishes, Resources, resources_of, resources_in, session_over}
 use Rattle.dc_session.specs.SessionState.{FilesState, LinkState, TerminalState, terminal_at, SessionState}
 use Rattle.dc_session.specs.declared.stepped.StepError.{StepError}
 
+-- ---- the end of a session
+
+module _ (state mid new : SessionState) (kept : mid ≡ record state { store = mid.store }) where
+  -- it was finished, and what its layers told was told
+  pub finished_told : (served : LinkEnd StepError) → mid.store ≡ finished state → TellsStore mid new → IsFinished state served (resources_in new) served
+  finished_told served is tells = inl (
+    ap (λ (s : SessionState). s.store.layers) tells.new_is ∙ ap (λ (t : StoreState). t.layers) is,
+    subst (λ (t : StoreState). Tells t.told state.err new.err) is (subst (λ (l : LinkState). Tells mid.store.told l new.err) (ap (λ (s : SessionState). s.err) kept) tells.told),
+    refl,
+  )
+
+  pub finished_rest : TellsStore mid new → new ≡ record state { store = new.store; err = new.err }
+  finished_rest tells =
+      tells.new_is ∙ ap (λ (s : SessionState). record s { store = stored mid.store.layers []; err = new.err }) kept
+      ∙ ap (λ (t : StoreState). record state { store = t; err = new.err }) (sym (ap (λ (s : SessionState). s.store) tells.new_is))
+
+-- there was no memory to finish it
+pub unfinished : (state new : SessionState) (served : LinkEnd StepError) → AreSameButAll state.asking.asked state.store.layers new.store.layers → new ≡ record state { store = new.store } → IsFinished state served (resources_in new) link.OutOfMemory
+unfinished state new served others kept = inr (others, ap (λ (s : SessionState). s.err) kept, refl)
+
+-- ---- a session that was served
+
 -- a session that was served over a link, and then finished
 pub served_from : (start state kept : SessionState) (old new : LinkState) (served ended : LinkEnd StepError) (before code last : ℕ)
-    → ServesLink Handles Aborts old new start served state before code → last ≡ code → kept ≡ record state { store = kept.store } → Finishes served state kept.store.layers ended
+    → ServesLink TakesLine Aborts old new start served state before code → last ≡ code → kept ≡ record state { store = kept.store; err = kept.err } → Finishes served state (resources_in kept) ended
     → IsServed start (resources_in kept) old new ended before last
 served_from start state kept old new served ended before code last serves last_is rest finishes = record {
   state = state;
   served = served;
-  ran = subst (λ (n : ℕ). IsLinkRun Handles Aborts old.talk new.talk old.input new.input start served state before n) (sym last_is) serves.run;
+  ran = subst (λ (n : ℕ). IsLinkRun TakesLine Aborts old.talk new.talk old.input new.input start served state before n) (sym last_is) serves.run;
   files_are = ap (λ (s : SessionState). s.files) rest;
   terminal_is = ap (λ (s : SessionState). s.terminal) rest;
-  err_is = ap (λ (s : SessionState). s.err) rest;
   finishes = finishes;
   counts = serves.counts;
   program = serves.program;
@@ -67,11 +90,10 @@ pub unserved : (start : SessionState) (left : Resources) (old : LinkState) (befo
 unserved start left old before are looked shown said = record {
   state = start;
   served = link.OutOfMemory;
-  ran = run_unstarted Handles Aborts old.talk old.input start before;
+  ran = run_unstarted TakesLine Aborts old.talk old.input start before;
   files_are = looked;
   terminal_is = shown;
-  err_is = said;
-  finishes = (are, refl);
+  finishes = (are, said, refl);
   counts = inr refl;
   program = refl;
 }

@@ -19,6 +19,7 @@ use Rattle.dc_proto.specs.declared.command.Command.TheVariants.{Get, Set}
 use Rattle.dc_proto.specs.declared.reply.Reply.{Reply}
 use Rattle.dc_store.specs.Plans.{StoreState, look, look_below, look_after, seen_after}
 use Rattle.dc_store.specs.Batches.{Write, commit, all_done, is_refused}
+use Rattle.dc_store.specs.StoreLaws.{KeepsApart}
 use Rattle.dc_store.proofs.TakenLemmas.{row_seen}
 use Rattle.dc_question.specs.Changes.{value_set, done_or, question_write}
 use Rattle.dc_question.specs.Questions.{QuestionContext, value, template, read}
@@ -59,7 +60,7 @@ never_gone text (Some item) is = by_same (parts_eq (asked (value_op text) item) 
 
 -- ---- what the write leaves
 
-module _ (store : StoreState) (at : QuestionContext) (name text : List ℕ) (alone : at.config.backup ≡ None) (item : ItemParts) (there : look store.layers at.config name ≡ Some item) where
+module _ (store : StoreState) (at : QuestionContext) (name text : List ℕ) (alone : KeepsApart at.config) (item : ItemParts) (there : look store.layers at.config name ≡ Some item) where
   abbrev the_write : Write
   the_write = question_write store.layers at name item (value_op text)
 
@@ -96,7 +97,7 @@ first_false : (a : Bool) → (a || false) ≡ false → a ≡ false
 first_false true is = cc
 first_false false is = refl
 
-confirmed : (store : StoreState) (at : QuestionContext) (name text : List ℕ) → at.config.backup ≡ None → (found : Option ItemParts) → look store.layers at.config name ≡ found
+confirmed : (store : StoreState) (at : QuestionContext) (name text : List ℕ) → KeepsApart at.config → (found : Option ItemParts) → look store.layers at.config name ≡ found
     → IsConfirmed name text at (read name found (λ item. done_or name (commit store (question_write store.layers at name item (value_op text) ∷ []))))
 confirmed store at name text alone None is = tt
 confirmed store at name text alone (Some item) is = by_test (list_any (is_refused store.layers) (the_write store at name text alone item is ∷ [])) refl where
@@ -105,7 +106,7 @@ confirmed store at name text alone (Some item) is = by_test (list_any (is_refuse
   by_test true refused = rw refused tt
   by_test false free = rw free (left_has store at name text alone item is (first_false (is_refused store.layers (the_write store at name text alone item is)) free))
 
-module _ (old mid : SessionState) (question_name text : List ℕ) (r : Reply) (alone : old.at.config.backup ≡ None) (done : HasDone (Set question_name text) old (Replied r) mid) (code : r.code ≡ 0) where
+module _ (old mid : SessionState) (question_name text : List ℕ) (r : Reply) (alone : KeepsApart old.at.config) (done : HasDone (Set question_name text) old (Replied r) mid) (code : r.code ≡ 0) where
   not_refused : (e : QuestionError) → Replied r ≡ Replied (refusal [] e) → ⊥
   not_refused e same =
       let reply_is : r ≡ refusal [] e = cc in

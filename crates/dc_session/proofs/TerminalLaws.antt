@@ -13,10 +13,11 @@ use Rattle.dc_proto.specs.declared.command.Command.TheVariants.{Go, ProgressStar
 use Rattle.dc_proto.specs.declared.command.Heard.{Heard}
 use Rattle.dc_proto.specs.declared.command.Heard.TheVariants.{Nothing, Known, Refused}
 use Rattle.dc_serve.specs.Execution.{Transition, state_after, IsExecution}
+use Rattle.dc_serve.specs.declared.machine.Response.{Response}
 use Rattle.dc_teletype.specs.declared.teletype.Asked.{Asked}
 use Rattle.dc_teletype.specs.declared.teletype.Asked.TheVariants.{Answers}
 use Rattle.dc_session.specs.Displays.{Display, Blank, OneLine, Dialogue, displayed, where_asked, Shows}
-use Rattle.dc_session.specs.Machine.{Handles, Steps, StepsHeard, Aborts, BreaksHeard, BreaksIdle, BreaksOff, GivesInPart, IsDoneInPart}
+use Rattle.dc_session.specs.Machine.{TakesLine, Steps, StepsHeard, Aborts, BreaksHeard, BreaksIdle, BreaksOff, GivesInPart, IsDoneInPart}
 use Rattle.dc_session.specs.SessionState.{LinkState, TerminalState, SessionState}
 use Rattle.dc_session.specs.declared.asking.Asking.{Asking}
 use Rattle.dc_session.specs.declared.stepped.StepError.{StepError}
@@ -100,10 +101,14 @@ pub breaks_count : (old new : SessionState) (line : Line) (error : StepError) �
 breaks_count old new TooLong error idle = idle_counts old new error idle
 breaks_count old new (Whole line) error aborts = heard_breaks (heard old.asking.escape line) old new error aborts
 
--- at lines that are answered it counted nothing
-pub course_counts : (start : SessionState) (transitions : List (Transition SessionState)) → IsExecution Handles start transitions → CountsNothing start (state_after start transitions)
+-- at a line that is answered it counted nothing
+takes_count : (line : Line) (old new : SessionState) (did : Response) → TakesLine old line did new → CountsNothing old new
+takes_count line old new did takes = ap (λ (s : SessionState). s.terminal.link.counts) takes.tells.new_is ∙ steps_count line old takes.mid takes.handled.stepped takes.handled.steps
+
+-- nor at more of them
+pub course_counts : (start : SessionState) (transitions : List (Transition SessionState)) → IsExecution TakesLine start transitions → CountsNothing start (state_after start transitions)
 course_counts start [] course = refl
-course_counts start (transition ∷ transitions) course = course_counts transition.new transitions course.2 ∙ steps_count transition.line start transition.new course.0.stepped course.0.steps
+course_counts start (transition ∷ transitions) course = course_counts transition.new transitions course.2 ∙ takes_count transition.line start transition.new transition.did course.0
 
 -- ---- a session that asks nobody
 
@@ -132,9 +137,13 @@ pub steps_nobody : (line : Line) (old new : SessionState) (did : Stepped) → As
 steps_nobody TooLong old new did nobody steps = ap (λ (s : SessionState). s.policy.frontend) steps.1 ∙ nobody
 steps_nobody (Whole line) old new did nobody steps = heard_nobody (heard old.asking.escape line) old new did nobody steps
 
-pub course_nobody : (start : SessionState) (transitions : List (Transition SessionState)) → AsksNobody start → IsExecution Handles start transitions → AsksNobody (state_after start transitions)
+pub takes_nobody : (line : Line) (old new : SessionState) (did : Response) → AsksNobody old → TakesLine old line did new → AsksNobody new
+takes_nobody line old new did nobody takes =
+    ap (λ (s : SessionState). s.policy.frontend) takes.tells.new_is ∙ steps_nobody line old takes.mid takes.handled.stepped nobody takes.handled.steps
+
+pub course_nobody : (start : SessionState) (transitions : List (Transition SessionState)) → AsksNobody start → IsExecution TakesLine start transitions → AsksNobody (state_after start transitions)
 course_nobody start [] nobody course = nobody
-course_nobody start (transition ∷ transitions) nobody course = course_nobody transition.new transitions (steps_nobody transition.line start transition.new course.0.stepped nobody course.0.steps) course.2
+course_nobody start (transition ∷ transitions) nobody course = course_nobody transition.new transitions (takes_nobody transition.line start transition.new transition.did nobody course.0) course.2
 
 heard_unfailed : (said : Heard) (old new : SessionState) → AsksNobody old → BreaksHeard said old step.Term new → ⊥
 heard_unfailed Nothing old new nobody none = none

@@ -1,11 +1,12 @@
 -- Sessions that differ in their terminals alone, and there only in how the bytes came, and in what stands on standard error.
 use Rattle.std.specs.Prelude.{◌≡◌, ⊤, ℕ, List, [], ◌∷◌, Some}
+use Rattle.dc_outside.specs.LinkCalls.{Tells}
 use Rattle.dc_outside.specs.Talk.{sent}
 use Rattle.dc_outside.specs.declared.link.Piece.{Piece}
 use Rattle.dc_serve.specs.Execution.{Transition}
 use Rattle.dc_serve.specs.Said.{said}
 use Rattle.dc_teletype.specs.Typed.{ToldTerminal, IsUsedUp, typed}
-use Rattle.dc_session.specs.SessionState.{TerminalState, SessionState}
+use Rattle.dc_session.specs.SessionState.{LinkState, TerminalState, SessionState}
 
 -- all is told of the terminal, and it is this
 pub record IsToldAs (terminal : TerminalState) (told : ToldTerminal) : Type 0 where
@@ -23,10 +24,21 @@ pub record AreTerminalsAlike (one other : TerminalState) : Type 0 where
   pub said : sent first.talk ≡ sent second.talk
   pub same : typed first ≡ typed second
 
--- the sessions are the same but for their terminals, which are alike, and for standard error, on which no command tells anything
+-- the sessions are the same but for their terminals, which are alike, and for standard error
 pub record AreAlike (one other : SessionState) : Type 0 where
   pub rest : other ≡ record one { terminal = other.terminal; err = other.err }
   pub terminals : AreTerminalsAlike one.terminal other.terminal
+
+-- the session is the same but for standard error
+abbrev pub IsSameButErr : SessionState → SessionState → Type 0
+IsSameButErr one other = other ≡ record one { err = other.err }
+
+-- turn by turn the same is replied, and what is left is the same but for standard error
+abbrev pub AreTransitionsSame : List (Transition SessionState) → List (Transition SessionState) → Type 0
+AreTransitionsSame [] [] = ⊤
+AreTransitionsSame [] (other ∷ others) = ⊥
+AreTransitionsSame (one ∷ ones) [] = ⊥
+AreTransitionsSame (one ∷ ones) (other ∷ others) = (one.did ≡ other.did) × IsSameButErr one.new other.new × AreTransitionsSame ones others
 
 -- turn by turn the same is replied, and what is left is alike
 abbrev pub AreTransitionsAlike : List (Transition SessionState) → List (Transition SessionState) → Type 0
@@ -46,3 +58,14 @@ pub record EndAlike (pieces others : List Piece) (code other_code : ℕ) (one ot
   pub replies : said pieces ≡ said others
   pub code_is : code ≡ other_code
   pub states : AreAlike one other
+
+-- the texts are told on a link, one after another
+abbrev pub TellsEach : List (List ℕ) → LinkState → LinkState → Type 0
+TellsEach [] old new = new ≡ old
+TellsEach (text ∷ texts) old new = (mid : LinkState) × Tells text old mid × TellsEach texts mid new
+
+-- the same texts were told on two links
+pub record TellSame (one new other last : LinkState) : Type 0 where
+  pub texts : List (List ℕ)
+  pub one_tells : TellsEach texts one new
+  pub other_tells : TellsEach texts other last

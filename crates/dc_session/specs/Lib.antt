@@ -6,6 +6,8 @@ pub mod Escaping
 pub mod FileLoading
 pub mod Inside
 pub mod Machine
+pub mod Over
+pub mod Quiet
 pub mod Refusals
 pub mod Serving
 pub mod SessionState

@@ -1,5 +1,6 @@
 -- The plain machine behind a link: what a line does, and what it leaves.
-use Rattle.std.specs.Prelude.{◌≡◌, ◌⊎◌, ℕ, Bool, List, Option, Some, None, Result, Ok, Err}
+use Rattle.std.specs.Prelude.{◌≡◌, ◌⊎◌, ℕ, Bool, List, [], Option, Some, None, Result, Ok, Err}
+use Rattle.dc_outside.specs.LinkCalls.{Tells}
 use Rattle.dc_outside.specs.declared.link.LinkError.TheVariants.{Failed, OutOfMemory}
 use Rattle.dc_text.specs.declared.memory.OutOfMemory as memory
 use Rattle.dc_words.specs.declared.stream.Line.{Line}
@@ -10,6 +11,7 @@ use Rattle.dc_proto.specs.declared.command.Command.{Command}
 use Rattle.dc_proto.specs.declared.command.Command.TheVariants.{LoadTemplateFile}
 use Rattle.dc_proto.specs.declared.command.Heard.{Heard}
 use Rattle.dc_proto.specs.declared.command.Heard.TheVariants.{Nothing, Known, Refused}
+use Rattle.dc_store.specs.Plans.{stored}
 use Rattle.dc_store.specs.StoreLaws.{AreSameButAll}
 use Rattle.dc_serve.specs.declared.machine.Response.{Response}
 use Rattle.dc_serve.specs.declared.machine.Response.TheVariants as heeded
@@ -101,6 +103,17 @@ pub record Handles (old : SessionState) (line : Line) (did : Response) (new : Se
   pub stepped : Stepped
   pub steps : Steps old line stepped new
   pub did_is : did ≡ sent_in old.asking.escape stepped
+
+-- what the layers told is told on standard error, as far as that takes it
+pub record TellsStore (old new : SessionState) : Type 0 where
+  pub told : Tells old.store.told old.err new.err
+  pub new_is : new ≡ record old { store = stored old.store.layers []; err = new.err }
+
+-- a line came, and what the layers told at it was told behind its reply
+pub record TakesLine (old : SessionState) (line : Line) (did : Response) (new : SessionState) : Type 0 where
+  pub mid : SessionState
+  pub handled : Handles old line did mid
+  pub tells : TellsStore mid new
 
 -- what a command leaves that isn't answered
 abbrev pub BreaksOff : Command → SessionState → StepError → SessionState → Type 0

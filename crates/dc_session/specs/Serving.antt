@@ -1,6 +1,7 @@
 -- The session behind a link, over the layers of a store.
 use Rattle.std.specs.Prelude.{◌≡◌, ◌⊎◌, ℕ, Bool, List, [], Option}
-use Rattle.dc_conf.specs.declared.plans.Plan.{Plan}
+use Rattle.dc_conf.specs.Trees.{Tree}
+use Rattle.dc_outside.specs.LinkCalls.{Tells}
 use Rattle.dc_frontend.specs.declared.frontend.Frontend.{Frontend}
 use Rattle.dc_layer.specs.State.{LayerState}
 use Rattle.dc_proto.specs.declared.priority.Priority.{Priority}
@@ -12,7 +13,7 @@ use Rattle.dc_serve.specs.declared.outcome.LinkEnd.TheVariants as link
 use Rattle.dc_store.specs.Plans.{stored}
 use Rattle.dc_store.specs.StoreLaws.{AreSameButAll}
 use Rattle.dc_session.specs.Asking.{finished, nothing_asked, policy_by}
-use Rattle.dc_session.specs.Machine.{Handles, Aborts}
+use Rattle.dc_session.specs.Machine.{TakesLine, Aborts}
 use Rattle.dc_session.specs.SessionState.{FilesState, LinkState, TerminalState, SessionState}
 use Rattle.dc_session.specs.declared.serving.SessionSetup.{SessionSetup}
 use Rattle.dc_session.specs.declared.stepped.StepError.{StepError}
@@ -45,7 +46,7 @@ session_over resources at owner frontend threshold nonint_seen = record {
 }
 
 -- a session that is set up so
-abbrev pub session_by : SessionSetup → Plan → Plan → Resources → SessionState
+abbrev pub session_by : SessionSetup → Tree → Tree → Resources → SessionState
 session_by setup config templates resources =
     session_over resources (record { config = config; templates = templates; lang = setup.lang.now }) setup.owner.now setup.frontend setup.threshold setup.nonint_seen
 
@@ -55,32 +56,37 @@ resources_in state = resources_of state.store.layers state.files state.terminal 
 
 -- ---- how it ends
 
--- the session was finished, or memory ran out at that, and at most the items of the questions that were asked changed
-abbrev pub IsFinished : SessionState → LinkEnd StepError → List LayerState → LinkEnd StepError → Type 0
-IsFinished state served layers ended =
-    ((layers ≡ (finished state).layers) × (ended ≡ served)) ⊎ (AreSameButAll state.asking.asked state.store.layers layers × (ended ≡ link.OutOfMemory))
+-- The session was finished, and what the layers told at that was told on standard error; or memory ran out at it, and at most the items of the
+-- questions that were asked changed.
+abbrev pub IsFinished : SessionState → LinkEnd StepError → Resources → LinkEnd StepError → Type 0
+IsFinished state served left ended =
+    ((left.layers ≡ (finished state).layers) × Tells (finished state).told state.err left.err × (ended ≡ served))
+    ⊎ (AreSameButAll state.asking.asked state.store.layers left.layers × (left.err ≡ state.err) × (ended ≡ link.OutOfMemory))
 
 -- the end of a session that broke off at a line
 abbrev pub end_broken : StepError → LinkEnd StepError
 end_broken step.Term = link.Broken step.Term
 end_broken step.OutOfMemory = link.OutOfMemory
 
+-- it stays as it was, and ends so
+abbrev pub IsUnfinished : SessionState → Resources → LinkEnd StepError → LinkEnd StepError → Type 0
+IsUnfinished state left ended end = (left.layers ≡ state.store.layers) × (left.err ≡ state.err) × (ended ≡ end)
+
 -- What becomes of a session whose link was served to this end: it is finished, unless memory ran out or the terminal failed.
-abbrev pub Finishes : LinkEnd StepError → SessionState → List LayerState → LinkEnd StepError → Type 0
-Finishes link.Done state layers ended = IsFinished state link.Done layers ended
-Finishes link.LinkFault state layers ended = IsFinished state link.LinkFault layers ended
-Finishes link.TooLong state layers ended = IsFinished state link.TooLong layers ended
-Finishes link.OutOfMemory state layers ended = (layers ≡ state.store.layers) × (ended ≡ link.OutOfMemory)
-Finishes (link.Broken error) state layers ended = (layers ≡ state.store.layers) × (ended ≡ end_broken error)
+abbrev pub Finishes : LinkEnd StepError → SessionState → Resources → LinkEnd StepError → Type 0
+Finishes link.Done state left ended = IsFinished state link.Done left ended
+Finishes link.LinkFault state left ended = IsFinished state link.LinkFault left ended
+Finishes link.TooLong state left ended = IsFinished state link.TooLong left ended
+Finishes link.OutOfMemory state left ended = IsUnfinished state left ended link.OutOfMemory
+Finishes (link.Broken error) state left ended = IsUnfinished state left ended (end_broken error)
 
 -- a session that began so was served, over a link and from the last code on, and finished, and left these
 pub record IsServed (start : SessionState) (left : Resources) (old new : LinkState) (ended : LinkEnd StepError) (before code : ℕ) : Type 0 where
   pub state : SessionState
   pub served : LinkEnd StepError
-  pub ran : IsLinkRun Handles Aborts old.talk new.talk old.input new.input start served state before code
+  pub ran : IsLinkRun TakesLine Aborts old.talk new.talk old.input new.input start served state before code
   pub files_are : left.files ≡ state.files
   pub terminal_is : left.terminal ≡ state.terminal
-  pub err_is : left.err ≡ state.err
-  pub finishes : Finishes served state left.layers ended
+  pub finishes : Finishes served state left ended
   pub counts : LinkCounts served old.counts new.counts
   pub program : new.program ≡ old.program

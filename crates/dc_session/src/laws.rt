@@ -15,18 +15,19 @@ ghost use Rattle.dc_proto.specs.declared.command.Command.{Command};
 ghost use Rattle.dc_proto.specs.declared.command.Command.TheVariants.{Get, Go, Set};
 ghost use Rattle.dc_proto.specs.declared.command.Heard.TheVariants.{Known};
 ghost use Rattle.dc_proto.specs.declared.reply.Reply.{Reply};
-ghost use Rattle.dc_store.specs.StoreLaws.{AreSameButAll};
+ghost use Rattle.dc_store.specs.StoreLaws.{AreSameButAll, KeepsApart};
 ghost use Rattle.dc_serve.specs.Execution.{Transition, lines_of, state_after, IsExecution};
 ghost use Rattle.dc_serve.specs.LinkRun.{IsLinkRun};
 ghost use Rattle.dc_serve.specs.declared.outcome.LinkEnd.TheVariants.{Done};
 ghost use Rattle.dc_serve.specs.Answering.{IsRead, AnswersBeforeReads};
 ghost use Rattle.dc_serve.specs.declared.machine.Response.{Response};
 ghost use Rattle.dc_serve.specs.declared.machine.Response.TheVariants as heeded;
-ghost use Rattle.dc_session.specs.Alike.{AreAlike, AreTransitionsAlike, AreFilesAlike, EndAlike};
+ghost use Rattle.dc_session.specs.Alike.{AreAlike, AreTransitionsSame, AreTransitionsAlike, AreFilesAlike, EndAlike, TellSame};
 ghost use Rattle.dc_session.specs.Answers.{nothing, answer, names_on, text_reply};
-ghost use Rattle.dc_session.specs.Asking.{first_fixed};
+ghost use Rattle.dc_session.specs.Asking.{finished, first_fixed};
 ghost use Rattle.dc_session.specs.Escaping.{set_line, unescaped};
-ghost use Rattle.dc_session.specs.Machine.{Handles, Steps, Aborts, HasDone};
+ghost use Rattle.dc_session.specs.Machine.{TakesLine, Steps, Aborts, HasDone};
+ghost use Rattle.dc_session.specs.Quiet.{IsQuietSession};
 ghost use Rattle.dc_session.specs.SessionState.{SessionState};
 ghost use Rattle.dc_session.specs.Taken.{Takes};
 ghost use Rattle.dc_session.specs.declared.stepped.StepError.TheVariants.{Term};
@@ -49,34 +50,45 @@ pub fn other_items_stay()
 {}
 
 /// Where the files tell of the disk and of the calls on them, the lines and the files determine what a session says and leaves that asks
-/// nobody.
+/// nobody, but for standard error. What it tells there is the same, as far as standard error takes it.
 pub fn lines_and_files_determine_the_course()
     ensures { (start : SessionState) (disk : Disk) (calls : List FilesCall) (a b : List (Transition SessionState)) → start.files.view ≡
         record { disk = Some disk; calls = Some calls } → start.policy.frontend ≡ Noninteractive
-        → IsExecution Handles start a → IsExecution Handles start b → lines_of a ≡ lines_of b → each (λ transition. transition.new.files) a ≡ each
-        (λ transition. transition.new.files) b → a ≡ b }
+        → IsExecution TakesLine start a → IsExecution TakesLine start b → lines_of a ≡ lines_of b → each (λ transition. transition.new.files) a ≡ each
+        (λ transition. transition.new.files) b
+        → AreTransitionsSame a b × TellSame start.err (state_after start a).err start.err (state_after start b).err }
 {}
 
 /// Where the files tell of the disk and of the calls on them, and the terminal of its talk and its input, the lines, the files and what is
 /// typed determine what a session says and leaves, in any manner of asking and in whatever pieces what is typed comes: the replies, the store
-/// and what is asked for, what is said on the terminal, and what is left of what is typed.
+/// and what is asked for, what is said on the terminal, and what is left of what is typed. What it tells on standard error is the same, as far
+/// as that takes it.
 pub fn lines_files_and_answers_determine_the_course()
     ensures { (start other : SessionState) (disk : Disk) (calls : List FilesCall) (a b : List (Transition SessionState)) → start.files.view ≡
         record { disk = Some disk; calls = Some calls } → AreAlike start other
-        → IsExecution Handles start a → IsExecution Handles other b → lines_of a ≡ lines_of b → each (λ transition. transition.new.files) a ≡ each
-        (λ transition. transition.new.files) b → AreTransitionsAlike a b }
+        → IsExecution TakesLine start a → IsExecution TakesLine other b → lines_of a ≡ lines_of b → each (λ transition. transition.new.files) a ≡ each
+        (λ transition. transition.new.files) b
+        → AreTransitionsAlike a b × TellSame start.err (state_after start a).err other.err (state_after other b).err }
 {}
 
 /// Two runs over links of which the same bytes are to come, that both come to the end, say the same and leave what is alike, however the
-/// links cut their bytes and the terminals what is typed, from sessions that are alike and the same last code, where the files are the same turn by turn. So the
-/// bytes of the link, the files and what is typed determine the replies and the store.
+/// links cut their bytes and the terminals what is typed, from sessions that are alike and the same last code, where the files are the same turn
+/// by turn. So the bytes of the link, the files and what is typed determine the replies, the store and what is told on standard error.
 pub fn bytes_files_and_answers_determine_the_run()
     ensures { (start other new last : SessionState) (disk : Disk) (calls : List FilesCall) (input : List ℕ)
         (talk new_talk told new_told : Option (List Piece)) (left rest : Option (List ℕ)) (before code number : ℕ)
         → start.files.view ≡ record { disk = Some disk; calls = Some calls } → AreAlike start other
-        → (one : IsLinkRun Handles Aborts talk new_talk (Some input) left start Done new before code) →
-        (two : IsLinkRun Handles Aborts told new_told (Some input) rest other Done last before number)
-        → AreFilesAlike one.transitions two.transitions → EndAlike one.pieces two.pieces code number new last }
+        → (one : IsLinkRun TakesLine Aborts talk new_talk (Some input) left start Done new before code) →
+        (two : IsLinkRun TakesLine Aborts told new_told (Some input) rest other Done last before number)
+        → AreFilesAlike one.transitions two.transitions
+        → EndAlike one.pieces two.pieces code number new last × TellSame start.err new.err other.err last.err }
+{}
+
+/// A session over plans that don't tell says nothing on standard error, neither of its lines nor at its end.
+pub fn plans_without_debug_tell_nothing()
+    ensures lines { (start : SessionState) (transitions : List (Transition SessionState)) → IsQuietSession start → IsExecution TakesLine start transitions →
+        (state_after start transitions).err ≡ start.err }
+    ensures finish { (state : SessionState) → IsQuietSession state → (finished state).told ≡ [] }
 {}
 
 /// Where a user is asked, and no prepared question has a value that can't be changed, GO does what the user answers: all questions that were
@@ -90,14 +102,14 @@ pub fn given_answers_are_taken()
 /// step: the line is answered first.
 pub fn lines_are_answered_first()
     ensures { (start : SessionState) (transitions : List (Transition SessionState)) (bytes : List ℕ) (line : Line) (piece : Piece)
-        → IsExecution Handles start transitions → whole_lines bytes ≡ line ∷ []
-        → ((did : Response) (new : SessionState) → Handles start line did new → (code : ℕ) × (text : List ℕ) × (did ≡ heeded.Replied code text))
+        → IsExecution TakesLine start transitions → whole_lines bytes ≡ line ∷ []
+        → ((did : Response) (new : SessionState) → TakesLine start line did new → (code : ℕ) × (text : List ℕ) × (did ≡ heeded.Replied code text))
         → IsRead piece → AnswersBeforeReads transitions (Got bytes ∷ piece ∷ []) → ⊥ }
 {}
 
 /// A session leaves the disk as it was: it only reads files.
 pub fn reads_leave_the_disk()
-    ensures { (start : SessionState) (transitions : List (Transition SessionState)) → IsExecution Handles start transitions →
+    ensures { (start : SessionState) (transitions : List (Transition SessionState)) → IsExecution TakesLine start transitions →
         (state_after start transitions).files.view.disk ≡ start.files.view.disk }
 {}
 
@@ -113,16 +125,17 @@ pub fn read_faults_are_counted()
 /// nothing. One that asks nobody meets no such fault.
 pub fn terminal_faults_are_counted()
     ensures failed { (old new : SessionState) (line : Line) → Aborts old line Term new → FaultRose old.terminal.link.counts new.terminal.link.counts }
-    ensures stays { (start : SessionState) (transitions : List (Transition SessionState)) → IsExecution Handles start transitions →
+    ensures stays { (start : SessionState) (transitions : List (Transition SessionState)) → IsExecution TakesLine start transitions →
         (state_after start transitions).terminal.link.counts ≡ start.terminal.link.counts }
     ensures nobody { (old new : SessionState) (line : Line) → old.policy.frontend ≡ Noninteractive → Aborts old line Term new → ⊥ }
 {}
 
 /// In escape mode a question can be set to any text, and GET tells the text that it was set to, whatever bytes it has, once its escapes are
-/// put back. Values are settled, so that a pair of a backslash and an n in it is a newline. The plan of questions has no backup here.
+/// put back. Values are settled, so that a pair of a backslash and an n in it is a newline. The plan of questions keeps the second plans of its
+/// backups apart, as each configuration does.
 pub fn escaped_values_come_back()
     ensures heard { (question text : List ℕ) → question ≢ [] → text ≢ [] → heard true (set_line question text) ≡ Known (Set question text) }
-    ensures told { (old mid : SessionState) (question text : List ℕ) (reply : Reply) → old.at.config.backup ≡ None → HasDone (Set question text) old
+    ensures told { (old mid : SessionState) (question text : List ℕ) (reply : Reply) → KeepsApart old.at.config → HasDone (Set question text) old
         (Replied reply) mid → reply.code ≡ 0
         → (answer mid (Get question) nothing).stepped ≡ Replied (text_reply mid (settled text)) }
     ensures sent { (text : List ℕ) → unescaped (escaped text) ≡ text }

@@ -2,6 +2,7 @@
 ghost use Rattle.std.specs.Prelude.{◌≡◌, ℕ, List, None, Result, IfOk, length, map as each, true, unwrap_or, option_and_then};
 ghost use Rattle.std.specs.Result.{result_ok};
 ghost use Rattle.dc_conf.specs.Plans.{IsOver, are_disjoint};
+ghost use Rattle.dc_conf.specs.Trees.{shape};
 ghost use Rattle.dc_question.specs.Asked.{HasPlans, asked, seen};
 ghost use Rattle.dc_question.specs.Questions.{Answers};
 ghost use Rattle.dc_question.specs.declared.errors.QuestionError.{QuestionError as QuestionErrorOf};
@@ -61,11 +62,11 @@ pub fn serve_layers<L: Link, T: Link, E: Link, F: Files>(
     setup: &SessionSetup<'_>,
     last_code: u8,
 ) -> Conversation<StepError>
-    requires config { IsOver config.now (length layers.old.items) }
-    requires templates { IsOver templates.now (length layers.old.items) }
-    requires disjoint { are_disjoint config.now templates.now ≡ true }
+    requires config { IsOver (shape config.now) (length layers.old.items) }
+    requires templates { IsOver (shape templates.now) (length layers.old.items) }
+    requires disjoint { are_disjoint (shape config.now) (shape templates.now) ≡ true }
     ensures { IsServed
-        (session_by setup.now config.now templates.now
+        (session_by setup.now (shape config.now) (shape templates.now)
         (resources_of (each state layers.old.items) (F.files files.old) (terminal_at (T.link terminal.old) teletype.old.ahead) (E.link err.old)))
         (resources_of (each state layers.new.items) (F.files files.new) (terminal_at (T.link terminal.new) teletype.new.ahead) (E.link err.new))
         (L.link io.old) (L.link io.new) result.end last_code result.last_code }
@@ -240,15 +241,19 @@ fn priority_said(said: Result<Text, QuestionError>) -> Mem<Priority>
     }
 }
 
-/// Finishes a session whose link was served to this end, by itself or by a machine around it, unless memory ran out or the terminal failed.
+/// Finishes a session whose link was served to this end, by itself or by a machine around it, unless memory ran out or the terminal failed, and
+/// tells what the layers told at that.
 pub fn finish_served<'s, 'f, 't, 'h, 'e, F: Files, T: Link, E: Link>(
     session: &mut Session<'s, 'f, 't, 'h, 'e, F, T, E>,
     served: Conversation<StepError>,
 ) -> Conversation<StepError>
     ensures finishes { Finishes served.end (session_of state F.files T.link E.link session.old)
-        (session_of state F.files T.link E.link session.new).store.layers result.end }
+        (resources_in (session_of state F.files T.link E.link session.new)) result.end }
     ensures rest { session_of state F.files T.link E.link session.new ≡ record
-        (session_of state F.files T.link E.link session.old) { store = (session_of state F.files T.link E.link session.new).store } }
+        (session_of state F.files T.link E.link session.old) {
+          store = (session_of state F.files T.link E.link session.new).store;
+          err = (session_of state F.files T.link E.link session.new).err;
+        } }
     ensures code { result.last_code ≡ served.last_code }
     ensures borrows { borrows_of session.new ≡ borrows_of session.old }
 {
@@ -257,7 +262,10 @@ pub fn finish_served<'s, 'f, 't, 'h, 'e, F: Files, T: Link, E: Link>(
         LinkEnd::OutOfMemory | LinkEnd::Broken(StepError::OutOfMemory) => LinkEnd::OutOfMemory,
         LinkEnd::Broken(StepError::Term) => LinkEnd::Broken(StepError::Term),
         ended => match session.finish() {
-            Ok(()) => ended,
+            Ok(()) => {
+                session.tell_store();
+                ended
+            }
             Err(_) => LinkEnd::OutOfMemory,
         },
     };

@@ -3,7 +3,7 @@ ghost use Rattle.std.specs.Prelude.{◌≡◌, IfOk, IfErr};
 ghost use Rattle.std.specs.Borrow.{GName};
 ghost use Rattle.dc_session.specs.SessionState.{SessionState, terminal_at, session_at_desk, session_of, borrows_of};
 ghost use Rattle.dc_session.specs.Inside.{DoesHeard};
-ghost use Rattle.dc_session.specs.Machine.{Handles as HandlesLine, Aborts as AbortsAt, Steps, DoesShowing};
+ghost use Rattle.dc_session.specs.Machine.{Handles as HandlesLine, TakesLine, TellsStore, Aborts as AbortsAt, Steps, DoesShowing};
 
 use crate::asking::Asking;
 use crate::policy::AskPolicy;
@@ -11,7 +11,7 @@ use crate::replies::{says, sent_in};
 use crate::session_questions::SessionQuestions;
 use crate::stepped::{StepError, Stepped, lifted};
 use dc_layer::Layer;
-use dc_outside::{Files, Link};
+use dc_outside::{Files, Link, tell};
 use dc_proto::{Command, Heard, read_command};
 use dc_serve::{LineMachine, Response};
 use dc_teletype::Teletype;
@@ -118,6 +118,16 @@ impl<'s, 'f, 't, 'h, 'e, F: Files, T: Link, E: Link> Session<'s, 'f, 't, 'h, 'e,
         }
     }
 
+    /// Tells on standard error what the layers told, as far as that takes it, and forgets it.
+    pub fn tell_store(&mut self)
+        ensures tells { TellsStore (⟦<Self as LineMachine>⟧.state self.old) (⟦<Self as LineMachine>⟧.state self.new) }
+        ensures borrows { borrows_of self.new ≡ borrows_of self.old }
+    {
+        let desk = &mut self.desk;
+        let told = desk.take_told();
+        tell(self.err, told.bytes());
+    }
+
     // What a line that was read does.
     fn serve(&mut self, heard: Heard) -> Result<Stepped, StepError>
         ensures does { DoesHeard heard (⟦<Self as LineMachine>⟧.state self.old) (⟦<Self as LineMachine>⟧.state self.new) result }
@@ -186,7 +196,7 @@ impl<'s, 'f, 't, 'h, 'e, F: Files, T: Link, E: Link> LineMachine
 
     ghost handles = { HandlesLine };
 
-    ghost steps = { HandlesLine };
+    ghost steps = { TakesLine };
 
     ghost aborts = { AbortsAt };
 
@@ -203,6 +213,7 @@ impl<'s, 'f, 't, 'h, 'e, F: Files, T: Link, E: Link> LineMachine
         }
     }
 
-    // No command tells anything beside its reply.
-    fn tell(&mut self) {}
+    fn tell(&mut self) {
+        self.tell_store();
+    }
 }

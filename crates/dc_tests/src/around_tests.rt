@@ -3,7 +3,7 @@ ghost use Rattle.std.specs.Prelude.{◌≡◌, ◌+◌, ℕ};
 ghost use Rattle.std.specs.Borrow.{GName};
 
 use crate::tests::{layer, text};
-use dc_conf::{Base, Plan};
+use dc_conf::Plan;
 use dc_frontend::Frontend;
 use dc_layer::Layer;
 use dc_outside::{Link, MemFiles, MemLink};
@@ -78,16 +78,8 @@ fn a_machine_stands_around_a_session(rt: HostRuntime) {
     let second: Box<dyn Layer> = Box::new(alloc, layer(&rt, alloc)).expect(&rt, "memory");
     layers.push(second).expect(&rt, "memory");
     let mut store = Store::new(alloc, layers);
-    let config = Plan {
-        base: Base::Leaf(0),
-        backup: None,
-        debug: false,
-    };
-    let templates = Plan {
-        base: Base::Leaf(1),
-        backup: None,
-        debug: false,
-    };
+    let config = Plan::Leaf(0);
+    let templates = Plan::Leaf(1);
     let lang = text(&rt, alloc, "");
     let owner = Name::read(alloc, b"me").ok().expect(&rt, "a name");
     let questions = Questions::new(alloc, &mut store, &config, &templates, &lang);

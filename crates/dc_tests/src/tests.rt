@@ -1,8 +1,9 @@
 // The calls, on values, a store of one layer, and links and files in memory.
 ghost use Rattle.std.specs.Prelude.{◌≡◌, length};
 ghost use Rattle.dc_conf.specs.Plans.{IsOver};
+ghost use Rattle.dc_conf.specs.Trees.{shape};
 
-use dc_conf::{Base, LayerSort, LayerSpec, Plan, ResolveError, Resolved, read_conf};
+use dc_conf::{LayerSort, LayerSpec, Plan, ResolveError, Resolved, read_conf};
 use dc_item::{After, Entry, Op, read_records};
 use dc_layer::{FileLayer, Image, Layer, Pattern};
 use dc_outside::{Child, Files, Link, LinkError, MemChild, MemFiles, WaitFault};
@@ -59,8 +60,8 @@ fn shown(rt: &impl Abort, alloc: Global, resolved: &Resolved) -> Text {
         shown.push(b' ').expect(rt, "memory");
     }
     for plan in resolved.plans.as_slice() {
-        match &plan.base {
-            Base::Leaf(place) => {
+        match plan {
+            Plan::Leaf(place) => {
                 let place = format!(in alloc; "{place}|").expect(rt, "memory");
                 shown.append(place.as_bytes()).expect(rt, "memory");
             }
@@ -222,8 +223,8 @@ pub(crate) fn layer(rt: &impl Abort, alloc: Global) -> FileLayer {
 
 // Puts in the item of a record.
 fn put(rt: &impl Abort, alloc: Global, store: &mut Store, plan: &Plan, record: &[u8])
-    requires { IsOver plan.now (length store.old.layers.items) }
-    ensures { IsOver plan.now (length store.new.layers.items) }
+    requires { IsOver (shape plan.now) (length store.old.layers.items) }
+    ensures { IsOver (shape plan.now) (length store.new.layers.items) }
 {
     let records = read_records(alloc, record).expect(rt, "records");
     let mut list = records.into_list(alloc).expect(rt, "memory");
@@ -244,11 +245,7 @@ fn a_store_tells_and_its_question_has_a_field(rt: HostRuntime) {
     let mut layers: Vec<Box<dyn Layer>> = Vec::new(alloc);
     layers.push(layer).expect(&rt, "memory");
     let mut store = Store::new(alloc, layers);
-    let plan = Plan {
-        base: Base::Leaf(0),
-        backup: None,
-        debug: true,
-    };
+    let plan = Plan::Debug(Box::new(rt.alloc(), Plan::Leaf(0)).expect(&rt, "memory"));
     let template = b"Name: t\nDescription: Pick ${more}\n".as_slice();
     put(&rt, rt.alloc(), &mut store, &plan, template);
     put(

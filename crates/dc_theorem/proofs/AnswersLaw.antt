@@ -15,7 +15,7 @@ use Rattle.dc_frontend.specs.declared.frontend.Frontend.{Frontend}
 use Rattle.dc_proto.specs.declared.priority.Priority.{Priority}
 use Rattle.dc_serve.specs.Execution.{Transition, IsExecution, state_after}
 use Rattle.dc_serve.specs.LinkRun.{IsWhole}
-use Rattle.dc_session.specs.Machine.{Handles, Looks, Steps, StepsHeard, file_of}
+use Rattle.dc_session.specs.Machine.{TakesLine, Looks, Steps, StepsHeard, file_of}
 use Rattle.dc_session.specs.Serving.{Resources}
 use Rattle.dc_session.specs.SessionState.{SessionState}
 use Rattle.dc_session.specs.TemplateFiles.{Finds}
@@ -34,7 +34,7 @@ use Rattle.dc_run.specs.declared.settings.Settings.{Settings}
 use Rattle.dc_theorem.specs.Completeness.{Answers, AnswersAll, AnswersHeard, AnswersLine}
 use Rattle.dc_theorem.proofs.CallsLaw.{at_save}
 use Rattle.dc_theorem.proofs.CleanLaw.{waited_link}
-use Rattle.dc_theorem.proofs.CountsLater.{course_kept, end_of_later, rose_behind, rose_between, start_later, steps_kept}
+use Rattle.dc_theorem.proofs.CountsLater.{course_kept, end_of_later, rose_behind, rose_between, start_later, takes_kept}
 use Rattle.dc_theorem.proofs.EndLemmas.{WasServed, unstarted_other, was_served}
 
 -- ---- a line
@@ -60,19 +60,23 @@ module _ (old new : SessionState) (did : Stepped) (none : ¬ Rose old.files.coun
 same_least : (n : ℕ) → n ≤ n
 same_least n = omega arith
 
-course_answered : (start : SessionState) (turns : List (Transition SessionState)) → IsExecution Handles start turns → ¬ Rose start.files.counts.faults (state_after start turns).files.counts.faults → IsExecution Answers start turns
+course_answered : (start : SessionState) (turns : List (Transition SessionState)) → IsExecution TakesLine start turns → ¬ Rose start.files.counts.faults (state_after start turns).files.counts.faults → IsExecution Answers start turns
 course_answered start [] course none = tt
 course_answered start (turn ∷ turns) course none =
     let first : ℕ = start.files.counts.faults in
     let second : ℕ = turn.new.files.counts.faults in
     let last : ℕ = (state_after turn.new turns).files.counts.faults in (
       record {
-        stepped = course.0.stepped;
-        steps = line_answered start turn.new course.0.stepped (λ rose. none (rose_between first first second last (same_least first) rose (course_kept turn.new turns course.2).0)) turn.line course.0.steps;
-        did_is = course.0.did_is;
+        mid = course.0.mid;
+        stepped = course.0.handled.stepped;
+        steps = line_answered start course.0.mid course.0.handled.stepped
+            (λ rose. none (rose_between first first second last (same_least first)
+            (subst (λ (s : SessionState). Rose first s.files.counts.faults) (sym course.0.tells.new_is) rose) (course_kept turn.new turns course.2).0)) turn.line course.0.handled.steps;
+        did_is = course.0.handled.did_is;
+        tells = course.0.tells;
       },
       course.1,
-      course_answered turn.new turns course.2 (λ rose. none (rose_behind first second last (steps_kept start turn.new turn.line course.0.stepped course.0.steps).0 rose)),
+      course_answered turn.new turns course.2 (λ rose. none (rose_behind first second last (takes_kept start turn.new turn.line turn.did course.0).0 rose)),
     )
 
 -- ---- a session

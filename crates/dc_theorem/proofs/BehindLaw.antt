@@ -30,10 +30,11 @@ use Rattle.dc_store.proofs.RowLemmas.{same_all_refl, same_all_then}
 use Rattle.dc_serve.specs.Execution.{Transition, IsExecution, lines_of, replies, state_after, stops}
 use Rattle.dc_serve.specs.LinkRun.{AreServed, IsLinkRun}
 use Rattle.dc_serve.specs.Said.{BreaksOff as BreaksOffAt, said}
+use Rattle.dc_serve.specs.declared.machine.Response.{Response}
 use Rattle.dc_serve.specs.declared.outcome.LinkEnd.{LinkEnd}
 use Rattle.dc_serve.specs.declared.outcome.LinkEnd.TheVariants as link
 use Rattle.dc_session.specs.Asking.{finished, with_seen}
-use Rattle.dc_session.specs.Machine.{Aborts, BreaksHeard, BreaksIdle, BreaksOff, Handles, IsDoneInPart, Steps, StepsHeard}
+use Rattle.dc_session.specs.Machine.{Aborts, BreaksHeard, BreaksIdle, BreaksOff, IsDoneInPart, Steps, StepsHeard, TakesLine}
 use Rattle.dc_session.specs.Serving.{IsFinished, Finishes as FinishesSession, IsServed, Resources}
 use Rattle.dc_session.specs.SessionState.{SessionState}
 use Rattle.dc_session.specs.declared.stepped.StepError.{StepError}
@@ -98,6 +99,11 @@ module _ (old new : SessionState) where
   line_left TooLong error idle = idle_left error idle
   line_left (Whole line) error aborts = heard_left (heard old.asking.escape line) error aborts
 
+-- what the layers told at it was told, which leaves the layers
+line_taken : (old new : SessionState) (line : Line) (did : Response) → TakesLine old line did new → IsBeforeLine old line new.store.layers
+line_taken old new line did takes =
+    subst (λ (s : SessionState). IsBeforeLine old line s.store.layers) (sym takes.tells.new_is) (line_done old takes.mid line takes.handled.stepped takes.handled.steps)
+
 -- ---- the questions that were asked
 
 -- more names
@@ -149,9 +155,9 @@ all_seen_same at all (name ∷ names) store among =
 finished_same : (state : SessionState) → AreSameButAll state.asking.asked state.store.layers (finished state).layers
 finished_same state = all_seen_same state.at state.asking.asked state.asking.asked state.store (λ n in'. in')
 
-finish_same : (state : SessionState) (served ended : LinkEnd StepError) (layers : List LayerState) → IsFinished state served layers ended → AreSameButAll state.asking.asked state.store.layers layers
-finish_same state served ended layers (inl all) = subst (λ (l : List LayerState). AreSameButAll state.asking.asked state.store.layers l) (sym all.0) (finished_same state)
-finish_same state served ended layers (inr none) = none.0
+finish_same : (state : SessionState) (served ended : LinkEnd StepError) (left : Resources) → IsFinished state served left ended → AreSameButAll state.asking.asked state.store.layers left.layers
+finish_same state served ended left (inl all) = subst (λ (l : List LayerState). AreSameButAll state.asking.asked state.store.layers l) (sym all.0) (finished_same state)
+finish_same state served ended left (inr none) = none.0
 
 -- ---- the turns before the last one
 
@@ -163,18 +169,18 @@ no_end : (gone : List (Transition SessionState)) (last : Transition SessionState
 no_end [] last is = cc
 no_end (turn ∷ gone) last is = cc
 
-course_before : (start : SessionState) (gone : List (Transition SessionState)) (last : Transition SessionState) → IsExecution Handles start (gone ++ last ∷ []) → IsExecution Handles start gone
+course_before : (start : SessionState) (gone : List (Transition SessionState)) (last : Transition SessionState) → IsExecution TakesLine start (gone ++ last ∷ []) → IsExecution TakesLine start gone
 course_before start [] last course = tt
 course_before start (turn ∷ gone) last course = (course.0, (λ stop. absurd (no_end gone last (course.1 stop))), course_before turn.new gone last course.2)
 
-last_handled : (start : SessionState) (gone : List (Transition SessionState)) (last : Transition SessionState) → IsExecution Handles start (gone ++ last ∷ []) → Handles (state_after start gone) last.line last.did last.new
+last_handled : (start : SessionState) (gone : List (Transition SessionState)) (last : Transition SessionState) → IsExecution TakesLine start (gone ++ last ∷ []) → TakesLine (state_after start gone) last.line last.did last.new
 last_handled start [] last course = course.0
 last_handled start (turn ∷ gone) last course = last_handled turn.new gone last course.2
 
 -- ---- a session
 
 module _ (start : SessionState) (old new : LinkState) (before code : ℕ) where
-  module _ (ended : LinkEnd StepError) (state : SessionState) (ran : IsLinkRun Handles Aborts old.talk new.talk old.input new.input start ended state before code) where
+  module _ (ended : LinkEnd StepError) (state : SessionState) (ran : IsLinkRun TakesLine Aborts old.talk new.talk old.input new.input start ended state before code) where
     -- the layers are those behind all turns, but for the questions that were asked where no line was left
     behind_all : (layers : List LayerState) → state ≡ state_after start ran.transitions → (said ran.pieces ≡ replies ran.transitions) ⊎ AreCutShort ran.transitions ran.pieces
         → (layers ≡ state.store.layers) ⊎ (NoneLeft ran.transitions ran.pieces old.input × AreSameButAll state.asking.asked state.store.layers layers) → KeepUp start old new layers
@@ -195,7 +201,7 @@ module _ (start : SessionState) (old new : LinkState) (before code : ℕ) where
     -- of the last line nothing is said
     before_last : (gone : List (Transition SessionState)) (last : Transition SessionState) → ran.transitions ≡ gone ++ last ∷ [] → stops gone ≡ false → said ran.pieces ≡ replies gone → KeepUp start old new last.new.store.layers
     before_last gone last are on replied =
-        let course : IsExecution Handles start (gone ++ last ∷ []) = subst (λ (ts : List (Transition SessionState)). IsExecution Handles start ts) are ran.course in
+        let course : IsExecution TakesLine start (gone ++ last ∷ []) = subst (λ (ts : List (Transition SessionState)). IsExecution TakesLine start ts) are ran.course in
         let handled = last_handled start gone last course in
         record {
           pieces = ran.pieces;
@@ -209,7 +215,7 @@ module _ (start : SessionState) (old new : LinkState) (before code : ℕ) where
             on = on;
             served = subst (AreServed ran.pieces old.input) (ap (λ (ts : List (Transition SessionState)). lines_of ts ++ ran.rest) are ∙ lines_before gone last ran.rest) ran.served;
             replied = replied;
-            layers_are = line_done (state_after start gone) last.new last.line handled.stepped handled.steps;
+            layers_are = line_taken (state_after start gone) last.new last.line last.did handled;
           });
         }
 
@@ -238,35 +244,35 @@ module _ (start : SessionState) (old new : LinkState) (before code : ℕ) where
     }
 
   -- at each end
-  keeps_up : (served ended : LinkEnd StepError) (state : SessionState) (layers : List LayerState) → IsLinkRun Handles Aborts old.talk new.talk old.input new.input start served state before code → FinishesSession served state layers ended → KeepUp start old new layers
-  keeps_up link.Done ended state layers ran finishes =
-      behind_all link.Done state ran layers ran.answered.are_said.state_is (inl ran.answered.are_said.pieces_are) (inr (
+  keeps_up : (served ended : LinkEnd StepError) (state : SessionState) (left : Resources) → IsLinkRun TakesLine Aborts old.talk new.talk old.input new.input start served state before code → FinishesSession served state left ended → KeepUp start old new left.layers
+  keeps_up link.Done ended state left ran finishes =
+      behind_all link.Done state ran left.layers ran.answered.are_said.state_is (inl ran.answered.are_said.pieces_are) (inr (
         elim ran.answered.read [
           | inl stop ↦ inl stop
           | inr read ↦ inr (inl (inr read))
         ],
-        finish_same state link.Done ended layers finishes,
+        finish_same state link.Done ended left finishes,
       ))
-  keeps_up link.LinkFault ended state layers ran finishes = elim ran.answered [
+  keeps_up link.LinkFault ended state left ran finishes = elim ran.answered [
     | inl lost ↦
-        behind_all link.LinkFault state ran layers lost.answered.are_said.state_is (inl lost.answered.are_said.pieces_are)
-        (inr (inr (inl (inl lost.answered.all_served)), finish_same state link.LinkFault ended layers finishes))
+        behind_all link.LinkFault state ran left.layers lost.answered.are_said.state_is (inl lost.answered.are_said.pieces_are)
+        (inr (inr (inl (inl lost.answered.all_served)), finish_same state link.LinkFault ended left finishes))
     | inr cut ↦
-        behind_all link.LinkFault state ran layers (state_left start state ran.transitions ran.rest ran.pieces old.input before code link.LinkFault tt ran.answered) (inr (state, code, cut.answered))
-        (inr (inr (inr (state, code, cut.answered)), finish_same state link.LinkFault ended layers finishes))
+        behind_all link.LinkFault state ran left.layers (state_left start state ran.transitions ran.rest ran.pieces old.input before code link.LinkFault tt ran.answered) (inr (state, code, cut.answered))
+        (inr (inr (inr (state, code, cut.answered)), finish_same state link.LinkFault ended left finishes))
   ]
-  keeps_up link.TooLong ended state layers ran finishes =
+  keeps_up link.TooLong ended state left ran finishes =
       let answered = ran.answered.answered in
-      behind_all link.TooLong state ran layers answered.are_said.state_is (inl answered.are_said.pieces_are)
-      (inr (inr (inl (inl answered.all_served)), finish_same state link.TooLong ended layers finishes))
-  keeps_up link.OutOfMemory ended state layers ran finishes =
+      behind_all link.TooLong state ran left.layers answered.are_said.state_is (inl answered.are_said.pieces_are)
+      (inr (inr (inl (inl answered.all_served)), finish_same state link.TooLong ended left finishes))
+  keeps_up link.OutOfMemory ended state left ran finishes =
       subst (λ (l : List LayerState). KeepUp start old new l) (sym finishes.0) (broken_off_there link.OutOfMemory state ran ran.answered)
-  keeps_up (link.Broken error) ended state layers ran finishes =
+  keeps_up (link.Broken error) ended state left ran finishes =
       let at = ran.answered in
       subst (λ (l : List LayerState). KeepUp start old new l) (sym finishes.0) (at_broken (link.Broken error) state ran error at.line at.more at.on at.rest_is at.broke at.pieces_are)
 
 served_up : (start : SessionState) (left : Resources) (old new : LinkState) (ended : LinkEnd StepError) (before code : ℕ) → IsServed start left old new ended before code → KeepUp start old new left.layers
-served_up start left old new ended before code is = keeps_up start old new before code is.served ended is.state left.layers is.ran is.finishes
+served_up start left old new ended before code is = keeps_up start old new before code is.served ended is.state left is.ran is.finishes
 
 nothing_said : (talk : Option (List Piece)) → talk ≡ then_pieces talk []
 nothing_said None = refl

@@ -33,7 +33,7 @@ use Rattle.dc_save.specs.declared.loading.LoadError.{LoadError}
 use Rattle.dc_shelf.specs.Shelves.{GoesOn, LoadsAll}
 use Rattle.dc_serve.specs.Execution.{Transition, IsExecution, state_after}
 use Rattle.dc_session.specs.Answers.{CommandInputs, answer, loading}
-use Rattle.dc_session.specs.Machine.{Handles, Looks, Steps, StepsHeard, file_of, sent_in}
+use Rattle.dc_session.specs.Machine.{TakesLine, Looks, Steps, StepsHeard, file_of, sent_in}
 use Rattle.dc_session.specs.Refusals.{read_fault}
 use Rattle.dc_session.specs.SessionState.{SessionState}
 use Rattle.dc_session.specs.TemplateFiles.{Finds}
@@ -273,12 +273,20 @@ module _ (old : SessionState) (turn : Transition SessionState) where
   line_add TooLong is did did_is steps = state_add steps.1
   line_add (Whole line) is did did_is steps = heard_add line is did did_is (heard old.asking.escape line) refl steps
 
-pub turns_add : (start : SessionState) (turns : List (Transition SessionState)) → IsExecution Handles start turns → AddCalls (IsReadIn start turns) start.files.view (state_after start turns).files.view
+-- what the layers told at a line is told behind it, which leaves the files
+turn_add : (start : SessionState) (turn : Transition SessionState) → TakesLine start turn.line turn.did turn.new → AddCalls (IsReadBy start turn) start.files.view turn.new.files.view
+turn_add start turn takes =
+    let at : Transition SessionState = record { line = turn.line; did = turn.did; new = takes.mid } in
+    let adds : AddCalls (IsReadBy start at) start.files.view takes.mid.files.view = line_add start at turn.line refl takes.handled.stepped takes.handled.did_is takes.handled.steps in
+    subst (λ (s : SessionState). AddCalls (IsReadBy start turn) start.files.view s.files.view) (sym takes.tells.new_is)
+    (so_weaker (IsReadBy start at) (IsReadBy start turn) start.files.view takes.mid.files.view (λ call so. record { line = so.line; owner = so.owner; text = so.text; line_is = so.line_is; heard_is = so.heard_is; replied = so.replied }) adds)
+
+pub turns_add : (start : SessionState) (turns : List (Transition SessionState)) → IsExecution TakesLine start turns → AddCalls (IsReadIn start turns) start.files.view (state_after start turns).files.view
 turns_add start [] course = adds_none (IsReadIn start []) start.files.view start.files.view refl
 turns_add start (turn ∷ turns) course =
     let So : FilesCall → Type 0 = IsReadIn start (turn ∷ turns) in
     adds_then So start.files.view turn.new.files.view (state_after turn.new turns).files.view
-    (so_weaker (IsReadBy start turn) So start.files.view turn.new.files.view (λ call so. inl so) (line_add start turn turn.line refl course.0.stepped course.0.did_is course.0.steps))
+    (so_weaker (IsReadBy start turn) So start.files.view turn.new.files.view (λ call so. inl so) (turn_add start turn course.0))
     (so_weaker (IsReadIn turn.new turns) So turn.new.files.view (state_after turn.new turns).files.view (λ call so. inr so) (turns_add turn.new turns course.2))
 
 -- ---- template files

@@ -54,7 +54,7 @@ use Rattle.dc_run.specs.Jobs.{Copies, CopiesBy, HasTaken, Prints, PrintsMade, Us
 use Rattle.dc_run.specs.OneRound.{HasUsed}
 use Rattle.dc_run.specs.Running.{Awaits, end_unstarted}
 use Rattle.dc_run.specs.Saves.{Save}
-use Rattle.dc_run.specs.Starting.{EndsBefore, HasLoaded, IsConfiguration, IsRefusedFor, begun, conf_read, conf_text, databases_of, has_files, keeps_changes, loaded_of, pattern_words, wrong_database}
+use Rattle.dc_run.specs.Starting.{EndsBefore, HasLoaded, IsConfiguration, IsRefusedFor, IsWrongWord, begun, conf_read, conf_text, databases_of, has_files, keeps_changes, loaded_of, pattern_words}
 use Rattle.dc_run.specs.TemplateLoading.{EndsAt, state_after as file_state}
 use Rattle.dc_run.specs.World.{Links, World, before_rounds}
 use Rattle.dc_run.specs.declared.outcome.End.{End}
@@ -65,10 +65,10 @@ use Rattle.dc_run.specs.declared.outcome.ToolAnswer.{ToolAnswer}
 use Rattle.dc_run.specs.declared.outcome.ToolEnd.{ToolEnd}
 use Rattle.dc_run.specs.declared.outcome.ToolEnd.TheVariants as tool
 use Rattle.dc_run.specs.declared.settings.Settings.{Settings}
-use Rattle.dc_run.specs.declared.starting.CopyRoots.{CopyRoots}
-use Rattle.dc_run.specs.declared.starting.Roots.{Roots}
+use Rattle.dc_run.specs.Roots.{CopyRoots, Roots}
 use Rattle.dc_run.proofs.CountLemmas.{links_counted, program_counted}
 use Rattle.dc_run.proofs.CrashLemmas.{load_reads}
+use Rattle.dc_run.proofs.DatabaseLemmas.{right_not_wrong}
 use Rattle.dc_run.proofs.RunLemmas.{ends_so}
 use Rattle.dc_run.proofs.UsedLemmas.{as_used}
 use Rattle.dc_theorem.specs.Completeness.{IsUndisturbed, IsReadable, EndsWell, FewCame, FewServed}
@@ -273,7 +273,7 @@ tool_tells : (used : Tool) (roots : Roots) (start : SessionState) (old new : Lin
 tool_tells (Communicate owner) roots start old new before answer said left uses =
     let served = uses.0.served in
     rw uses.0.ended_is
-    (served_tells (CameLong old.io new.io) start.files.counts left.files.counts served.served uses.0.ended (ends_so served.served served.state left.layers uses.0.ended served.finishes)
+    (served_tells (CameLong old.io new.io) start.files.counts left.files.counts served.served uses.0.ended (ends_so served.served served.state left uses.0.ended served.finishes)
     (session_long start left old.io new.io uses.0.ended before answer.last_code served))
 tool_tells (LoadTemplate owner paths) roots start old new before answer said left uses =
     let loads = uses.loaded in
@@ -284,7 +284,7 @@ tool_tells (Run owner frontend priority command) roots start old new before answ
   | inr started ↦
       let served = started.served in
       rw started.ended_is
-      (served_tells (CameLong old.child new.child) start.files.counts left.files.counts served.served started.ended (ends_so served.served served.state left.layers started.ended served.finishes)
+      (served_tells (CameLong old.child new.child) start.files.counts left.files.counts served.served started.ended (ends_so served.served served.state left started.ended served.finishes)
       (λ long. subst (λ (l : LinkState). CameLong l new.child) started.starts.state (session_long start left started.mid new.child started.ended before answer.last_code served long)))
 ]
 tool_tells (Show database shown) roots start old new before answer said left uses = printed_tells ⊥ start.files.counts left.files.counts _ answer.ended old.io new.io uses.0.prints
@@ -396,9 +396,6 @@ read_disk : (is : Bool) (files : FilesView) (path : List ℕ) → (if is then af
 read_disk true files path = refl
 read_disk false files path = refl
 
-some_none : (word : ℕ) (found : Option ℕ) → found ≡ Some word → found ≡ None → ⊥
-some_none word found some none = cc
-
 module _ (words : List (List ℕ)) (used : Tool) (conf : Configuration) (settings : Settings) (old new : World) (clean : IsUndisturbed words used conf settings old new) where
   abbrev files : FilesState
   files = old.stock.files
@@ -440,7 +437,7 @@ module _ (words : List (List ℕ)) (used : Tool) (conf : Configuration) (setting
       rw refused.end_is
       (refused_well refused.text refused.error (clean.conf_is.conf_is.text_is ∙ sym (subst (λ (d : Option Disk). IsTextAt d settings.conf_path refused.text) clean.told refused.text_is)) refused.refused)
   before_well how (inr (inr (inr (inl wrong)))) = absurd
-      (some_none wrong.word (wrong_database used conf) (ap (λ (c : Configuration). wrong_database used c) (sym (same_conf wrong.conf wrong.conf_is)) ∙ wrong.wrong) clean.conf_is.databases)
+      (right_not_wrong used conf wrong.word clean.conf_is.databases (subst (λ (c : Configuration). IsWrongWord used c (Some wrong.word)) (same_conf wrong.conf wrong.conf_is) wrong.wrong))
   before_well how (inr (inr (inr (inr (inl at))))) = rw at.end_is (word_well at.before at.word at.after at.words_are at.error at.refused)
   before_well how (inr (inr (inr (inr (inr (inl at)))))) =
       let same = same_conf at.conf at.conf_is.conf_is.conf_is in

@@ -5,7 +5,7 @@ use Rattle.dc_outside.specs.State.{FilesState, LinkState}
 use Rattle.dc_serve.specs.LinkRun.{IsLinkRun}
 use Rattle.dc_serve.specs.declared.outcome.LinkEnd.TheVariants as link
 use Rattle.dc_session.specs.Asking.{finished}
-use Rattle.dc_session.specs.Machine.{Handles, Aborts}
+use Rattle.dc_session.specs.Machine.{TakesLine, Aborts}
 use Rattle.dc_session.specs.SessionState.{SessionState}
 use Rattle.dc_run.specs.Ends.{status_of}
 use Rattle.dc_run.specs.OneRound.{HasUsed}
@@ -19,9 +19,10 @@ use Rattle.dc_theorem.specs.Runs.{IsClean, CommunicateAlike}
 use Rattle.dc_theorem.proofs.EndLemmas.{was_used, unwaited, WasServed, was_served}
 use Rattle.dc_outside.specs.Disk.{Disk}
 use Rattle.dc_outside.specs.declared.files.FilesCall.{FilesCall}
-use Rattle.dc_theorem.proofs.Recount.{with_outside, run_with}
+use Rattle.dc_theorem.proofs.Recount.{with_counts, run_with}
 use Rattle.dc_theorem.proofs.StartLaws.{StartAlike}
 use Rattle.dc_theorem.proofs.SameRuns.{run_later, run_same}
+use Rattle.dc_theorem.proofs.TellLaws.{tell_last}
 use Rattle.dc_theorem.proofs.UsedLemmas.{tool_done, left_sound, starts_low, starts_told, same_start, leave_alike}
 
 -- ---- one run
@@ -34,8 +35,8 @@ module _ (words : List (List ℕ)) (owner : List ℕ) (settings : Settings) (dis
   served : WasServed start has.left old.links.io has.links.io 0 has.answer.last_code
   served = was_served start has.left old.links.io has.links.io has.uses.0.ended 0 has.answer.last_code (sym has.uses.0.ended_is ∙ tool_done words (Communicate owner) settings disk calls old new outcome clean has) has.uses.0.served
 
-  ran : IsLinkRun Handles Aborts old.links.io.talk has.links.io.talk (Some input) has.links.io.input start link.Done served.state 0 has.answer.last_code
-  ran = subst (λ (k : Option (List ℕ)). IsLinkRun Handles Aborts old.links.io.talk has.links.io.talk k has.links.io.input start link.Done served.state 0 has.answer.last_code) input_is served.ran
+  ran : IsLinkRun TakesLine Aborts old.links.io.talk has.links.io.talk (Some input) has.links.io.input start link.Done served.state 0 has.answer.last_code
+  ran = subst (λ (k : Option (List ℕ)). IsLinkRun TakesLine Aborts old.links.io.talk has.links.io.talk k has.links.io.input start link.Done served.state 0 has.answer.last_code) input_is served.ran
 
   high : served.state.files.counts.faults ≤ old.stock.files.counts.faults
   high = subst (λ (f : FilesState). f.counts.faults ≤ old.stock.files.counts.faults) served.files_are (left_sound words (Communicate owner) settings disk calls old new outcome clean has)
@@ -69,33 +70,35 @@ module _ (words : List (List ℕ)) (owner : List ℕ) (settings : Settings) (dis
       let second = served words owner settings disk calls other last again input other_clean other_has other_input_is in
       let one_ran = ran words owner settings disk calls one new outcome input clean has input_is in
       let begins = begun (Communicate owner) (before_rounds (record one { stock = has.mid })) has.roots settings in
+      let there = begun (Communicate owner) (before_rounds (record other { stock = has.mid })) has.roots settings in
       let other_begins = begun (Communicate owner) (before_rounds (record other { stock = other_has.mid })) other_has.roots settings in
       let counts = has.mid.files.counts in
-      let err = one.err in
-      let recounted = run_with counts err other.stock.files.counts.faults other_clean.none_failed.room other.links.io.talk other_has.links.io.talk (Some input) other_has.links.io.input other_begins second.state 0 other_has.answer.last_code
+      let recounted = run_with counts other.stock.files.counts.faults other_clean.none_failed.room other.links.io.talk other_has.links.io.talk (Some input) other_has.links.io.input other_begins second.state 0 other_has.answer.last_code
       (starts_low words (Communicate owner) settings disk calls other last again other_clean other_has) (high words owner settings disk calls other last again input other_clean other_has other_input_is)
       (ran words owner settings disk calls other last again input other_clean other_has other_input_is) in
-      let begin : with_outside counts err other_begins ≡ begins
-      = λ i. begun (Communicate owner) (before_rounds (record one { stock = record { files = record { view = sym starts.told i; counts = counts }; used = sym starts.used i } })) (sym starts.roots_are i) settings in
-      let other_ran : IsLinkRun Handles Aborts other.links.io.talk other_has.links.io.talk (Some input) other_has.links.io.input begins link.Done (with_outside counts err second.state) 0 other_has.answer.last_code
-      = subst (λ (s : SessionState). IsLinkRun Handles Aborts other.links.io.talk other_has.links.io.talk (Some input) other_has.links.io.input s link.Done (with_outside counts err second.state) 0 other_has.answer.last_code) begin recounted in
+      let begin : with_counts counts other_begins ≡ there
+      = λ i. begun (Communicate owner) (before_rounds (record other { stock = record { files = record { view = sym starts.told i; counts = counts }; used = sym starts.used i } })) (sym starts.roots_are i) settings in
+      let other_ran : IsLinkRun TakesLine Aborts other.links.io.talk other_has.links.io.talk (Some input) other_has.links.io.input there link.Done (with_counts counts second.state) 0 other_has.answer.last_code
+      = subst (λ (s : SessionState). IsLinkRun TakesLine Aborts other.links.io.talk other_has.links.io.talk (Some input) other_has.links.io.input s link.Done (with_counts counts second.state) 0 other_has.answer.last_code) begin recounted in
       let disk_told = starts_told words (Communicate owner) settings disk calls one new outcome clean has in
       let same = run_same one.stock.files.counts.faults clean.none_failed.room disk disk_told.0 input one.links.io.talk has.links.io.talk other.links.io.talk other_has.links.io.talk has.links.io.input other_has.links.io.input
-      begins first.state (with_outside counts err second.state) 0 has.answer.last_code other_has.answer.last_code disk_told.1 refl (starts_low words (Communicate owner) settings disk calls one new outcome clean has)
+      begins there first.state (with_counts counts second.state) 0 has.answer.last_code other_has.answer.last_code disk_told.1 refl refl (starts_low words (Communicate owner) settings disk calls one new outcome clean has)
       (high words owner settings disk calls one new outcome input clean has input_is) (mid_high words owner settings disk calls one new outcome input clean has input_is) one_ran other_ran in
-      let layers : has.left.layers ≡ other_has.left.layers = first.layers_are ∙ ap (λ (s : SessionState). (finished s).layers) same.2 ∙ sym second.layers_are in
+      let layers : has.left.layers ≡ other_has.left.layers = first.layers_are ∙ ap (λ (s : SessionState). (finished s).layers) (sym same.states) ∙ sym second.layers_are in
       let left : has.left.files.view ≡ other_has.left.files.view
-      = ap (λ (f : FilesState). f.view) first.files_are ∙ ap (λ (s : SessionState). s.files.view) same.2 ∙ sym (ap (λ (f : FilesState). f.view) second.files_are) in
+      = ap (λ (f : FilesState). f.view) first.files_are ∙ ap (λ (s : SessionState). s.files.view) (sym same.states) ∙ sym (ap (λ (f : FilesState). f.view) second.files_are) in
+      let told = tell_last (finished first.state).told (finished second.state).told one.err first.state.err has.left.err other.err second.state.err other_has.left.err same.told
+      (ap (λ (s : SessionState). (finished s).told) (sym same.states)) first.tells second.tells in
       record {
-        leave = leave_alike words (Communicate owner) tt settings disk calls one new other last outcome again clean other_clean has other_has layers left (has.uses.2 ∙ sym other_has.uses.2) same.1;
+        leave = leave_alike words (Communicate owner) settings disk calls one new other last outcome again clean other_clean has other_has layers left told (has.uses.2 ∙ sym other_has.uses.2) same.code_is;
         replies = record {
           pieces = one_ran.pieces;
           other_pieces = other_ran.pieces;
           one_is = ap (λ (l : LinkState). l.talk) has.io_is ∙ one_ran.told_is;
           other_is = ap (λ (l : LinkState). l.talk) other_has.io_is ∙ other_ran.told_is;
-          same = same.0;
+          same = same.replies_are;
         };
-        status = status_is words owner settings disk calls other last again input other_clean other_has other_input_is ∙ sym same.1 ∙ sym (status_is words owner settings disk calls one new outcome input clean has input_is);
+        status = status_is words owner settings disk calls other last again input other_clean other_has other_input_is ∙ sym same.code_is ∙ sym (status_is words owner settings disk calls one new outcome input clean has input_is);
       }
 
 pub communicate_alike : (words : List (List ℕ)) (owner : List ℕ) (settings : Settings) (disk : Disk) (calls : List FilesCall) (one new other last : World) (outcome again : Outcome) (input : List ℕ) → Names words (Communicate owner)

@@ -21,9 +21,10 @@ use Rattle.dc_save.specs.declared.loading.LoadError.{LoadError}
 use Rattle.dc_shelf.specs.Shelves.{GoesOn, LoadsAll}
 use Rattle.dc_serve.specs.Execution.{Transition, state_after, IsExecution}
 use Rattle.dc_serve.specs.LinkRun.{Answered}
+use Rattle.dc_serve.specs.declared.machine.Response.{Response}
 use Rattle.dc_serve.specs.declared.outcome.LinkEnd.{LinkEnd}
 use Rattle.dc_serve.specs.declared.outcome.LinkEnd.TheVariants as link
-use Rattle.dc_session.specs.Machine.{Handles, Steps, StepsHeard, Aborts, BreaksHeard, BreaksOff, GivesInPart, IsDoneInPart, Looks, LooksInVain, file_of}
+use Rattle.dc_session.specs.Machine.{TakesLine, Steps, StepsHeard, Aborts, BreaksHeard, BreaksOff, GivesInPart, IsDoneInPart, Looks, LooksInVain, file_of}
 use Rattle.dc_session.specs.Serving.{IsServed, Resources}
 use Rattle.dc_session.specs.SessionState.{SessionState}
 use Rattle.dc_session.specs.TemplateFiles.{Finds, FindsNoMemory}
@@ -45,8 +46,7 @@ use Rattle.dc_run.specs.declared.outcome.End.TheVariants as end
 use Rattle.dc_run.specs.declared.outcome.ToolAnswer.{ToolAnswer}
 use Rattle.dc_run.specs.declared.outcome.ToolEnd.{ToolEnd}
 use Rattle.dc_run.specs.declared.outcome.ToolEnd.TheVariants as tool
-use Rattle.dc_run.specs.declared.starting.CopyRoots.{CopyRoots}
-use Rattle.dc_run.specs.declared.starting.Roots.{Roots}
+use Rattle.dc_run.specs.Roots.{CopyRoots, Roots}
 use Rattle.dc_run.proofs.CrashLemmas.{broken_off, state_left}
 use Rattle.dc_run.proofs.RunLemmas.{ends_so}
 
@@ -169,12 +169,17 @@ module _ (old new : SessionState) where
   line_shown TooLong none = absurd none
   line_shown (Whole line) aborts = heard_shown (heard old.asking.escape line) aborts
 
-pub course_kept : (start : SessionState) (turns : List (Transition SessionState)) → IsExecution Handles start turns → Kept start.files.counts (state_after start turns).files.counts
+-- what the layers told is told behind a line, which leaves the files
+pub takes_kept : (old new : SessionState) (line : Line) (did : Response) → TakesLine old line did new → Kept old.files.counts new.files.counts
+takes_kept old new line did takes =
+    subst (λ (s : SessionState). Kept old.files.counts s.files.counts) (sym takes.tells.new_is) (steps_kept old takes.mid line takes.handled.stepped takes.handled.steps)
+
+pub course_kept : (start : SessionState) (turns : List (Transition SessionState)) → IsExecution TakesLine start turns → Kept start.files.counts (state_after start turns).files.counts
 course_kept start [] course = unmoved start.files.counts start.files.counts refl
 course_kept start (turn ∷ turns) course =
-    kept_then start.files.counts turn.new.files.counts (state_after turn.new turns).files.counts (steps_kept start turn.new turn.line course.0.stepped course.0.steps) (course_kept turn.new turns course.2)
+    kept_then start.files.counts turn.new.files.counts (state_after turn.new turns).files.counts (takes_kept start turn.new turn.line turn.did course.0) (course_kept turn.new turns course.2)
 
-module _ (start new : SessionState) (turns : List (Transition SessionState)) (rest : List Line) (talk : List Piece) (input : Option (List ℕ)) (before code : ℕ) (course : IsExecution Handles start turns) where
+module _ (start new : SessionState) (turns : List (Transition SessionState)) (rest : List Line) (talk : List Piece) (input : Option (List ℕ)) (before code : ℕ) (course : IsExecution TakesLine start turns) where
   left_by : new ≡ state_after start turns → Kept start.files.counts new.files.counts
   left_by is = subst (λ (s : SessionState). Kept start.files.counts s.files.counts) (sym is) (course_kept start turns course)
 
@@ -209,7 +214,7 @@ module _ (start : SessionState) (left : Resources) (old new : LinkState) (ended 
   served_kept other =
       let ran = is.ran in
       subst (λ (f : FilesState). Kept start.files.counts f.counts) (sym is.files_are)
-      (session_kept start is.state ran.transitions ran.rest ran.pieces old.input before code ran.course is.served (no_break (ends_so is.served is.state left.layers ended is.finishes)) ran.answered) where
+      (session_kept start is.state ran.transitions ran.rest ran.pieces old.input before code ran.course is.served (no_break (ends_so is.served is.state left ended is.finishes)) ran.answered) where
         no_break : (ended ≡ is.served) ⊎ (ended ≡ link.OutOfMemory) → is.served ≡ link.Broken step.OutOfMemory → ⊥
         no_break (inl same) broken = other (ap (λ (e : LinkEnd StepError). tool_end_of e) (same ∙ broken))
         no_break (inr none) broken = other (ap (λ (e : LinkEnd StepError). tool_end_of e) none)

@@ -14,7 +14,7 @@ use Rattle.dc_serve.specs.LinkRun.{IsLinkRun}
 use Rattle.dc_serve.specs.declared.outcome.LinkEnd.{LinkEnd}
 use Rattle.dc_serve.specs.declared.outcome.LinkEnd.TheVariants as link
 use Rattle.dc_session.specs.Asking.{finished}
-use Rattle.dc_session.specs.Machine.{Handles, Aborts}
+use Rattle.dc_session.specs.Machine.{TakesLine, Aborts}
 use Rattle.dc_session.specs.Serving.{IsFinished, Finishes as FinishesSession, IsServed, Resources, end_broken}
 use Rattle.dc_session.specs.SessionState.{SessionState}
 use Rattle.dc_session.specs.declared.stepped.StepError.{StepError}
@@ -38,6 +38,7 @@ use Rattle.dc_run.specs.declared.outcome.ToolEnd.TheVariants as tool
 use Rattle.dc_run.specs.declared.settings.Settings.{Settings}
 use Rattle.dc_outside.specs.Disk.{Disk}
 use Rattle.dc_outside.specs.declared.files.FilesCall.{FilesCall}
+use Rattle.dc_outside.specs.LinkCalls.{Tells}
 use Rattle.dc_outside.specs.declared.link.LinkError.{LinkError}
 use Rattle.dc_outside.specs.declared.link.LinkError.TheVariants.{Failed, OutOfMemory}
 use Rattle.dc_cli.specs.Tools.{Names}
@@ -192,32 +193,39 @@ broken_other : (error : StepError) → end_broken error ≡ link.Done → ⊥
 broken_other step.Term is = cc
 broken_other step.OutOfMemory is = cc
 
-finished_by : (state : SessionState) (layers : List LayerState) (served ended : LinkEnd StepError) → ended ≡ link.Done → IsFinished state served layers ended → (served ≡ link.Done) × (layers ≡ (finished state).layers)
-finished_by state layers served ended done (inl is) = (sym is.1 ∙ done, is.0)
-finished_by state layers served ended done (inr none) = absurd (no_link_memory (sym none.1 ∙ done))
+-- it was finished, and what the layers told at that was told
+pub record HasFinished (state : SessionState) (left : Resources) : Type 0 where
+  pub layers_are : left.layers ≡ (finished state).layers
+  pub tells : Tells (finished state).told state.err left.err
 
-finished_so : (state : SessionState) (layers : List LayerState) (served ended : LinkEnd StepError) → ended ≡ link.Done → FinishesSession served state layers ended → (served ≡ link.Done) × (layers ≡ (finished state).layers)
-finished_so state layers link.Done ended done finishes = finished_by state layers link.Done ended done finishes
-finished_so state layers link.LinkFault ended done finishes = finished_by state layers link.LinkFault ended done finishes
-finished_so state layers link.TooLong ended done finishes = finished_by state layers link.TooLong ended done finishes
-finished_so state layers link.OutOfMemory ended done finishes = absurd (no_link_memory (sym finishes.1 ∙ done))
-finished_so state layers (link.Broken error) ended done finishes = absurd (broken_other error (sym finishes.1 ∙ done))
+finished_by : (state : SessionState) (left : Resources) (served ended : LinkEnd StepError) → ended ≡ link.Done → IsFinished state served left ended → (served ≡ link.Done) × HasFinished state left
+finished_by state left served ended done (inl is) = (sym is.2 ∙ done, record { layers_are = is.0; tells = is.1 })
+finished_by state left served ended done (inr none) = absurd (no_link_memory (sym none.2 ∙ done))
+
+finished_so : (state : SessionState) (left : Resources) (served ended : LinkEnd StepError) → ended ≡ link.Done → FinishesSession served state left ended → (served ≡ link.Done) × HasFinished state left
+finished_so state left link.Done ended done finishes = finished_by state left link.Done ended done finishes
+finished_so state left link.LinkFault ended done finishes = finished_by state left link.LinkFault ended done finishes
+finished_so state left link.TooLong ended done finishes = finished_by state left link.TooLong ended done finishes
+finished_so state left link.OutOfMemory ended done finishes = absurd (no_link_memory (sym finishes.2 ∙ done))
+finished_so state left (link.Broken error) ended done finishes = absurd (broken_other error (sym finishes.2 ∙ done))
 
 -- it was served to its end, and finished
 pub record WasServed (start : SessionState) (left : Resources) (old new : LinkState) (before code : ℕ) : Type 0 where
   pub state : SessionState
-  pub ran : IsLinkRun Handles Aborts old.talk new.talk old.input new.input start link.Done state before code
+  pub ran : IsLinkRun TakesLine Aborts old.talk new.talk old.input new.input start link.Done state before code
   pub files_are : left.files ≡ state.files
   pub terminal_is : left.terminal ≡ state.terminal
   pub layers_are : left.layers ≡ (finished state).layers
+  pub tells : Tells (finished state).told state.err left.err
 
 pub was_served : (start : SessionState) (left : Resources) (old new : LinkState) (ended : LinkEnd StepError) (before code : ℕ) → tool_end_of ended ≡ tool.Done → IsServed start left old new ended before code → WasServed start left old new before code
 was_served start left old new ended before code done is =
-    let so = finished_so is.state left.layers is.served ended (link_done ended done) is.finishes in
+    let so = finished_so is.state left is.served ended (link_done ended done) is.finishes in
     record {
       state = is.state;
-      ran = subst (λ (e : LinkEnd StepError). IsLinkRun Handles Aborts old.talk new.talk old.input new.input start e is.state before code) so.0 is.ran;
+      ran = subst (λ (e : LinkEnd StepError). IsLinkRun TakesLine Aborts old.talk new.talk old.input new.input start e is.state before code) so.0 is.ran;
       files_are = is.files_are;
       terminal_is = is.terminal_is;
-      layers_are = so.1;
+      layers_are = so.1.layers_are;
+      tells = so.1.tells;
     }

@@ -8,6 +8,7 @@ use Rattle.dc_text.specs.Ascii.{newline}
 use Rattle.dc_outside.specs.Disk.{Disk}
 use Rattle.dc_outside.specs.Steps.{after_look}
 use Rattle.dc_outside.specs.declared.files.FilesOp.TheVariants.{Read}
+use Rattle.dc_store.specs.Plans.{stored}
 use Rattle.dc_session.specs.Answers.{loading}
 use Rattle.dc_session.specs.SessionState.{SessionState}
 use Rattle.dc_session.specs.TemplateFiles.{Finds}
@@ -36,6 +37,11 @@ loads_later start (transition ∷ transitions) course =
     let rest : transition.new.files.counts.faults ≤ (state_after transition.new transitions).files.counts.faults = loads_later transition.new transitions course.1 in
     omega arith
 
+-- the session itself tells nothing on standard error
+pub files_silent : (start : SessionState) (transitions : List FileTurn) → IsFileCourse start transitions → (state_after start transitions).err ≡ start.err
+files_silent start [] course = refl
+files_silent start (transition ∷ transitions) course = files_silent transition.new transitions course.1 ∙ ap (λ (s : SessionState). s.err) course.0.new_is
+
 module _ (disk : Disk) where
   read_told : (path : List ℕ) (old new : FilesState) → new ≡ files_read path old → IsTold disk old.view → IsTold disk new.view
   read_told path old new is told =
@@ -48,7 +54,7 @@ module _ (disk : Disk) where
       let one_finds : Finds two.path start.files one.found two.new.files
       = subst (λ (f : FilesState). Finds two.path start.files one.found f) files (subst (λ (p : List ℕ). Finds p start.files one.found one.new.files) path first.finds) in
       let found : one.found ≡ two.found = one_looked disk start.files two.new.files told (Some two.path) one.found two.found one_finds second.finds in
-      let new : one.new ≡ two.new = first.new_is ∙ (λ i. record start { store = (loading start start.owner (found i)).store; files = files i }) ∙ sym second.new_is in
+      let new : one.new ≡ two.new = first.new_is ∙ (λ i. record start { store = stored (loading start start.owner (found i)).store.layers []; files = files i }) ∙ sym second.new_is in
       λ i. record { path = path i; found = found i; new = new i }
 
   pub one_course : (start : SessionState) (a b : List FileTurn) → IsTold disk start.files.view → IsFileCourse start a → IsFileCourse start b → paths_of a ≡ paths_of b → a ≡ b
@@ -82,7 +88,7 @@ module _ (counts : Counts) (err : LinkState) where
   turn_with start transition is = record {
     finds = found_with transition.path start.files transition.new.files transition.found is.readable is.finds;
     readable = is.readable;
-    new_is = ap (with_outside counts err) is.new_is ∙ (λ i. record start { store = (sym (loading_same start (files_with counts start.files) err start.owner transition.found) i).store; files = files_with counts transition.new.files; err = err });
+    new_is = ap (with_outside counts err) is.new_is ∙ (λ i. record start { store = stored (sym (loading_same start (files_with counts start.files) err start.owner transition.found) i).store.layers []; files = files_with counts transition.new.files; err = err });
   }
 
   pub course_with : (start : SessionState) (transitions : List FileTurn) → IsFileCourse start transitions → IsFileCourse (with_outside counts err start) (files_with_counts transitions)
@@ -106,7 +112,8 @@ module _ (counts : Counts) (err : LinkState) where
   pub told_with : (start : SessionState) (transitions : List FileTurn) → lines_of (with_outside counts err start) (files_with_counts transitions) ≡ lines_of start transitions
   told_with start [] = refl
   told_with start (transition ∷ transitions) =
-      λ i. option_map_or (λ text. text ++ newline ∷ []) (refusal_with start transition.path transition.found i) [] ++ told_with transition.new transitions i
+      λ i. (option_map_or (λ text. text ++ newline ∷ []) (refusal_with start transition.path transition.found i) [] ++ (loading_same start (files_with counts start.files) err start.owner transition.found i).store.told)
+      ++ told_with transition.new transitions i
 
   refuses_with : (start : SessionState) (transitions : List FileTurn) → refuses (with_outside counts err start) (files_with_counts transitions) ≡ refuses start transitions
   refuses_with start [] = refl

@@ -13,13 +13,13 @@ pub mod LoadedTables
 pub mod MovingLaw
 pub mod NamesSeen
 pub mod Recount
-pub mod RootsApart
 pub mod RunLaw
 pub mod SameAnswers
 pub mod SameRuns
 pub mod SavedLayers
 pub mod SelectLaw
 pub mod StartLaws
+pub mod TellLaws
 pub mod ToolLaws
 pub mod UsedLemmas
 pub mod WriteLaw

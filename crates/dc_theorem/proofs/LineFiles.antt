@@ -1,5 +1,5 @@
 -- What a line leaves of the files, where no failure of theirs is counted.
-use Rattle.std.proofs.Common.{◌≡◌, ℕ, Bool, true, List, [], ◌∷◌, Option, None, Some, refl, ap, arith}
+use Rattle.std.proofs.Common.{◌≡◌, ℕ, Bool, true, List, [], ◌∷◌, Option, None, Some, refl, ap, subst, ◌∙◌, sym, arith}
 use Rattle.std.specs.Prelude.{◌-◌, ◌^◌, ◌<◌, ◌≤◌}
 use Rattle.dc_outside.specs.State.{FilesState}
 use Rattle.dc_outside.specs.Steps.{after_look}
@@ -9,8 +9,9 @@ use Rattle.dc_words.specs.declared.stream.Line.TheVariants.{Whole, TooLong}
 use Rattle.dc_proto.specs.Commands.{heard}
 use Rattle.dc_proto.specs.declared.command.Heard.{Heard}
 use Rattle.dc_proto.specs.declared.command.Heard.TheVariants.{Nothing, Known, Refused}
+use Rattle.dc_serve.specs.declared.machine.Response.{Response}
 use Rattle.dc_serve.specs.Execution.{Transition, state_after, IsExecution}
-use Rattle.dc_session.specs.Machine.{Handles, Steps, StepsHeard, Looks, file_of}
+use Rattle.dc_session.specs.Machine.{TakesLine, Steps, StepsHeard, Looks, file_of}
 use Rattle.dc_session.specs.SessionState.{SessionState}
 use Rattle.dc_session.specs.TemplateFiles.{Finds, HasRead}
 use Rattle.dc_session.specs.declared.stepped.Stepped.{Stepped}
@@ -88,11 +89,24 @@ module _ (old new : SessionState) (did : Stepped) where
     steps_so TooLong steps = ap (λ (s : SessionState). s.files) steps.1
     steps_so (Whole line) steps = heard_so (heard old.asking.escape line) steps
 
+-- what the layers told is told behind it, which leaves the files
+module _ (old new : SessionState) (line : Line) (did : Response) (takes : TakesLine old line did new) where
+  told_files : new.files ≡ takes.mid.files
+  told_files = ap (λ (s : SessionState). s.files) takes.tells.new_is
+
+  pub takes_later : old.files.counts.faults ≤ new.files.counts.faults
+  takes_later =
+      subst (λ (f : FilesState). old.files.counts.faults ≤ f.counts.faults) (sym told_files) (steps_later old takes.mid takes.handled.stepped line takes.handled.steps)
+
+  pub takes_so : (n : ℕ) → n < 2 ^ 64 - 1 → n ≤ old.files.counts.faults → new.files.counts.faults ≤ n → new.files ≡ line_files line old.asking.escape old.files
+  takes_so n room low high =
+      told_files ∙ steps_so old takes.mid takes.handled.stepped n room low (subst (λ (f : FilesState). f.counts.faults ≤ n) told_files high) line takes.handled.steps
+
 -- ---- lines
 
-pub course_later : (start : SessionState) (transitions : List (Transition SessionState)) → IsExecution Handles start transitions → start.files.counts.faults ≤ (state_after start transitions).files.counts.faults
+pub course_later : (start : SessionState) (transitions : List (Transition SessionState)) → IsExecution TakesLine start transitions → start.files.counts.faults ≤ (state_after start transitions).files.counts.faults
 course_later start [] course = still start.files.counts start.files.counts refl
 course_later start (transition ∷ transitions) course =
-    let here : start.files.counts.faults ≤ transition.new.files.counts.faults = steps_later start transition.new course.0.stepped transition.line course.0.steps in
+    let here : start.files.counts.faults ≤ transition.new.files.counts.faults = takes_later start transition.new transition.line transition.did course.0 in
     let rest : transition.new.files.counts.faults ≤ (state_after transition.new transitions).files.counts.faults = course_later transition.new transitions course.2 in
     omega arith

@@ -20,8 +20,9 @@ use Rattle.dc_theorem.specs.Runs.{IsClean, LoadAlike}
 use Rattle.dc_theorem.proofs.EndLemmas.{was_used, unwaited}
 use Rattle.dc_outside.specs.Disk.{Disk}
 use Rattle.dc_outside.specs.declared.files.FilesCall.{FilesCall}
-use Rattle.dc_theorem.proofs.FileCourses.{loads_later, one_course, files_with_counts, course_with, paths_with, state_with, told_with, status_with}
+use Rattle.dc_theorem.proofs.FileCourses.{files_silent, loads_later, one_course, files_with_counts, course_with, paths_with, state_with, told_with, status_with}
 use Rattle.dc_theorem.proofs.Recount.{with_outside}
+use Rattle.dc_theorem.proofs.TellLaws.{tell_nothing}
 use Rattle.dc_theorem.proofs.UsedLemmas.{tool_done, left_sound, starts_told, same_start, leave_alike}
 
 -- all files were loaded
@@ -65,6 +66,9 @@ module _ (words : List (List ℕ)) (owner : List ℕ) (paths : List (List ℕ)) 
         loads_each start paths has.told has.answer.status has.uses.state
         (subst (λ (e : ToolEnd). HasLoadedFiles start paths e has.told has.answer.status has.uses.state) (tool_done words (LoadTemplate owner paths) settings disk calls old new outcome clean has) has.uses.loaded)
 
+    err_is : has.left.err ≡ old.err
+    err_is = ap (λ (l : Resources). l.err) has.uses.left_is ∙ ap (λ (s : SessionState). s.err) loads.new_is ∙ files_silent start loads.transitions loads.course
+
     mid_high : has.mid.files.counts.faults ≤ old.stock.files.counts.faults
     mid_high =
         let later : has.mid.files.counts.faults ≤ (state_after start loads.transitions).files.counts.faults = loads_later start loads.transitions loads.course in
@@ -104,8 +108,9 @@ module _ (words : List (List ℕ)) (owner : List ℕ) (paths : List (List ℕ)) 
         let status : has.answer.status ≡ other_has.answer.status
         = first.status_is ∙ ap (λ (ts : List FileTurn). load_status begins ts) transitions ∙ sym second.status_is in
         record {
-          leave = leave_alike words (LoadTemplate owner paths) tt settings disk calls one new other last outcome again clean other_clean has other_has
-              (ap (λ (l : Resources). l.layers) has.uses.left_is ∙ ap (λ (s : SessionState). s.store.layers) state ∙ sym (ap (λ (l : Resources). l.layers) other_has.uses.left_is)) (ap (λ (l : Resources). l.files.view) has.uses.left_is ∙ ap (λ (s : SessionState). s.files.view) state ∙ sym (ap (λ (l : Resources). l.files.view) other_has.uses.left_is)) said
+          leave = leave_alike words (LoadTemplate owner paths) settings disk calls one new other last outcome again clean other_clean has other_has
+              (ap (λ (l : Resources). l.layers) has.uses.left_is ∙ ap (λ (s : SessionState). s.store.layers) state ∙ sym (ap (λ (l : Resources). l.layers) other_has.uses.left_is)) (ap (λ (l : Resources). l.files.view) has.uses.left_is ∙ ap (λ (s : SessionState). s.files.view) state ∙ sym (ap (λ (l : Resources). l.files.view) other_has.uses.left_is))
+              (tell_nothing one.err has.left.err other.err other_has.left.err (err_is one new outcome clean has) (err_is other last again other_clean other_has)) said
               (has.uses.last_code_is ∙ sym other_has.uses.last_code_is);
           status = status_is other last again other_clean other_has ∙ sym status ∙ sym (status_is one new outcome clean has);
         }

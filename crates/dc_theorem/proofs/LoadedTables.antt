@@ -25,7 +25,7 @@ use Rattle.dc_item.proofs.ReadTables.{read_is_table}
 use Rattle.dc_layer.specs.State.{LayerState, Table, blank, set_up, without_items}
 use Rattle.dc_store.specs.Holders.{item_at, look_of}
 use Rattle.dc_store.specs.Plans.{look}
-use Rattle.dc_conf.specs.Plans.{places}
+use Rattle.dc_conf.specs.Plans.{leaves}
 use Rattle.dc_store.proofs.Searches.{look_step}
 use Rattle.dc_question.specs.Questions.{QuestionContext, question, template}
 use Rattle.dc_save.specs.FolderLoading.{HoldAll, Holds, IsFolderHere, its_files}
@@ -147,13 +147,13 @@ look_fits layers (p ∷ ps) name item tables e =
 module _ (layers : List LayerState) (at : QuestionContext) (tables : AreTables layers) where
   template_fits : (name : Option (List ℕ)) → IfSome (option_and_then (look layers at.templates) name) IsItem
   template_fits None = tt
-  template_fits (Some name) = by_item (look layers at.templates name) (λ item e. (look_fits layers (places at.templates.base) name item tables e).1) where
+  template_fits (Some name) = by_item (look layers at.templates name) (λ item e. (look_fits layers (leaves at.templates) name item tables e).1) where
     by_item : (o : Option ItemParts) → ((item : ItemParts) → o ≡ Some item → IsItem item) → IfSome o IsItem
     by_item None is = tt
     by_item (Some item) is = is item refl
 
   held : (name : List ℕ) → IsHeld layers at name
-  held name = by_item (question layers at name) (λ item e. look_fits layers (places at.config.base) name item tables e) where
+  held name = by_item (question layers at name) (λ item e. look_fits layers (leaves at.config) name item tables e) where
     by_item : (o : Option ItemParts) → ((item : ItemParts) → o ≡ Some item → IsFit name item)
         → IfSome o (λ item. (is_name name ≡ true) × IsItem item × IfSome (template layers at item) IsItem)
     by_item None is = tt

@@ -4,13 +4,12 @@ use Rattle.std.specs.Prelude.{not, option_and_then}
 use Rattle.std.specs.Option.{option_map_or}
 use Rattle.std.proofs.lemmas.List.{append_cancel_left}
 use Rattle.dc_text.specs.declared.memory.OutOfMemory.{OutOfMemory as NoMemory}
-use Rattle.dc_conf.specs.Plans.{are_disjoint}
 use Rattle.dc_item.specs.Item.{ItemParts}
 use Rattle.dc_layer.specs.State.{LayerState, saved}
 use Rattle.dc_store.proofs.ListingLemmas.{is_in}
 use Rattle.dc_store.specs.Plans.{names}
 use Rattle.dc_question.specs.Questions.{QuestionContext, exists, question}
-use Rattle.dc_outside.specs.State.{FilesState, LinkState}
+use Rattle.dc_outside.specs.State.{LinkState}
 use Rattle.dc_outside.specs.Talk.{got, sent, then_pieces}
 use Rattle.dc_outside.specs.declared.link.Piece.{Piece}
 use Rattle.dc_outside.specs.declared.link.Piece.TheVariants.{Sent}
@@ -30,18 +29,16 @@ use Rattle.dc_cli.specs.declared.tool.Tool.TheVariants.{GetSelections, SetSelect
 use Rattle.dc_run.specs.Ends.{status_of}
 use Rattle.dc_run.specs.Jobs.{Prints, refused_status}
 use Rattle.dc_run.specs.OneRound.{HasUsed}
-use Rattle.dc_run.specs.Starting.{HasStarted, conf_read, context_of, databases_of, keeps_changes}
-use Rattle.dc_run.specs.World.{Stock, World}
+use Rattle.dc_run.specs.Starting.{conf_read, context_of, databases_of, keeps_changes}
+use Rattle.dc_run.specs.World.{World}
 use Rattle.dc_run.specs.declared.outcome.End.TheVariants as end
 use Rattle.dc_run.specs.declared.outcome.Outcome.{Outcome}
 use Rattle.dc_run.specs.declared.outcome.ToolEnd.{ToolEnd}
 use Rattle.dc_run.specs.declared.outcome.ToolEnd.TheVariants as tool
 use Rattle.dc_run.specs.declared.settings.Settings.{Settings}
-use Rattle.dc_run.specs.declared.starting.Roots.{Roots}
 use Rattle.dc_theorem.proofs.EndLemmas.{HasKept, kept_so, unwaited, waited}
 use Rattle.dc_theorem.proofs.LoadedTables.{AreTables, held_in, loads_tables}
 use Rattle.dc_theorem.proofs.NamesSeen.{is_seen, names_apart, none_of, of_all, of_each}
-use Rattle.dc_theorem.proofs.RootsApart.{roots_apart}
 use Rattle.dc_theorem.proofs.SavedLayers.{answer_saved, look_saved}
 use Rattle.dc_theorem.proofs.SelectLaw.{selections_done, served_done, whole_input}
 use Rattle.dc_theorem.specs.Moving.{AreMoved, AreNewTo, IsHandedOver, left_by, loaded}
@@ -71,12 +68,6 @@ handed text old new other ended done prints over =
       same_list one two e = cc
 
 -- ---- where it is set
-
--- the plans of questions and of templates share no layer
-apart_there : (verbose check unseen : Bool) (path : List ℕ) (files : FilesState) (mid : Stock) (roots : Roots) → HasStarted (SetSelections verbose check unseen) path files mid roots → are_disjoint roots.config roots.templates ≡ true
-apart_there verbose check unseen path files mid roots started =
-    let is = started.loaded.conf_is.conf_is.conf_is in
-    (λ i. are_disjoint (started.config_is i) (started.templates_is i)) ∙ roots_apart is.text roots.conf is.reads
 
 unrefused : (refused : Bool) → refused_status refused ≡ 0 → refused ≡ false
 unrefused true is = absurd (let one : 1 ≡ 0 = is in cc)
@@ -150,7 +141,7 @@ module _ (settings other_settings : Settings) (old new other last : World) (outc
         (served_done selected.served selected.state left selected.finishes) run.answered))
 
     does : DoesText text start left
-    does = subst (λ (t : List ℕ). DoesText t start left) came (does_whole_text start left other.links.io sets.links.io 0 sets.answer.last_code selected refl refl)
+    does = subst (λ (t : List ℕ). DoesText t start left) came (does_whole_text start left other.links.io sets.links.io 0 sets.answer.last_code selected refl refl refl)
 
     free : left.refused ≡ false
     free = unrefused left.refused (sym sets.uses.0.status_is ∙ sym (status_kept sets again_done sets.uses.0.waits) ∙ clean)
@@ -159,7 +150,7 @@ module _ (settings other_settings : Settings) (old new other last : World) (outc
     begins = record {
       checks = refl;
       leaves_unseen = refl;
-      apart = apart_there verbose false false other_settings.conf_path other.stock.files sets.mid sets.roots sets.started;
+      apart = sets.started.apart;
       names_are = of_each (IsNew sets.mid.used there) all (λ name is. are_new name (is_seen layers at.config name ∙ is));
     }
 

@@ -10,8 +10,8 @@ use Rattle.std.specs.Cmp.Lexicographic.{nat_list_cmp_total}
 use Rattle.std.proofs.lemmas.Cmp.{tied_itself}
 use Rattle.std.proofs.lemmas.List.Folds.{list_any-append}
 use Rattle.dc_text.specs.Maps.{AreDistinct, set_of, text_cmp}
-use Rattle.dc_conf.specs.Plans.{places}
-use Rattle.dc_conf.specs.declared.plans.Plan.{Plan}
+use Rattle.dc_conf.specs.Plans.{leaves}
+use Rattle.dc_conf.specs.Trees.{Tree}
 use Rattle.dc_item.proofs.ItemLemmas.{contains_key-set_of, same_key}
 use Rattle.dc_item.proofs.PrintedLines.{keys_apart}
 use Rattle.dc_item.specs.Item.{ItemParts}
@@ -42,14 +42,14 @@ seen_there ls (p ∷ ps) q =
     ∙ sym (list_any-append (eq_by_cmp text_cmp q) (names_at ls p) (flat_map (names_at ls) ps))
 
 -- something is seen under a name where it is one of the names
-pub is_seen : (ls : List LayerState) (plan : Plan) (q : List ℕ) → is_some (look ls plan q) ≡ is_in q (names ls plan)
+pub is_seen : (ls : List LayerState) (plan : Tree) (q : List ℕ) → is_some (look ls plan q) ≡ is_in q (names ls plan)
 is_seen ls plan q =
-    let all : List (List ℕ) = flat_map (names_at ls) (places plan.base) in
-    seen_there ls (places plan.base) q ∙ sym (contains_key-set_of all q) ∙ contains_key-keys (set_of all) q
+    let all : List (List ℕ) = flat_map (names_at ls) (leaves plan) in
+    seen_there ls (leaves plan) q ∙ sym (contains_key-set_of all q) ∙ contains_key-keys (set_of all) q
 
 -- no two are the same
-pub names_apart : (ls : List LayerState) (plan : Plan) → AreDistinct (names ls plan)
-names_apart ls plan = keys_apart (set_of (flat_map (names_at ls) (places plan.base)))
+pub names_apart : (ls : List LayerState) (plan : Tree) → AreDistinct (names ls plan)
+names_apart ls plan = keys_apart (set_of (flat_map (names_at ls) (leaves plan)))
 
 -- ---- of each of a list
 

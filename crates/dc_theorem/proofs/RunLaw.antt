@@ -8,7 +8,7 @@ use Rattle.dc_serve.specs.LinkRun.{IsLinkRun}
 use Rattle.dc_serve.specs.declared.outcome.LinkEnd.TheVariants as link
 use Rattle.dc_session.specs.Alike.{AreAlike}
 use Rattle.dc_session.specs.Asking.{finished}
-use Rattle.dc_session.specs.Machine.{Handles, Aborts}
+use Rattle.dc_session.specs.Machine.{TakesLine, Aborts}
 use Rattle.dc_session.specs.SessionState.{SessionState, TerminalState, nothing_typed}
 use Rattle.dc_run.specs.OneRound.{HasUsed}
 use Rattle.dc_run.specs.Running.{IsStarted}
@@ -22,9 +22,10 @@ use Rattle.dc_theorem.specs.Runs.{IsClean, AreTypedAlike, RunAlike}
 use Rattle.dc_theorem.proofs.EndLemmas.{was_used, unstarted_other, WasServed, was_served}
 use Rattle.dc_outside.specs.Disk.{Disk}
 use Rattle.dc_outside.specs.declared.files.FilesCall.{FilesCall}
-use Rattle.dc_theorem.proofs.Recount.{with_outside, run_with}
+use Rattle.dc_theorem.proofs.Recount.{with_counts, run_with}
 use Rattle.dc_theorem.proofs.StartLaws.{StartAlike}
 use Rattle.dc_theorem.proofs.SameRuns.{run_later, run_alike}
+use Rattle.dc_theorem.proofs.TellLaws.{tell_last}
 use Rattle.dc_theorem.proofs.UsedLemmas.{wait_is, tool_done, left_sound, starts_low, starts_told, same_start, leave_alike}
 
 module _ (words : List (List ℕ)) (owner : List ℕ) (frontend : Option Frontend) (priority : Option Priority) (command : List (List ℕ)) (settings : Settings) (disk : Disk) (calls : List FilesCall) where
@@ -46,8 +47,8 @@ module _ (words : List (List ℕ)) (owner : List ℕ) (frontend : Option Fronten
         (was_served start has.left started.mid has.links.child started.ended 0 has.answer.last_code
         (sym started.ended_is ∙ tool_done words (Run owner frontend priority command) settings disk calls old new outcome clean has) started.served)
 
-    ran : IsLinkRun Handles Aborts old.links.child.talk has.links.child.talk (Some input) has.links.child.input start link.Done served.state 0 has.answer.last_code
-    ran = subst (λ (k : Option (List ℕ)). IsLinkRun Handles Aborts old.links.child.talk has.links.child.talk k has.links.child.input start link.Done served.state 0 has.answer.last_code) input_is served.ran
+    ran : IsLinkRun TakesLine Aborts old.links.child.talk has.links.child.talk (Some input) has.links.child.input start link.Done served.state 0 has.answer.last_code
+    ran = subst (λ (k : Option (List ℕ)). IsLinkRun TakesLine Aborts old.links.child.talk has.links.child.talk k has.links.child.input start link.Done served.state 0 has.answer.last_code) input_is served.ran
 
     high : served.state.files.counts.faults ≤ old.stock.files.counts.faults
     high = subst (λ (f : FilesState). f.counts.faults ≤ old.stock.files.counts.faults) served.files_are (left_sound words (Run owner frontend priority command) settings disk calls old new outcome clean has)
@@ -98,36 +99,37 @@ module _ (words : List (List ℕ)) (owner : List ℕ) (frontend : Option Fronten
         let begins = begun (Run owner frontend priority command) (before_rounds (record other { stock = has.mid })) has.roots settings in
         let other_begins = begun (Run owner frontend priority command) (before_rounds (record other { stock = other_has.mid })) other_has.roots settings in
         let counts = has.mid.files.counts in
-        let err = other.err in
-        let recounted = run_with counts err other.stock.files.counts.faults other_clean.none_failed.room other.links.child.talk other_has.links.child.talk (Some input) other_has.links.child.input other_begins second.state 0 other_has.answer.last_code
+        let recounted = run_with counts other.stock.files.counts.faults other_clean.none_failed.room other.links.child.talk other_has.links.child.talk (Some input) other_has.links.child.input other_begins second.state 0 other_has.answer.last_code
         (starts_low words (Run owner frontend priority command) settings disk calls other last again other_clean other_has) (high other last again input other_clean other_has other_input_is) (ran other last again input other_clean other_has other_input_is) in
-        let begin : with_outside counts err other_begins ≡ begins
+        let begin : with_counts counts other_begins ≡ begins
         = λ i. begun (Run owner frontend priority command) (before_rounds (record other { stock = record { files = record { view = sym starts.told i; counts = counts }; used = sym starts.used i } })) (sym starts.roots_are i) settings in
-        let other_ran : IsLinkRun Handles Aborts other.links.child.talk other_has.links.child.talk (Some input) other_has.links.child.input begins link.Done (with_outside counts err second.state) 0 other_has.answer.last_code
-        = subst (λ (s : SessionState). IsLinkRun Handles Aborts other.links.child.talk other_has.links.child.talk (Some input) other_has.links.child.input s link.Done (with_outside counts err second.state) 0 other_has.answer.last_code) begin recounted in
+        let other_ran : IsLinkRun TakesLine Aborts other.links.child.talk other_has.links.child.talk (Some input) other_has.links.child.input begins link.Done (with_counts counts second.state) 0 other_has.answer.last_code
+        = subst (λ (s : SessionState). IsLinkRun TakesLine Aborts other.links.child.talk other_has.links.child.talk (Some input) other_has.links.child.input s link.Done (with_counts counts second.state) 0 other_has.answer.last_code) begin recounted in
         let disk_told = starts_told words (Run owner frontend priority command) settings disk calls one new outcome clean has in
         let same = run_alike one.stock.files.counts.faults clean.none_failed.room disk disk_told.0 input one.links.child.talk has.links.child.talk other.links.child.talk other_has.links.child.talk has.links.child.input other_has.links.child.input
-        (begun (Run owner frontend priority command) (before_rounds (record one { stock = has.mid })) has.roots settings) begins first.state (with_outside counts err second.state) 0 has.answer.last_code other_has.answer.last_code
+        (begun (Run owner frontend priority command) (before_rounds (record one { stock = has.mid })) has.roots settings) begins first.state (with_counts counts second.state) 0 has.answer.last_code other_has.answer.last_code
         disk_told.1 starts_alike (starts_low words (Run owner frontend priority command) settings disk calls one new outcome clean has)
         (high one new outcome input clean has input_is) (mid_high one new outcome input clean has input_is) one_ran other_ran in
-        let layers : has.left.layers ≡ other_has.left.layers = first.layers_are ∙ ap (λ (s : SessionState). (finished s).layers) (sym same.states.rest) ∙ sym second.layers_are in
+        let layers : has.left.layers ≡ other_has.left.layers = first.layers_are ∙ ap (λ (s : SessionState). (finished s).layers) (sym same.0.states.rest) ∙ sym second.layers_are in
         let left : has.left.files.view ≡ other_has.left.files.view
-        = ap (λ (f : FilesState). f.view) first.files_are ∙ ap (λ (s : SessionState). s.files.view) (sym same.states.rest) ∙ sym (ap (λ (f : FilesState). f.view) second.files_are) in
+        = ap (λ (f : FilesState). f.view) first.files_are ∙ ap (λ (s : SessionState). s.files.view) (sym same.0.states.rest) ∙ sym (ap (λ (f : FilesState). f.view) second.files_are) in
+        let told = tell_last (finished first.state).told (finished second.state).told one.err first.state.err has.left.err other.err second.state.err other_has.left.err same.1
+        (ap (λ (s : SessionState). (finished s).told) (sym same.0.states.rest)) first.tells second.tells in
         record {
-          leave = leave_alike words (Run owner frontend priority command) tt settings disk calls one new other last outcome again clean other_clean has other_has layers left (has.uses.1 ∙ sym other_has.uses.1) same.code_is;
+          leave = leave_alike words (Run owner frontend priority command) settings disk calls one new other last outcome again clean other_clean has other_has layers left told (has.uses.1 ∙ sym other_has.uses.1) same.0.code_is;
           replies = record {
             pieces = one_ran.pieces;
             other_pieces = other_ran.pieces;
             one_is = link_is one new outcome input clean has input_is ∙ one_ran.told_is;
             other_is = link_is other last again input other_clean other_has other_input_is ∙ other_ran.told_is;
-            same = same.replies;
+            same = same.0.replies;
           };
           shown = record {
-            talk = same.states.terminals.first.talk;
-            other_talk = same.states.terminals.second.talk;
-            one_is = ap (λ (l : LinkState). l.talk) (has.io_is ∙ (started one new outcome input clean has input_is).io ∙ ap (λ (t : TerminalState). t.link) first.terminal_is) ∙ same.states.terminals.one_is.talk;
-            other_is = ap (λ (l : LinkState). l.talk) (other_has.io_is ∙ (started other last again input other_clean other_has other_input_is).io ∙ ap (λ (t : TerminalState). t.link) second.terminal_is) ∙ same.states.terminals.other_is.talk;
-            said = same.states.terminals.said;
+            talk = same.0.states.terminals.first.talk;
+            other_talk = same.0.states.terminals.second.talk;
+            one_is = ap (λ (l : LinkState). l.talk) (has.io_is ∙ (started one new outcome input clean has input_is).io ∙ ap (λ (t : TerminalState). t.link) first.terminal_is) ∙ same.0.states.terminals.one_is.talk;
+            other_is = ap (λ (l : LinkState). l.talk) (other_has.io_is ∙ (started other last again input other_clean other_has other_input_is).io ∙ ap (λ (t : TerminalState). t.link) second.terminal_is) ∙ same.0.states.terminals.other_is.talk;
+            said = same.0.states.terminals.said;
           };
         }
 

@@ -7,22 +7,25 @@ use Rattle.dc_words.specs.declared.stream.Line.{Line}
 use Rattle.dc_words.specs.Stream.{whole_lines, rest_of, line_of_rest, all_lines}
 use Rattle.dc_words.proofs.StreamLemmas.{whole_lines-append}
 use Rattle.dc_outside.specs.Disk.{Disk}
+use Rattle.dc_outside.specs.State.{FilesState}
 use Rattle.dc_outside.specs.Talk.{got}
 use Rattle.dc_outside.specs.declared.files.FilesCall.{FilesCall}
 use Rattle.dc_outside.specs.declared.link.Piece.{Piece}
-use Rattle.dc_serve.specs.Execution.{Transition, lines_of, state_after, is_stop, stops, replies, last_code_from, IsExecution}
+use Rattle.dc_serve.specs.Execution.{Transition, lines_of, state_after, is_stop, stops, replies, add_reply, last_code_from, code_after, IsExecution}
 use Rattle.dc_serve.specs.LinkRun.{IsLinkRun, AreServed}
 use Rattle.dc_serve.specs.Said.{said}
+use Rattle.dc_serve.specs.declared.machine.Response.{Response}
 use Rattle.dc_serve.specs.declared.outcome.LinkEnd.TheVariants.{Done}
-use Rattle.dc_session.specs.Alike.{AreAlike, AreFilesAlike, EndAlike}
-use Rattle.dc_session.specs.Machine.{Handles, Aborts}
+use Rattle.dc_session.specs.Alike.{AreAlike, AreFilesAlike, AreTransitionsSame, IsSameButErr, TellSame}
+use Rattle.dc_session.specs.Machine.{TakesLine, Aborts}
 use Rattle.dc_session.specs.SessionState.{SessionState}
-use Rattle.dc_session.proofs.AlikeLaws.{heeds_alike}
-use Rattle.dc_session.proofs.Determined.{IsTold, heeds_told, determined}
-use Rattle.dc_session.proofs.RunLaws.{runs_alike}
-use Rattle.dc_session.proofs.TerminalLaws.{AsksNobody, steps_nobody}
+use Rattle.dc_session.proofs.AlikeLaws.{takes_alike}
+use Rattle.dc_session.proofs.Determined.{GoSame, IsTold, takes_once, takes_told}
+use Rattle.dc_session.proofs.RunLaws.{RunAlike, runs_alike}
+use Rattle.dc_session.proofs.TellingLemmas.{more_told, none_told}
+use Rattle.dc_session.proofs.TerminalLaws.{AsksNobody, takes_nobody}
 use Rattle.dc_theorem.specs.Runs.{NoneFailed}
-use Rattle.dc_theorem.proofs.LineFiles.{line_files, steps_later, steps_so, course_later}
+use Rattle.dc_theorem.proofs.LineFiles.{line_files, takes_later, takes_so, course_later}
 
 -- ---- the lines of a run
 
@@ -47,7 +50,7 @@ front_taken : (front : List ℕ) (left : Option (List ℕ)) (input : List ℕ) �
 front_taken front None input took = absurd (cc)
 front_taken front (Some back) input took = (back, cc)
 
-module _ (input : List ℕ) (talk new_talk : Option (List Piece)) (left : Option (List ℕ)) (start new : SessionState) (before code : ℕ) (run : IsLinkRun Handles Aborts talk new_talk (Some input) left start Done new before code) where
+module _ (input : List ℕ) (talk new_talk : Option (List Piece)) (left : Option (List ℕ)) (start new : SessionState) (before code : ℕ) (run : IsLinkRun TakesLine Aborts talk new_talk (Some input) left start Done new before code) where
   -- its lines are the first ones of all, and it was through with them
   abbrev IsThrough : Type 0
   IsThrough = (rest : List Line) × (lines_of run.transitions ++ rest ≡ all_lines input) × AreThrough run.transitions rest
@@ -71,83 +74,119 @@ module _ (input : List ℕ) (talk new_talk : Option (List Piece)) (left : Option
 
 -- ---- turns that leave the same files
 
+-- neither goes on
+none_go : (start other : SessionState) (a b : List (Transition SessionState)) → a ≡ [] → b ≡ [] → GoSame start other a b
+none_go start other a b first second = rw (first, second) (record {}, none_told start.err other.err)
+
 module _ (n : ℕ) (room : n < 2 ^ 64 - 1) (disk : Disk) where
+  -- at one line
+  files_here : (start other one two : SessionState) (line : Line) (did again : Response) → other.files ≡ start.files → other.asking.escape ≡ start.asking.escape → n ≤ start.files.counts.faults → one.files.counts.faults ≤ n
+      → two.files.counts.faults ≤ n → TakesLine start line did one → TakesLine other line again two → one.files ≡ two.files
+  files_here start other one two line did again files escape low high other_high first second =
+      let other_low : n ≤ other.files.counts.faults = subst (λ (f : FilesState). n ≤ f.counts.faults) (sym files) low in
+      takes_so start one line did first n room low high
+      ∙ (λ i. line_files line (sym escape i) (sym files i))
+      ∙ sym (takes_so other two line again second n room other_low other_high)
+
   -- from sessions that are alike
   files_alike : (start other : SessionState) (a b : List (Transition SessionState)) (later rest : List Line) → AreAlike start other → IsTold disk start.files.view → n ≤ start.files.counts.faults
-      → (state_after start a).files.counts.faults ≤ n → (state_after other b).files.counts.faults ≤ n → IsExecution Handles start a → IsExecution Handles other b → lines_of a ++ later ≡ lines_of b ++ rest → AreFilesAlike a b
+      → (state_after start a).files.counts.faults ≤ n → (state_after other b).files.counts.faults ≤ n → IsExecution TakesLine start a → IsExecution TakesLine other b → lines_of a ++ later ≡ lines_of b ++ rest → AreFilesAlike a b
   files_alike start other [] b later rest alike told low high other_high first second lines = record {}
   files_alike start other (one ∷ a) [] later rest alike told low high other_high first second lines = record {}
   files_alike start other (one ∷ a) (two ∷ b) later rest alike told low high other_high first second lines =
       let line : one.line ≡ two.line = cc in
       let more : lines_of a ++ later ≡ lines_of b ++ rest = cc in
-      let other_low : n ≤ other.files.counts.faults = subst (λ (s : SessionState). n ≤ s.files.counts.faults) (sym alike.rest) low in
-      let one_later : start.files.counts.faults ≤ one.new.files.counts.faults = steps_later start one.new first.0.stepped one.line first.0.steps in
+      let takes : TakesLine start two.line one.did one.new = subst (λ (l : Line). TakesLine start l one.did one.new) line first.0 in
+      let one_later : start.files.counts.faults ≤ one.new.files.counts.faults = takes_later start one.new two.line one.did takes in
       let one_rest : one.new.files.counts.faults ≤ (state_after one.new a).files.counts.faults = course_later one.new a first.2 in
       let two_rest : two.new.files.counts.faults ≤ (state_after two.new b).files.counts.faults = course_later two.new b second.2 in
-      let one_files = steps_so start one.new first.0.stepped n room low (omega arith) one.line first.0.steps in
-      let two_files = steps_so other two.new second.0.stepped n room other_low (omega arith) two.line second.0.steps in
-      let expected : line_files one.line start.asking.escape start.files ≡ line_files two.line other.asking.escape other.files
-      = ap (λ (l : Line). line_files l start.asking.escape start.files) line ∙ sym (ap (λ (s : SessionState). line_files two.line s.asking.escape s.files) alike.rest) in
-      let files = one_files ∙ expected ∙ sym two_files in
-      let here = heeds_alike disk start other.terminal other.err alike.terminals told one.did two.did one.new two.new files two.line (subst (λ (l : Line). Handles start l one.did one.new) line first.0)
-      (subst (λ (s : SessionState). Handles s two.line two.did two.new) alike.rest second.0) in
-      (files, files_alike one.new two.new a b later rest here.1 (heeds_told disk start told one.did one.new one.line first.0) (omega arith) high other_high first.2 second.2 more)
+      let files : one.new.files ≡ two.new.files = files_here start other one.new two.new two.line one.did two.did (ap (λ (s : SessionState). s.files) alike.rest) (ap (λ (s : SessionState). s.asking.escape) alike.rest) low (omega arith) (omega arith) takes second.0 in
+      let here = takes_alike disk start other alike told one.did two.did one.new two.new files two.line takes second.0 in
+      (files, files_alike one.new two.new a b later rest here.leaves (takes_told disk start told one.did one.new two.line takes) (omega arith) high other_high first.2 second.2 more)
 
-  -- from one session that asks nobody
-  turns_same : (start : SessionState) (a b : List (Transition SessionState)) (later rest : List Line) → AsksNobody start → IsTold disk start.files.view → n ≤ start.files.counts.faults
-      → (state_after start a).files.counts.faults ≤ n → (state_after start b).files.counts.faults ≤ n → IsExecution Handles start a → IsExecution Handles start b → lines_of a ++ later ≡ lines_of b ++ rest
-      → AreThrough a later → AreThrough b rest → a ≡ b
-  turns_same start [] [] later rest nobody told low high other_high first second lines one_through two_through = refl
-  turns_same start [] (transition ∷ b) later rest nobody told low high other_high first second lines one_through two_through = absurd (not_through transition (lines_of b ++ rest) later lines one_through)
-  turns_same start (transition ∷ a) [] later rest nobody told low high other_high first second lines one_through two_through = absurd (not_through transition (lines_of a ++ later) rest (sym lines) two_through)
-  turns_same start (one ∷ a) (two ∷ b) later rest nobody told low high other_high first second lines one_through two_through =
+  -- from sessions that ask nobody, and are the same but for standard error
+  turns_same : (start other : SessionState) (a b : List (Transition SessionState)) (later rest : List Line) → IsSameButErr start other → AsksNobody start → IsTold disk start.files.view → n ≤ start.files.counts.faults
+      → (state_after start a).files.counts.faults ≤ n → (state_after other b).files.counts.faults ≤ n → IsExecution TakesLine start a → IsExecution TakesLine other b → lines_of a ++ later ≡ lines_of b ++ rest
+      → AreThrough a later → AreThrough b rest → GoSame start other a b
+  turns_same start other [] [] later rest same nobody told low high other_high first second lines one_through two_through = (record {}, none_told start.err other.err)
+  turns_same start other [] (transition ∷ b) later rest same nobody told low high other_high first second lines one_through two_through = absurd (not_through transition (lines_of b ++ rest) later lines one_through)
+  turns_same start other (transition ∷ a) [] later rest same nobody told low high other_high first second lines one_through two_through = absurd (not_through transition (lines_of a ++ later) rest (sym lines) two_through)
+  turns_same start other (one ∷ a) (two ∷ b) later rest same nobody told low high other_high first second lines one_through two_through =
       let line : one.line ≡ two.line = cc in
       let more : lines_of a ++ later ≡ lines_of b ++ rest = cc in
-      let one_later : start.files.counts.faults ≤ one.new.files.counts.faults = steps_later start one.new first.0.stepped one.line first.0.steps in
+      let takes : TakesLine start two.line one.did one.new = subst (λ (l : Line). TakesLine start l one.did one.new) line first.0 in
+      let one_later : start.files.counts.faults ≤ one.new.files.counts.faults = takes_later start one.new two.line one.did takes in
       let one_rest : one.new.files.counts.faults ≤ (state_after one.new a).files.counts.faults = course_later one.new a first.2 in
       let two_rest : two.new.files.counts.faults ≤ (state_after two.new b).files.counts.faults = course_later two.new b second.2 in
-      let one_files = steps_so start one.new first.0.stepped n room low (omega arith) one.line first.0.steps in
-      let two_files = steps_so start two.new second.0.stepped n room low (omega arith) two.line second.0.steps in
-      let files : one.new.files ≡ two.new.files = one_files ∙ ap (λ (l : Line). line_files l start.asking.escape start.files) line ∙ sym two_files in
-      let both : one ∷ [] ≡ two ∷ []
-      = determined disk start told.0 (one ∷ []) (two ∷ []) told.1 nobody (first.0, (λ stop. refl), tt) (second.0, (λ stop. refl), tt) (λ i. line i ∷ []) (λ i. files i ∷ []) in
-      let here : one ≡ two = cc in
-      let same : ◌≡◌ {A = SessionState} one.new two.new = ap (λ (t : Transition SessionState). t.new) here in
-      let rest_same : a ≡ b
+      let files : one.new.files ≡ two.new.files = files_here start other one.new two.new two.line one.did two.did (ap (λ (s : SessionState). s.files) same) (ap (λ (s : SessionState). s.asking.escape) same) low (omega arith) (omega arith) takes second.0 in
+      let here = takes_once disk start other same nobody told one.did two.did one.new two.new files two.line takes second.0 in
+      let after : GoSame one.new two.new a b
       = elim (cases_Bool (is_stop one.did)) [
-        | inl stop ↦ first.1 stop ∙ sym (second.1 (ap (λ (t : Transition SessionState). is_stop t.did) (sym here) ∙ stop))
+        | inl stop ↦ none_go one.new two.new a b (first.1 stop) (second.1 (ap is_stop (sym here.does) ∙ stop))
         | inr on ↦
-            turns_same one.new a b later rest (steps_nobody one.line start one.new first.0.stepped nobody first.0.steps) (heeds_told disk start told one.did one.new one.line first.0) (omega arith) high
-            (subst (λ (s : SessionState). (state_after s b).files.counts.faults ≤ n) (sym same) other_high) first.2 (subst (λ (s : SessionState). IsExecution Handles s b) (sym same) second.2) more
-            (through_later one a later on one_through) (through_later two b rest (ap (λ (t : Transition SessionState). is_stop t.did) (sym here) ∙ on) two_through)
-      ] in
-      λ i. here i ∷ rest_same i
+            turns_same one.new two.new a b later rest here.leaves (takes_nobody two.line start one.new one.did nobody takes) (takes_told disk start told one.did one.new two.line takes) (omega arith) high other_high first.2 second.2 more
+            (through_later one a later on one_through) (through_later two b rest (ap is_stop (sym here.does) ∙ on) two_through)
+      ] in (
+        (here.does, here.leaves, after.0),
+        more_told here.told here.told start.err one.new.err (state_after one.new a).err other.err two.new.err (state_after two.new b).err refl here.one_tells here.other_tells after.1,
+      )
+
+-- ---- what turns say and leave that are the same
+
+same_replies : (a b : List (Transition SessionState)) → AreTransitionsSame a b → replies a ≡ replies b
+same_replies [] [] same = refl
+same_replies [] (transition ∷ b) same = absurd same
+same_replies (transition ∷ a) [] same = absurd same
+same_replies (one ∷ a) (two ∷ b) same = λ i. add_reply (same.0 i) (same_replies a b same.2 i)
+
+same_code : (code : ℕ) (a b : List (Transition SessionState)) → AreTransitionsSame a b → last_code_from code a ≡ last_code_from code b
+same_code code [] [] same = refl
+same_code code [] (transition ∷ b) same = absurd same
+same_code code (transition ∷ a) [] same = absurd same
+same_code code (one ∷ a) (two ∷ b) same = same_code (code_after code one.did) a b same.2 ∙ ap (λ (did : Response). last_code_from (code_after code did) b) same.0
+
+left_same : (start other : SessionState) (a b : List (Transition SessionState)) → IsSameButErr start other → AreTransitionsSame a b → IsSameButErr (state_after start a) (state_after other b)
+left_same start other [] [] here same = here
+left_same start other [] (transition ∷ b) here same = absurd same
+left_same start other (transition ∷ a) [] here same = absurd same
+left_same start other (one ∷ a) (two ∷ b) here same = left_same one.new two.new a b same.1 same.2
 
 -- ---- runs
 
+-- they said the same, left the same but for standard error, and told the same there
+pub record RunSame (pieces others : List Piece) (code number : ℕ) (start other new last : SessionState) : Type 0 where
+  pub replies_are : said pieces ≡ said others
+  pub code_is : code ≡ number
+  pub states : IsSameButErr new last
+  pub told : TellSame start.err new.err other.err last.err
+
 module _ (n : ℕ) (room : n < 2 ^ 64 - 1) (disk : Disk) (calls : List FilesCall) (input : List ℕ) (talk new_talk other_talk last_talk : Option (List Piece)) (left other_left : Option (List ℕ)) where
   -- what ran is the same in both, where nobody is asked
-  pub run_same : (start new last : SessionState) (before code number : ℕ) → start.files.view ≡ record { disk = Some disk; calls = Some calls } → AsksNobody start → n ≤ start.files.counts.faults → new.files.counts.faults ≤ n → last.files.counts.faults ≤ n
-      → (one : IsLinkRun Handles Aborts talk new_talk (Some input) left start Done new before code) → (two : IsLinkRun Handles Aborts other_talk last_talk (Some input) other_left start Done last before number)
-      → (said one.pieces ≡ said two.pieces) × (code ≡ number) × (new ≡ last)
-  run_same start new last before code number told nobody low high other_high one two =
+  pub run_same : (start other new last : SessionState) (before code number : ℕ) → start.files.view ≡ record { disk = Some disk; calls = Some calls } → IsSameButErr start other → AsksNobody start → n ≤ start.files.counts.faults → new.files.counts.faults ≤ n
+      → last.files.counts.faults ≤ n
+      → (one : IsLinkRun TakesLine Aborts talk new_talk (Some input) left start Done new before code) → (two : IsLinkRun TakesLine Aborts other_talk last_talk (Some input) other_left other Done last before number)
+      → RunSame one.pieces two.pieces code number start other new last
+  run_same start other new last before code number told same nobody low high other_high one two =
       let first = is_through input talk new_talk left start new before code one in
-      let second = is_through input other_talk last_talk other_left start last before number two in
+      let second = is_through input other_talk last_talk other_left other last before number two in
       let one_said = one.answered.are_said in
       let two_said = two.answered.are_said in
-      let transitions : one.transitions ≡ two.transitions
-      = turns_same n room disk start one.transitions two.transitions first.0 second.0 nobody (calls, told) low
+      let both = turns_same n room disk start other one.transitions two.transitions first.0 second.0 same nobody (calls, told) low
       (subst (λ (s : SessionState). s.files.counts.faults ≤ n) one_said.state_is high) (subst (λ (s : SessionState). s.files.counts.faults ≤ n) two_said.state_is other_high)
-      one.course two.course (first.1 ∙ sym second.1) first.2 second.2 in (
-        one_said.pieces_are ∙ ap (λ (ts : List (Transition SessionState)). replies ts) transitions ∙ sym two_said.pieces_are,
-        one_said.code_is ∙ ap (λ (ts : List (Transition SessionState)). last_code_from before ts) transitions ∙ sym two_said.code_is,
-        one_said.state_is ∙ ap (λ (ts : List (Transition SessionState)). state_after start ts) transitions ∙ sym two_said.state_is,
-      )
+      one.course two.course (first.1 ∙ sym second.1) first.2 second.2 in
+      record {
+        replies_are = one_said.pieces_are ∙ same_replies one.transitions two.transitions both.0 ∙ sym two_said.pieces_are;
+        code_is = one_said.code_is ∙ same_code before one.transitions two.transitions both.0 ∙ sym two_said.code_is;
+        states = subst (λ (s : SessionState). IsSameButErr new s) (sym two_said.state_is)
+            (subst (λ (s : SessionState). IsSameButErr s (state_after other two.transitions)) (sym one_said.state_is) (left_same start other one.transitions two.transitions same both.0));
+        told = subst (λ (s : SessionState). TellSame start.err new.err other.err s.err) (sym two_said.state_is)
+            (subst (λ (s : SessionState). TellSame start.err s.err other.err (state_after other two.transitions).err) (sym one_said.state_is) both.1);
+      }
 
   -- what ran is alike in both
   pub run_alike : (start other new last : SessionState) (before code number : ℕ) → start.files.view ≡ record { disk = Some disk; calls = Some calls } → AreAlike start other → n ≤ start.files.counts.faults → new.files.counts.faults ≤ n → last.files.counts.faults ≤ n
-      → (one : IsLinkRun Handles Aborts talk new_talk (Some input) left start Done new before code) → (two : IsLinkRun Handles Aborts other_talk last_talk (Some input) other_left other Done last before number)
-      → EndAlike one.pieces two.pieces code number new last
+      → (one : IsLinkRun TakesLine Aborts talk new_talk (Some input) left start Done new before code) → (two : IsLinkRun TakesLine Aborts other_talk last_talk (Some input) other_left other Done last before number)
+      → RunAlike one.pieces two.pieces code number start other new last
   run_alike start other new last before code number told alike low high other_high one two =
       let first = is_through input talk new_talk left start new before code one in
       let second = is_through input other_talk last_talk other_left other last before number two in
@@ -158,8 +197,8 @@ module _ (n : ℕ) (room : n < 2 ^ 64 - 1) (disk : Disk) (calls : List FilesCall
 
 pub sessions_alike : (start other new last : SessionState) (disk : Disk) (calls : List FilesCall) (input : List ℕ) (talk new_talk other_talk last_talk : Option (List Piece)) (left other_left : Option (List ℕ)) (before code number : ℕ)
     → start.files.view ≡ record { disk = Some disk; calls = Some calls } → AreAlike start other → NoneFailed start.files.counts new.files.counts → NoneFailed other.files.counts last.files.counts
-    → (one : IsLinkRun Handles Aborts talk new_talk (Some input) left start Done new before code) → (two : IsLinkRun Handles Aborts other_talk last_talk (Some input) other_left other Done last before number)
-    → EndAlike one.pieces two.pieces code number new last
+    → (one : IsLinkRun TakesLine Aborts talk new_talk (Some input) left start Done new before code) → (two : IsLinkRun TakesLine Aborts other_talk last_talk (Some input) other_left other Done last before number)
+    → RunAlike one.pieces two.pieces code number start other new last
 sessions_alike start other new last disk calls input talk new_talk other_talk last_talk left other_left before code number told alike sound other_sound one two =
     let begun : other.files.counts.faults ≡ start.files.counts.faults = ap (λ (s : SessionState). s.files.counts.faults) alike.rest in
     let same : new.files.counts.faults ≡ start.files.counts.faults = sound.same in

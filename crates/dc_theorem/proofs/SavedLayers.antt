@@ -4,8 +4,8 @@ use Rattle.std.specs.Prelude.{codes, option_and_then, slice_get}
 use Rattle.std.specs.FinMap as map
 use Rattle.std.specs.Option.{option_or}
 use Rattle.std.proofs.lemmas.Option.{slice_get-map}
-use Rattle.dc_conf.specs.Plans.{places}
-use Rattle.dc_conf.specs.declared.plans.Plan.{Plan}
+use Rattle.dc_conf.specs.Plans.{leaves}
+use Rattle.dc_conf.specs.Trees.{Tree}
 use Rattle.dc_item.specs.Item.{ItemParts}
 use Rattle.dc_layer.specs.State.{LayerState, saved}
 use Rattle.dc_question.specs.Questions.{QuestionContext}
@@ -30,8 +30,8 @@ module _ (ls : List LayerState) where
   seen_saved (p ∷ ps) name =
       look_step (each saved ls) p ps name ∙ (λ i. option_or (item_saved p name i) (seen_saved ps name i)) ∙ sym (look_step ls p ps name)
 
-  pub look_saved : (plan : Plan) (name : List ℕ) → look (each saved ls) plan name ≡ look ls plan name
-  look_saved plan name = seen_saved (places plan.base) name
+  pub look_saved : (plan : Tree) (name : List ℕ) → look (each saved ls) plan name ≡ look ls plan name
+  look_saved plan name = seen_saved (leaves plan) name
 
   -- an answer, by what is seen of questions and of templates
   abbrev answer_by : QuestionContext → (List ℕ → Option ItemParts) → ItemParts → Answer

@@ -14,9 +14,10 @@ use Rattle.dc_serve.specs.Execution.{Transition, IsExecution, is_stop, stops}
 use Rattle.dc_serve.specs.LinkRun.{Answered}
 use Rattle.dc_serve.specs.declared.outcome.LinkEnd.{LinkEnd}
 use Rattle.dc_serve.specs.declared.outcome.LinkEnd.TheVariants as link
+use Rattle.dc_store.specs.Plans.{stored}
 use Rattle.dc_preseed.specs.Joiner.{all_joined, at_start}
 use Rattle.dc_preseed.specs.Lines.{Outcome, line_set}
-use Rattle.dc_preseed.specs.Selecting.{AreDone, Finishes, IsSelected, LosesSelection, SelectorState, TakesSelection, TellsText, after_line, after_outcome, selections_over}
+use Rattle.dc_preseed.specs.Selecting.{AreDone, Finishes, IsSelected, LosesSelection, SelectorState, TakesSelection, TellsAll, after_line, after_outcome, selections_over}
 use Rattle.dc_preseed.proofs.JoinLemmas.{joined_one}
 use Rattle.dc_preseed.proofs.SelectingLaws.{does_whole_text, says_no_code}
 use Rattle.dc_preseed.specs.declared.joining.Joined.{Joined}
@@ -31,11 +32,11 @@ use Rattle.dc_run.specs.World.{Stock, World, before_rounds}
 use Rattle.dc_run.specs.declared.outcome.Outcome.{Outcome as RunOutcome}
 use Rattle.dc_run.specs.declared.outcome.ToolEnd.TheVariants as tool
 use Rattle.dc_run.specs.declared.settings.Settings.{Settings}
-use Rattle.dc_run.proofs.Saying.{none_said, said_then, written_said}
+use Rattle.dc_run.proofs.Saying.{none_said, said_then, told_said}
 use Rattle.dc_cli.specs.Tools.{Names}
 use Rattle.dc_cli.specs.declared.tool.Tool.{Tool}
 use Rattle.dc_cli.specs.declared.tool.Tool.TheVariants.{SetSelections}
-use Rattle.dc_run.specs.declared.starting.Roots.{Roots}
+use Rattle.dc_run.specs.Roots.{Roots}
 use Rattle.dc_theorem.specs.Runs.{IsClean, LoadAlike}
 use Rattle.dc_theorem.proofs.EndLemmas.{was_used, unwaited}
 use Rattle.dc_theorem.proofs.UsedLemmas.{tool_done, left_sound, leave_as_told, same_start}
@@ -53,20 +54,24 @@ line_with : (err : LinkState) (state : SelectorState) (number : ℕ) (line : Lin
 line_with err state number TooLong = refl
 line_with err state number (Whole line) = outcome_with err state number (line_set state.store state.at line state.choices.check state.choices.unseen)
 
--- what is left of a state once what it has to tell is told
+-- what there is to tell: what the line has to tell, and then what the layers told
+abbrev to_tell : SelectorState → List ℕ
+to_tell state = state.untold ++ state.store.told
+
+-- what is left of a state once that is told
 abbrev once_told : SelectorState → SelectorState
-once_told state = record state { untold = [] }
+once_told state = record state { store = stored state.store.layers []; untold = [] }
 
 -- what joined lines tell
 abbrev told_of : List Joined → SelectorState → List ℕ
 told_of [] state = []
-told_of (joined ∷ others) state = (after_line state joined.first joined.whole).untold ++ told_of others (once_told (after_line state joined.first joined.whole))
+told_of (joined ∷ others) state = to_tell (after_line state joined.first joined.whole) ++ told_of others (once_told (after_line state joined.first joined.whole))
 
 told_with : (err : LinkState) (all : List Joined) (state : SelectorState) → told_of all (with_err err state) ≡ told_of all state
 told_with err [] state = refl
 told_with err (joined ∷ others) state =
-    ap (λ (s : SelectorState). s.untold ++ told_of others (once_told s)) (line_with err state joined.first joined.whole)
-    ∙ ap (λ (l : List ℕ). (after_line state joined.first joined.whole).untold ++ l) (told_with err others (once_told (after_line state joined.first joined.whole)))
+    ap (λ (s : SelectorState). to_tell s ++ told_of others (once_told s)) (line_with err state joined.first joined.whole)
+    ∙ ap (λ (l : List ℕ). to_tell (after_line state joined.first joined.whole) ++ l) (told_with err others (once_told (after_line state joined.first joined.whole)))
 
 -- what they leave
 abbrev left_by : List Joined → SelectorState → SelectorState
@@ -81,9 +86,9 @@ left_with err (joined ∷ others) state =
 
 -- ---- joined lines that were done
 
-text_said : (text : List ℕ) (old new : LinkState) → TellsText text old new → HasSaid text old new
-text_said [] old new tells = subst (λ (l : LinkState). HasSaid [] old l) (sym tells) (none_said old)
-text_said (byte ∷ bytes) old new tells = written_said (byte ∷ bytes) old new tells.0 tells.1
+all_said : (old new : SelectorState) → TellsAll old new → HasSaid (to_tell old) old.err new.err
+all_said old new tells =
+    said_then old.untold old.store.told old.err tells.told.0 new.err (told_said old.untold old.err tells.told.0 tells.told.1) (told_said old.store.told tells.told.0 new.err tells.told.2)
 
 -- each leaves what it does, and tells what it has to tell
 module _ (err : LinkState) where
@@ -100,14 +105,14 @@ module _ (err : LinkState) where
       let after = after_line old joined.first joined.whole in
       let mid = done.0 in
       let rest = done_leaves others mid new done.2 in
-      let mid_is : mid ≡ record after { err = mid.err; untold = [] } = done.1.new_is in
+      let mid_is : mid ≡ record after { store = stored after.store.layers []; err = mid.err; untold = [] } = done.1.new_is in
       record {
         left_is = rest.left_is
             ∙ ap (λ (s : SelectorState). left_by others (with_err err s)) mid_is
             ∙ ap (λ (s : SelectorState). left_by others (once_told s)) (sym (line_with err old joined.first joined.whole));
         said =
-            said_then after.untold (told_of others (once_told after)) old.err mid.err new.err
-            (subst (λ (l : LinkState). HasSaid after.untold l mid.err) (line_err old joined.first joined.whole) (text_said after.untold after.err mid.err done.1.told))
+            said_then (to_tell after) (told_of others (once_told after)) old.err mid.err new.err
+            (subst (λ (l : LinkState). HasSaid (to_tell after) l mid.err) (line_err old joined.first joined.whole) (all_said after mid done.1))
             (subst (λ (t : List ℕ). HasSaid t mid.err new.err) (ap (told_of others) mid_is ∙ told_with mid.err others (once_told after)) rest.said);
       }
 
@@ -174,7 +179,7 @@ module _ (words : List (List ℕ)) (verbose check unseen : Bool) (settings : Set
 
     leaves : (err : LinkState) → Leaves err all (start old has.mid has.roots) (record state { joining = at_start })
     leaves err =
-        let does = does_whole_text (start old has.mid has.roots) state old.links.io has.links.io 0 has.answer.last_code selected refl refl in
+        let does = does_whole_text (start old has.mid has.roots) state old.links.io has.links.io 0 has.answer.last_code selected refl refl refl in
         let lines : does.0 ≡ all = (joined_one (all_lines (got selected.serves.run.pieces)) does.0).0 does.1 ∙ ap (λ (t : List ℕ). all_joined (all_lines t)) came in
         done_leaves err all (start old has.mid has.roots) (record state { joining = at_start })
         (subst (λ (js : List Joined). AreDone js (start old has.mid has.roots) (record state { joining = at_start })) lines does.2)

@@ -24,10 +24,13 @@ use Rattle.dc_save.specs.declared.loading.Loaded.TheVariants.{Here, LeftOut}
 use Rattle.dc_save.specs.declared.loading.LoadError.{LoadError}
 use Rattle.dc_shelf.specs.Shelves.{all_set_up, GoesOn, LoadsAll}
 use Rattle.dc_session.proofs.Determined.{IsTold}
+use Rattle.dc_cli.specs.declared.tool.CopyWords.{CopyWords}
 use Rattle.dc_cli.specs.declared.tool.Tool.{Tool}
-use Rattle.dc_run.specs.Starting.{has_files, loaded_of, IsConfiguration, conf_read, conf_text, copy_roots, databases_of, HasStarted, plan_in, source_of}
+use Rattle.dc_cli.specs.declared.tool.Tool.TheVariants.{Communicate, LoadTemplate, Run, Show, CopyDb, SetSelections, GetSelections, Drill}
+use Rattle.dc_conf.proofs.NodeLemmas.{one_plan}
+use Rattle.dc_run.specs.Starting.{has_files, loaded_of, IsConfiguration, IsCopyIn, IsCopyOf, IsPlanIn, conf_read, conf_text, databases_of, HasStarted, source_of}
 use Rattle.dc_run.specs.World.{Stock}
-use Rattle.dc_run.specs.declared.starting.Roots.{Roots}
+use Rattle.dc_run.specs.Roots.{CopyRoots, Roots}
 use Rattle.dc_theorem.proofs.CountLemmas.{no_rise, still}
 
 no_error : (error : LoadError) → ◌≡◌ {A = Result (Unit {0}) LoadError} (Ok tt) (Err error) → ⊥
@@ -221,6 +224,29 @@ pub record StartAlike (mid last : Stock) (roots others : Roots) : Type 0 where
   pub told : mid.files.view ≡ last.files.view
   pub roots_are : roots ≡ others
 
+-- what is copied into, and by which patterns, is one
+same_copy : (copy : CopyWords) (conf : Configuration) (one other : CopyRoots) → IsCopyOf copy conf one → IsCopyOf copy conf other → one ≡ other
+same_copy copy conf one other first second = λ i. record {
+  dest = one_plan conf.nodes (databases_of (CopyDb copy) conf) one.dest other.dest copy.dest.word first.dest second.dest i;
+  by_name = (first.by_name ∙ sym second.by_name) i;
+  by_owner = (first.by_owner ∙ sym second.by_owner) i;
+}
+
+copy_once : (copy : CopyWords) (conf : Configuration) (one other : Option CopyRoots) → IsCopyIn (CopyDb copy) conf one → IsCopyIn (CopyDb copy) conf other → one ≡ other
+copy_once copy conf None other first second = absurd first
+copy_once copy conf (Some one) None first second = absurd second
+copy_once copy conf (Some one) (Some other) first second = ap (λ (c : CopyRoots). Some c) (same_copy copy conf one other first second)
+
+one_copy : (used : Tool) (conf : Configuration) (one other : Option CopyRoots) → IsCopyIn used conf one → IsCopyIn used conf other → one ≡ other
+one_copy (Communicate owner) conf one other first second = first ∙ sym second
+one_copy (LoadTemplate owner paths) conf one other first second = first ∙ sym second
+one_copy (Run owner frontend priority command) conf one other first second = first ∙ sym second
+one_copy (Show database shown) conf one other first second = first ∙ sym second
+one_copy (CopyDb copy) conf one other first second = copy_once copy conf one other first second
+one_copy (SetSelections verbose check unseen) conf one other first second = first ∙ sym second
+one_copy GetSelections conf one other first second = first ∙ sym second
+one_copy (Drill count) conf one other first second = first ∙ sym second
+
 conf_disk : (is : Bool) (files : FilesView) (path : List ℕ) → (if is then after_look files Read path true else files).disk ≡ files.disk
 conf_disk true files path = refl
 conf_disk false files path = refl
@@ -246,8 +272,10 @@ one_start used disk path told files other_files mid last roots others disk_told 
       told = once.1;
       roots_are = λ i. record {
         conf = conf i;
-        config = (first.config_is ∙ ap (λ (c : Configuration). plan_in used c (source_of used c)) conf ∙ sym second.config_is) i;
-        templates = (first.templates_is ∙ ap (λ (c : Configuration). plan_in used c c.templates) conf ∙ sym second.templates_is) i;
-        copy = (first.copy_is ∙ ap (λ (c : Configuration). copy_roots used c) conf ∙ sym second.copy_is) i;
+        config = one_plan others.conf.nodes (databases_of used others.conf) roots.config others.config (source_of used others.conf)
+            (subst (λ (c : Configuration). IsPlanIn used c roots.config (source_of used c)) conf first.config_is) second.config_is i;
+        templates = one_plan others.conf.nodes (databases_of used others.conf) roots.templates others.templates others.conf.templates
+            (subst (λ (c : Configuration). IsPlanIn used c roots.templates c.templates) conf first.templates_is) second.templates_is i;
+        copy = one_copy used others.conf roots.copy others.copy (subst (λ (c : Configuration). IsCopyIn used c roots.copy) conf first.copy_is) second.copy_is i;
       };
     }

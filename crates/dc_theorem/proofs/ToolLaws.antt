@@ -9,11 +9,11 @@ use Rattle.dc_outside.specs.declared.files.FilesCall.{FilesCall}
 use Rattle.dc_outside.specs.declared.link.Piece.TheVariants.{Sent}
 use Rattle.dc_session.specs.Serving.{Resources}
 use Rattle.dc_session.specs.SessionState.{SessionState}
-use Rattle.dc_store.specs.Plans.{StoreState, stored}
-use Rattle.dc_tools.specs.Copying.{Copying, after_copies, chosen, refused_names}
+use Rattle.dc_store.specs.Plans.{stored}
+use Rattle.dc_tools.specs.Copying.{Copying, CopyState, after_copies, chosen, so_far, first_report}
 use Rattle.dc_dump.specs.declared.saying.Said.{Said}
 use Rattle.dc_run.specs.Ends.{status_of}
-use Rattle.dc_run.specs.Jobs.{Prints, Copies, CopiesBy, HasCopied, TellsUnsaid, answers_said, copying, told_status, refusal_lines, shown_text, unsaid_lines}
+use Rattle.dc_run.specs.Jobs.{Prints, Copies, CopiesBy, HasCopied, TellsUnsaid, answers_said, copying, refused_status, told_status, shown_text, unsaid_lines}
 use Rattle.dc_run.specs.OneRound.{HasUsed}
 use Rattle.dc_run.specs.Starting.{begun, context_of}
 use Rattle.dc_run.specs.World.{Links, World, before_rounds}
@@ -22,8 +22,7 @@ use Rattle.dc_run.specs.declared.outcome.ToolAnswer.{ToolAnswer}
 use Rattle.dc_run.specs.declared.outcome.ToolEnd.{ToolEnd}
 use Rattle.dc_run.specs.declared.outcome.ToolEnd.TheVariants as tool
 use Rattle.dc_run.specs.declared.settings.Settings.{Settings}
-use Rattle.dc_run.specs.declared.starting.CopyRoots.{CopyRoots}
-use Rattle.dc_run.specs.declared.starting.Roots.{Roots}
+use Rattle.dc_run.specs.Roots.{CopyRoots, Roots}
 use Rattle.dc_cli.specs.Tools.{Names}
 use Rattle.dc_cli.specs.declared.tool.CopyWords.{CopyWords}
 use Rattle.dc_cli.specs.declared.tool.PlacedWord.{PlacedWord}
@@ -32,6 +31,7 @@ use Rattle.dc_cli.specs.declared.tool.Tool.TheVariants.{Show, GetSelections, Cop
 use Rattle.dc_serve.specs.Said.{said}
 use Rattle.dc_theorem.specs.Runs.{IsClean, LoadAlike, ShowAlike}
 use Rattle.dc_theorem.proofs.EndLemmas.{was_used, unwaited}
+use Rattle.dc_theorem.proofs.TellLaws.{tell_nothing}
 use Rattle.dc_theorem.proofs.UsedLemmas.{tool_done, left_sound, same_start, leave_alike}
 
 -- ---- show
@@ -63,9 +63,10 @@ module _ (words : List (List ℕ)) (database : Option PlacedWord) (shown : Shown
       let other_has = was_used words settings disk calls other last again (Show database shown) named other_clean in
       let starts = same_start words (Show database shown) settings disk calls one new other last outcome again clean other_clean has other_has (shown_high one new outcome clean has) (shown_high other last again other_clean other_has) in
       record {
-        leave = leave_alike words (Show database shown) tt settings disk calls one new other last outcome again clean other_clean has other_has
+        leave = leave_alike words (Show database shown) settings disk calls one new other last outcome again clean other_clean has other_has
             (ap (λ (l : Resources). l.layers) has.uses.0.left_is ∙ starts.used ∙ sym (ap (λ (l : Resources). l.layers) other_has.uses.0.left_is))
             (ap (λ (l : Resources). l.files.view) has.uses.0.left_is ∙ starts.told ∙ sym (ap (λ (l : Resources). l.files.view) other_has.uses.0.left_is))
+            (tell_nothing one.err has.left.err other.err other_has.left.err (ap (λ (l : Resources). l.err) has.uses.0.left_is) (ap (λ (l : Resources). l.err) other_has.uses.0.left_is))
             (has.uses.1 ∙ sym other_has.uses.1)
             (has.uses.0.code_is ∙ sym other_has.uses.0.code_is);
         printed = record {
@@ -112,9 +113,10 @@ module _ (words : List (List ℕ)) (settings : Settings) (disk : Disk) (calls : 
       let starts = same_start words GetSelections settings disk calls one new other last outcome again clean other_clean has other_has (answers_high one new outcome clean has) (answers_high other last again other_clean other_has) in
       let same : answers has.mid.used has.roots ≡ answers other_has.mid.used other_has.roots = λ i. answers (starts.used i) (starts.roots_are i) in
       record {
-        leave = leave_alike words GetSelections tt settings disk calls one new other last outcome again clean other_clean has other_has
+        leave = leave_alike words GetSelections settings disk calls one new other last outcome again clean other_clean has other_has
             (ap (λ (l : Resources). l.layers) has.uses.left_is ∙ starts.used ∙ sym (ap (λ (l : Resources). l.layers) other_has.uses.left_is))
             (ap (λ (l : Resources). l.files.view) has.uses.left_is ∙ starts.told ∙ sym (ap (λ (l : Resources). l.files.view) other_has.uses.left_is))
+            (tell_nothing one.err has.left.err other.err other_has.left.err (ap (λ (l : Resources). l.err) has.uses.left_is) (ap (λ (l : Resources). l.err) other_has.uses.left_is))
             ((unsaid_told one new outcome clean has).0 ∙ ap (λ (s : Said). unsaid_lines s.left_out) same ∙ sym (unsaid_told other last again other_clean other_has).0)
             (has.uses.code_is ∙ sym other_has.uses.code_is);
         printed = record {
@@ -129,16 +131,24 @@ module _ (words : List (List ℕ)) (settings : Settings) (disk : Disk) (calls : 
 
 -- ---- copydb
 
+-- what a copy of all that is chosen comes to
+abbrev all_copied : Copying → List LayerState → CopyState
+all_copied copy layers = after_copies copy (so_far (stored layers []) (first_report [])) (chosen layers copy)
+
 -- what a copy that did all leaves, tells and has as its status
 record IsWhole (copy : Copying) (old new : List LayerState) (told : List ℕ) (status : ℕ) : Type 0 where
-  new_is : new ≡ (after_copies (stored old []) copy (chosen old copy)).layers
-  told_is : told ≡ refusal_lines (refused_names (stored old []) copy (chosen old copy))
-  status_is : status ≡ told_status (refused_names (stored old []) copy (chosen old copy))
+  new_is : new ≡ (all_copied copy old).layers
+  told_is : told ≡ (all_copied copy old).report.lines
+  status_is : status ≡ refused_status (all_copied copy old).report.refused
 
 whole_copy : (copy : Copying) (old new : List LayerState) (told : List ℕ) (status : ℕ) → Copies copy old new tool.Done told status → IsWhole copy old new told status
 whole_copy copy old new told status copies =
     let is = copies.2 in
-    record { new_is = copies.3 ∙ ap (λ (s : StoreState). s.layers) is.left; told_is = copies.4 ∙ ap refusal_lines is.told; status_is = copies.5 ∙ ap told_status is.told }
+    record {
+      new_is = copies.3 ∙ ap (λ (c : CopyState). c.layers) is.copied;
+      told_is = copies.4 ∙ ap (λ (c : CopyState). c.report.lines) is.copied;
+      status_is = copies.5 ∙ ap (λ (c : CopyState). refused_status c.report.refused) is.copied;
+    }
 
 -- the copy of a run, which has what it copies by
 record HasMade (found : Option CopyRoots) (start : SessionState) (links new : Links) (answer : ToolAnswer) (told : List ℕ) (left : Resources) : Type 0 where
@@ -187,14 +197,14 @@ module _ (words : List (List ℕ)) (copy : CopyWords) (settings : Settings) (dis
       = λ i. record { source = (starts.roots_are i).config; dest = (same i).dest; templates = (starts.roots_are i).templates; by_name = (same i).by_name; by_owner = (same i).by_owner } in
       let one_whole = whole one new outcome clean has in
       let other_whole = whole other last again other_clean other_has in
-      let refused : refused_names (stored has.mid.used []) (copying (start one new outcome clean has) first.roots) (chosen has.mid.used (copying (start one new outcome clean has) first.roots))
-      ≡ refused_names (stored other_has.mid.used []) (copying (start other last again other_clean other_has) second.roots) (chosen other_has.mid.used (copying (start other last again other_clean other_has) second.roots))
-      = λ i. refused_names (stored (starts.used i) []) (makes i) (chosen (starts.used i) (makes i)) in
+      let come : all_copied (copying (start one new outcome clean has) first.roots) has.mid.used ≡ all_copied (copying (start other last again other_clean other_has) second.roots) other_has.mid.used
+      = λ i. all_copied (makes i) (starts.used i) in
       record {
-        leave = leave_alike words (CopyDb copy) tt settings disk calls one new other last outcome again clean other_clean has other_has
-            (one_whole.new_is ∙ (λ i. (after_copies (stored (starts.used i) []) (makes i) (chosen (starts.used i) (makes i))).layers) ∙ sym other_whole.new_is)
+        leave = leave_alike words (CopyDb copy) settings disk calls one new other last outcome again clean other_clean has other_has
+            (one_whole.new_is ∙ ap (λ (c : CopyState). c.layers) come ∙ sym other_whole.new_is)
             (ap (λ (l : Resources). l.files.view) first.made.left_is ∙ starts.told ∙ sym (ap (λ (l : Resources). l.files.view) second.made.left_is))
-            (one_whole.told_is ∙ ap refusal_lines refused ∙ sym other_whole.told_is)
+            (tell_nothing one.err has.left.err other.err other_has.left.err (ap (λ (l : Resources). l.err) first.made.left_is) (ap (λ (l : Resources). l.err) second.made.left_is))
+            (one_whole.told_is ∙ ap (λ (c : CopyState). c.report.lines) come ∙ sym other_whole.told_is)
             (first.made.code_is ∙ sym second.made.code_is);
-        status = copied_status other last again other_clean other_has ∙ other_whole.status_is ∙ sym (ap told_status refused) ∙ sym one_whole.status_is ∙ sym (copied_status one new outcome clean has);
+        status = copied_status other last again other_clean other_has ∙ other_whole.status_is ∙ sym (ap (λ (c : CopyState). refused_status c.report.refused) come) ∙ sym one_whole.status_is ∙ sym (copied_status one new outcome clean has);
       }

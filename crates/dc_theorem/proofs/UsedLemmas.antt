@@ -1,5 +1,5 @@
 -- What is known of a run that did all and at which no call of the files failed, and what two such runs leave.
-use Rattle.std.proofs.Common.{◌≡◌, ℕ, List, if◌then◌else◌, ◌++◌, Some, refl, ap, sym, subst, ◌∙◌, arith}
+use Rattle.std.proofs.Common.{◌≡◌, ℕ, List, if◌then◌else◌, ◌++◌, Some, refl, ap, sym, ◌∙◌, arith}
 use Rattle.std.specs.Prelude.{◌≤◌, map as each}
 use Rattle.dc_outside.specs.Counts.{Counts}
 use Rattle.dc_layer.specs.State.{LayerState, saved}
@@ -7,13 +7,11 @@ use Rattle.dc_save.specs.Saving.{after_images}
 use Rattle.dc_outside.specs.Disk.{Disk}
 use Rattle.dc_outside.specs.declared.files.FilesCall.{FilesCall}
 use Rattle.dc_session.proofs.Determined.{IsTold}
-use Rattle.dc_run.specs.EndLines.{end_line, HasSaid}
+use Rattle.dc_run.specs.EndLines.{end_line}
 use Rattle.dc_run.specs.Finishing.{images_of}
-use Rattle.dc_run.specs.Starting.{begun, keeps_changes}
-use Rattle.dc_run.proofs.SilentLemmas.{IsQuiet, tool_silent}
-use Rattle.dc_outside.specs.State.{LinkState}
+use Rattle.dc_run.specs.Starting.{keeps_changes}
 use Rattle.dc_run.specs.OneRound.{HasUsed}
-use Rattle.dc_run.specs.World.{World, before_rounds}
+use Rattle.dc_run.specs.World.{World}
 use Rattle.dc_run.specs.declared.outcome.End.TheVariants as end
 use Rattle.dc_run.specs.declared.outcome.Outcome.{Outcome}
 use Rattle.dc_run.specs.declared.outcome.ToolEnd.TheVariants as tool
@@ -22,6 +20,7 @@ use Rattle.dc_cli.specs.declared.tool.Tool.{Tool}
 use Rattle.dc_theorem.specs.Runs.{IsClean, LeaveAlike, TellAlike}
 use Rattle.dc_theorem.proofs.EndLemmas.{HasKept, waited, kept_so}
 use Rattle.dc_theorem.proofs.StartLaws.{StartAlike, started_later, started_told, one_start}
+use Rattle.dc_theorem.proofs.TellLaws.{tell_text, tell_then}
 
 module _ (words : List (List ℕ)) (used : Tool) (settings : Settings) (disk : Disk) (calls : List FilesCall) where
   -- ---- one run
@@ -75,21 +74,11 @@ module _ (words : List (List ℕ)) (used : Tool) (settings : Settings) (disk : D
           code = other_has.code_is ∙ sym code ∙ sym has.code_is;
         }
 
--- ---- tools that tell nothing before they end
-
-module _ (words : List (List ℕ)) (used : Tool) (quiet : IsQuiet used) (settings : Settings) (disk : Disk) (calls : List FilesCall) where
-  module _ (old new : World) (outcome : Outcome) (has : HasUsed used settings old new outcome) where
-    told_then : HasSaid (has.told ++ end_line outcome.end) old.err new.err
-    told_then = subst (λ (l : LinkState). HasSaid (has.told ++ end_line outcome.end) l new.err)
-        (tool_silent used quiet has.roots (begun used (before_rounds (record old { stock = has.mid })) has.roots settings) old.links has.links 0 has.answer has.told has.left has.uses) has.said
-
-  module _ (one new other last : World) (outcome again : Outcome) (clean : IsClean words settings disk calls one new outcome) (other_clean : IsClean words settings disk calls other last again)
-      (has : HasUsed used settings one new outcome) (other_has : HasUsed used settings other last again) where
-    pub leave_alike : has.left.layers ≡ other_has.left.layers → has.left.files.view ≡ other_has.left.files.view → has.told ≡ other_has.told → has.answer.last_code ≡ other_has.answer.last_code → LeaveAlike one new outcome other last again
-    leave_alike layers left told code =
-        let text : other_has.told ++ end_line again.end ≡ has.told ++ end_line outcome.end = λ i. sym told i ++ end_line ((other_clean.done ∙ sym clean.done) i) in
-        leave_as_told words used settings disk calls one new other last outcome again clean other_clean has other_has layers left (record {
-          text = has.told ++ end_line outcome.end;
-          one_is = told_then one new outcome has;
-          other_is = subst (λ (t : List ℕ). HasSaid t other.err last.err) text (told_then other last again other_has);
-        }) code
+    -- where their sessions told the same, and they told the same behind these
+    pub leave_alike : has.left.layers ≡ other_has.left.layers → has.left.files.view ≡ other_has.left.files.view → TellAlike one.err has.left.err other.err other_has.left.err → has.told ≡ other_has.told
+        → has.answer.last_code ≡ other_has.answer.last_code → LeaveAlike one new outcome other last again
+    leave_alike layers left before told code =
+        leave_as_told layers left
+        (tell_then one.err has.left.err new.err other.err other_has.left.err last.err before
+        (tell_text (has.told ++ end_line outcome.end) (other_has.told ++ end_line again.end) has.left.err new.err other_has.left.err last.err
+        (λ i. told i ++ end_line ((clean.done ∙ sym other_clean.done) i)) has.said other_has.said)) code

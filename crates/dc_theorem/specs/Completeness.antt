@@ -24,7 +24,7 @@ use Rattle.dc_serve.specs.Said.{CutsShort, said}
 use Rattle.dc_serve.specs.declared.machine.Response.{Response}
 use Rattle.dc_serve.specs.declared.machine.Response.TheVariants.{Replied}
 use Rattle.dc_session.specs.Answers.{CommandInputs, names_on}
-use Rattle.dc_session.specs.Machine.{Gives, Handles, HasDone, Steps, StepsHeard, sent_in}
+use Rattle.dc_session.specs.Machine.{Gives, HasDone, Steps, StepsHeard, TakesLine, TellsStore, sent_in}
 use Rattle.dc_session.specs.SessionState.{SessionState, TerminalState}
 use Rattle.dc_session.specs.declared.stepped.Stepped.{Stepped}
 use Rattle.dc_session.specs.declared.template_files.Found.TheVariants.{Unreadable}
@@ -177,8 +177,8 @@ pub record SendReplies (turns : List (Transition SessionState)) (old new : LinkS
 
 -- what a tool's session did, where it has one
 abbrev pub AreItsTurns : Tool → SessionState → List (Transition SessionState) → Links → Links → Type 0
-AreItsTurns (Communicate owner) start turns old new = IsExecution Handles start turns × SendReplies turns old.io new.io
-AreItsTurns (Run owner frontend priority command) start turns old new = IsExecution Handles start turns × SendReplies turns old.child new.child
+AreItsTurns (Communicate owner) start turns old new = IsExecution TakesLine start turns × SendReplies turns old.io new.io
+AreItsTurns (Run owner frontend priority command) start turns old new = IsExecution TakesLine start turns × SendReplies turns old.child new.child
 AreItsTurns used start turns old new = turns ≡ []
 
 -- Each call of the files that failed was one of a load of a database that isn't required, or the read of a command with code 100.
@@ -214,7 +214,7 @@ pub record IsBeforeUnsaid (start : SessionState) (pieces : List Piece) (input : 
   pub turns : List (Transition SessionState)
   pub line : Line
   pub rest : List Line
-  pub course : IsExecution Handles start turns
+  pub course : IsExecution TakesLine start turns
   pub on : stops turns ≡ false
   pub served : AreServed pieces input (lines_of turns ++ line ∷ rest)
   pub replied : said pieces ≡ replies turns
@@ -233,7 +233,7 @@ NoneLeft turns pieces input = (stops turns ≡ true) ⊎ AreServed pieces input 
 pub record IsBehindAll (start : SessionState) (pieces : List Piece) (input : Option (List ℕ)) (layers : List LayerState) : Type 0 where
   pub turns : List (Transition SessionState)
   pub rest : List Line
-  pub course : IsExecution Handles start turns
+  pub course : IsExecution TakesLine start turns
   pub served : AreServed pieces input (lines_of turns ++ rest)
   pub answered : (said pieces ≡ replies turns) ⊎ AreCutShort turns pieces
   pub layers_are : (layers ≡ (state_after start turns).store.layers)
@@ -264,11 +264,13 @@ abbrev pub AnswersLine : SessionState → Line → Stepped → SessionState → 
 AnswersLine old TooLong did new = Steps old TooLong did new
 AnswersLine old (Whole line) did new = AnswersHeard (heard old.asking.escape line) old did new
 
--- a line had its turn so, and the reply is sent in the mode that stands before it
+-- A line had its turn so, and the reply is sent in the mode that stands before it. What the layers told at it is told behind the reply.
 pub record Answers (old : SessionState) (line : Line) (did : Response) (new : SessionState) : Type 0 where
+  pub mid : SessionState
   pub stepped : Stepped
-  pub steps : AnswersLine old line stepped new
+  pub steps : AnswersLine old line stepped mid
   pub did_is : did ≡ sent_in old.asking.escape stepped
+  pub tells : TellsStore mid new
 
 -- Each line that counts had its turn so, or one stopped the session, and the replies were sent on the link, whole and in order.
 pub record AnswersAll (start : SessionState) (old new : LinkState) : Type 0 where

@@ -1,11 +1,11 @@
 -- What is written of more questions.
-use Rattle.std.proofs.Common.{◌≡◌, ℕ, ◌+◌, ◌<◌, List, [], ◌∷◌, ◌++◌, length, take, get_or, Option, Some, None, refl, sym, ap, ◌∙◌, append_assoc}
+use Rattle.std.proofs.Common.{◌≡◌, ℕ, ◌+◌, ◌<◌, List, [], ◌∷◌, ◌++◌, length, take, get_or, Option, Some, sym, ap, ◌∙◌}
 use Rattle.std.specs.Prelude.{option_map, codes}
 use Rattle.std.specs.FinMap.{contains_key}
 use Rattle.std.specs.List.{filter_map, cons_option}
 use Rattle.std.proofs.lemmas.List.{append-nil, take_more}
 use Rattle.std.proofs.lemmas.List.Elements.{filter_map-append}
-use Rattle.dc_text.specs.Ascii.{newline, colon}
+use Rattle.dc_text.specs.Ascii.{newline}
 use Rattle.dc_text.specs.Lines.{text_of}
 use Rattle.dc_text.proofs.LineLaws.{text_of-append}
 use Rattle.dc_item.specs.Item.{ItemParts, with_field}

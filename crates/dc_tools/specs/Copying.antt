@@ -1,25 +1,25 @@
 -- What `copydb` copies (debconf-copydb(1)): items of one database are put into another, in byte order.
-use Rattle.std.specs.Prelude.{◌≡◌, ℕ, Bool, true, ◌&&◌, List, [], ◌∷◌, ◌++◌, Option, Some, None, option_and_then, unwrap_or, if◌then◌else◌}
+use Rattle.std.specs.Prelude.{◌≡◌, ℕ, Bool, true, false, ◌&&◌, List, [], ◌∷◌, ◌++◌, Option, Some, None, option_and_then, codes, if◌then◌else◌}
 use Rattle.std.specs.Option.{option_or, option_map_or}
 use Rattle.std.specs.List.{filter_map, list_any}
 use Rattle.std.specs.FinMap as map
-use Rattle.dc_conf.specs.declared.plans.Base.TheVariants.{Leaf}
-use Rattle.dc_conf.specs.declared.plans.Plan.{Plan}
+use Rattle.dc_conf.specs.Trees.{Tree, Leaf}
 use Rattle.dc_item.specs.Item.{ItemParts}
 use Rattle.dc_item.specs.declared.op.Op.TheVariants.{Put}
 use Rattle.dc_template.specs.declared.kinds.Kind.{Kind}
 use Rattle.dc_layer.specs.Patterns.{Sought, is_found}
 use Rattle.dc_layer.specs.State.{LayerState}
-use Rattle.dc_store.specs.Batches.{Write, is_refused, write_done}
-use Rattle.dc_store.specs.Plans.{StoreState, look, names}
+use Rattle.dc_store.specs.Batches.{Write, write_done}
+use Rattle.dc_store.specs.Plans.{StoreState, stored, look, names}
 use Rattle.dc_store.specs.Writes.{takes_at}
 use Rattle.dc_question.specs.Readings.{template_of, kind_by}
+use Rattle.dc_tools.specs.declared.report.CopyReport.{CopyReport}
 
 -- a copy: its source and its destination, where the templates stand, and the patterns for names and for owners
 pub record Copying : Type 0 where
-  pub source : Plan
-  pub dest : Plan
-  pub templates : Plan
+  pub source : Tree
+  pub dest : Tree
+  pub templates : Tree
   pub by_name : Option Sought
   pub by_owner : Option Sought
 
@@ -45,7 +45,7 @@ chosen layers copy = filter_map (chosen_at layers copy) (names layers copy.sourc
 -- ---- how they are copied
 
 -- the kind by which the copy of an item is tested: what its template says, else what it says itself
-abbrev pub kind_copied : List LayerState → Plan → ItemParts → Option Kind
+abbrev pub kind_copied : List LayerState → Tree → ItemParts → Option Kind
 kind_copied layers templates item = option_or (kind_by (template_of (look layers templates) item)) (kind_by (Some item))
 
 -- the write that puts an item into the destination, by the tables as they stand then
@@ -53,34 +53,54 @@ abbrev pub copy_write : List LayerState → Copying → List ℕ × ItemParts �
 copy_write layers copy entry =
     record { plan = copy.dest; name = entry.0; kind = kind_copied layers copy.templates entry.1; op = Put entry.1; reported_for = entry.0 ∷ [] }
 
--- once it is put, or refused, by which nothing changes
-abbrev pub after_copy : StoreState → Copying → List ℕ × ItemParts → StoreState
-after_copy store copy entry = unwrap_or (write_done store (copy_write store.layers copy entry)) store
+-- a report with lines more, of an item that was put
+abbrev pub put_told : CopyReport → List ℕ → CopyReport
+put_told report lines = record { lines = report.lines ++ lines; refused = report.refused }
 
--- once all are
-abbrev pub after_copies : StoreState → Copying → List (List ℕ × ItemParts) → StoreState
-after_copies store copy [] = store
-after_copies store copy (entry ∷ entries) = after_copies (after_copy store copy entry) copy entries
+-- a report with a line more, of an item that was refused
+abbrev pub refusal_told : CopyReport → List ℕ → CopyReport
+refusal_told report name = record { lines = report.lines ++ (name ++ codes " can't be changed\n"); refused = true }
 
--- the name of an item that is refused
-abbrev pub refused_name : StoreState → Copying → List ℕ × ItemParts → List (List ℕ)
-refused_name store copy entry = if is_refused store.layers (copy_write store.layers copy entry) then entry.0 ∷ [] else []
+-- how far a copy is: the layers, and what is reported
+pub record CopyState : Type 0 where
+  pub layers : List LayerState
+  pub report : CopyReport
 
--- the names of all that are refused, in order
-abbrev pub refused_names : StoreState → Copying → List (List ℕ × ItemParts) → List (List ℕ)
-refused_names store copy [] = []
-refused_names store copy (entry ∷ entries) = refused_name store copy entry ++ refused_names (after_copy store copy entry) copy entries
+-- once an item was written: what the store told of it is reported, or, where nothing was written, that it was refused
+abbrev pub with_written : CopyState → List ℕ → Option StoreState → CopyState
+with_written at name (Some store) = record { layers = store.layers; report = put_told at.report store.told }
+with_written at name None = record { layers = at.layers; report = refusal_told at.report name }
+
+-- once an item is copied, by a store that told nothing before
+abbrev pub after_copy : Copying → CopyState → List ℕ × ItemParts → CopyState
+after_copy copy at entry = with_written at entry.0 (write_done (stored at.layers []) (copy_write at.layers copy entry))
+
+-- once all are, in order
+abbrev pub after_copies : Copying → CopyState → List (List ℕ × ItemParts) → CopyState
+after_copies copy at [] = at
+after_copies copy at (entry ∷ entries) = after_copies copy (after_copy copy at entry) entries
+
+-- once those of the names are that are chosen
+abbrev pub after_names : Copying → CopyState → List (List ℕ) → CopyState
+after_names copy at names = after_copies copy at (filter_map (chosen_at at.layers copy) names)
 
 -- ---- what a copy is
 
--- each item that is chosen was put into the destination, and these are the names of those that were refused
-pub record IsCopied (copy : Copying) (old new : StoreState) (refused : List (List ℕ)) : Type 0 where
-  pub left : new ≡ after_copies old copy (chosen old.layers copy)
-  pub told : refused ≡ refused_names old copy (chosen old.layers copy)
+-- how far the copy is that works on the store, by its report
+abbrev pub so_far : StoreState → CopyReport → CopyState
+so_far store report = record { layers = store.layers; report = report }
 
--- the plan is one layer, without a backup, that takes each item
-pub record IsOpen (layers : List LayerState) (plan : Plan) : Type 0 where
+-- the report before the first item: what the store told before, and nothing was refused
+abbrev pub first_report : List ℕ → CopyReport
+first_report told = record { lines = told; refused = false }
+
+-- Each item that is chosen was copied. Whatever the store told is reported, and so nothing is left of it.
+pub record IsCopied (copy : Copying) (old new : StoreState) (report : CopyReport) : Type 0 where
+  pub copied : so_far new report ≡ after_copies copy (so_far old (first_report old.told)) (chosen old.layers copy)
+  pub taken : new.told ≡ []
+
+-- the plan is one layer that takes each item
+pub record IsOpen (layers : List LayerState) (plan : Tree) : Type 0 where
   pub place : ℕ
-  pub alone : plan.base ≡ Leaf place
-  pub unbacked : plan.backup ≡ None
+  pub alone : plan ≡ Leaf place
   pub takes : (name : List ℕ) (kind : Option Kind) → takes_at layers name kind place ≡ true

@@ -1,23 +1,25 @@
 // What `copydb` copies.
-ghost use Rattle.std.specs.Prelude.{◌≡◌, ◌∷◌, ◌++◌, [], IfOk, OnOk, length, option_map, true, not, if◌then◌else◌};
+ghost use Rattle.std.specs.Prelude.{◌≡◌, ◌∷◌, [], IfOk, OnOk, Some, None, Ok, length, option_map, true, false, if◌then◌else◌};
 ghost use Rattle.std.specs.Option.{option_copied, option_map_or};
 ghost use Rattle.std.specs.FinMap as map;
-ghost use Rattle.std.specs.List.{list_any, filter_map};
+ghost use Rattle.std.specs.List.{list_any};
+ghost use Rattle.dc_conf.specs.Trees.{shape};
 ghost use Rattle.dc_conf.specs.Plans.{IsOver, are_disjoint};
-ghost use Rattle.dc_store.specs.Batches.{is_refused};
+ghost use Rattle.dc_store.specs.Batches.{write_done};
 ghost use Rattle.dc_store.specs.Plans.{look as look_of, names as names_of};
 ghost use Rattle.dc_store.specs.StoreLaws.{IsSameStoreBut, IsSameStoreButAll};
 ghost use Rattle.dc_store.specs.Views.{store_in};
 ghost use Rattle.dc_question.specs.Readings.{template_of};
-ghost use Rattle.dc_tools.specs.Copying.{finds, is_chosen as is_chosen_by, chosen_at as chosen_at_of, kind_copied as kind_copied_of, copy_write as copy_write_of, after_copy, after_copies, refused_names, IsCopied};
+ghost use Rattle.dc_tools.specs.Copying.{finds, is_chosen as is_chosen_by, chosen_at as chosen_at_of, kind_copied as kind_copied_of, copy_write as copy_write_of, so_far, after_copy, after_names, IsCopied};
 
+use crate::report::CopyReport;
 use dc_conf::plans::Plan;
 use dc_item::{Item, Op};
 use dc_layer::{Layer, Pattern};
 use dc_question::kind;
 use dc_store::{Batch, ReportedFor, Store, StoreError, Write};
 use dc_template::Kind;
-use dc_text::{List, Mem, Name, OutOfMemory};
+use dc_text::{Mem, Name, OutOfMemory};
 use std::alloc::Global;
 use std::marker::Model;
 
@@ -34,22 +36,28 @@ struct CopyTask<'c> {
 
 impl<'c> Model for CopyTask<'c> {
     ghost use Rattle.std.specs.Option.{option_copied};
+    ghost use Rattle.std.specs.Coded.{codes};
+    ghost use Rattle.dc_conf.specs.Trees.{shape};
+    ghost use Rattle.dc_store.specs.TreeCodes.{tree_code};
     ghost use Rattle.dc_tools.specs.Copying.{Copying};
 
     ghost Value = { Copying };
 
+    ghost coded = { Prim.hlevel (codes, tree_code) };
+
     ghost view = { λ c. record {
-      source = c.source.now;
-      dest = c.dest.now;
-      templates = c.templates.now;
+      source = shape c.source.now;
+      dest = shape c.dest.now;
+      templates = shape c.templates.now;
       by_name = option_copied c.by_name;
       by_owner = option_copied c.by_owner;
     } };
 }
 
-/// Puts the items of the source into the destination, in byte order of their names, and answers the names of those that the destination
-/// refused (debconf-copydb(1)). With a pattern for names those are copied in whose name it is found, and with one for owners those in one
-/// of whose owners it is. The kind of an item is what its template says, else what it says itself. The two share no layer.
+/// Puts the items of the source into the destination, in byte order of their names, and reports what is told of them: of each what the
+/// destination tells, or that it is refused (debconf-copydb(1)). What the store told before stands first. With a pattern for names those
+/// are copied in whose name it is found, and with one for owners those in one of whose owners it is. The kind of an item is what its
+/// template says, else what it says itself. The two share no layer.
 pub fn copy_items(
     store: &mut Store,
     source: &Plan,
@@ -57,19 +65,19 @@ pub fn copy_items(
     templates: &Plan,
     names: Option<&Pattern>,
     owners: Option<&Pattern>,
-) -> Mem<List<Name>>
-    requires source { IsOver source.now (length store.old.layers.items) }
-    requires dest { IsOver dest.now (length store.old.layers.items) }
-    requires templates { IsOver templates.now (length store.old.layers.items) }
-    requires apart { are_disjoint source.now dest.now ≡ true }
+) -> Mem<CopyReport>
+    requires source { IsOver (shape source.now) (length store.old.layers.items) }
+    requires dest { IsOver (shape dest.now) (length store.old.layers.items) }
+    requires templates { IsOver (shape templates.now) (length store.old.layers.items) }
+    requires apart { are_disjoint (shape source.now) (shape dest.now) ≡ true }
     ensures copied { IfOk result (IsCopied (record {
-      source = source.now;
-      dest = dest.now;
-      templates = templates.now;
+      source = shape source.now;
+      dest = shape dest.now;
+      templates = shape templates.now;
       by_name = option_copied names.entry;
       by_owner = option_copied owners.entry;
     }) (store_in state store.old) (store_in state store.new)) }
-    ensures frame { IsSameStoreButAll (names_of (store_in state store.old).layers source.now) (store_in state store.old) (store_in state store.new) }
+    ensures frame { IsSameStoreButAll (names_of (store_in state store.old).layers (shape source.now)) (store_in state store.old) (store_in state store.new) }
 {
     let alloc = *store.layers.allocator();
     let listed = store.names(source)?;
@@ -81,48 +89,68 @@ pub fn copy_items(
         by_name: names,
         by_owner: owners,
     };
-    copy.copy_all(store, listed.as_slice())
+    let mut report = CopyReport::new(store.take_told());
+    copy.copy_all(store, listed.as_slice(), &mut report)?;
+    Ok(report)
 }
 
 impl<'c> CopyTask<'c> {
-    // Copies those of the names that are chosen, and answers those that are refused.
-    fn copy_all(&self, store: &mut Store, names: &[Name]) -> Mem<List<Name>>
+    // Copies those of the names that are chosen.
+    fn copy_all(&self, store: &mut Store, names: &[Name], report: &mut CopyReport) -> Mem<()>
         requires source { IsOver self.now.source (length store.old.layers.items) }
         requires dest { IsOver self.now.dest (length store.old.layers.items) }
         requires templates { IsOver self.now.templates (length store.old.layers.items) }
         requires apart { are_disjoint self.now.source self.now.dest ≡ true }
-        ensures left { OnOk result (store_in state store.new
-            ≡ after_copies (store_in state store.old) self.now (filter_map (chosen_at_of (store_in state store.old).layers self.now) names.now)) }
-        ensures told { IfOk result (λ refused. refused
-            ≡ refused_names (store_in state store.old) self.now (filter_map (chosen_at_of (store_in state store.old).layers self.now) names.now)) }
+        requires untold { store.old.told ≡ [] }
+        ensures copied { OnOk result (so_far (store_in state store.new) report.new
+            ≡ after_names self.now (so_far (store_in state store.old) report.old) names.now) }
+        ensures taken { OnOk result (store.new.told ≡ []) }
         ensures frame { IsSameStoreButAll names.now (store_in state store.old) (store_in state store.new) }
     {
-        let mut refused = List::new(self.alloc);
         let mut rest = names;
         while let [name, others @ ..] = rest {
-            self.copy_named(store, name, &mut refused)?;
+            self.copy_named(store, name, report)?;
             rest = others;
         }
-        Ok(refused)
+        Ok(())
     }
 
-    // Copies the item of the name, where it is chosen. A name that is refused is added.
-    fn copy_named(&self, store: &mut Store, name: &Name, refused: &mut List<Name>) -> Mem<()>
+    // Copies the item of the name, where it is chosen.
+    fn copy_named(&self, store: &mut Store, name: &Name, report: &mut CopyReport) -> Mem<()>
         requires source { IsOver self.now.source (length store.old.layers.items) }
         requires dest { IsOver self.now.dest (length store.old.layers.items) }
         requires templates { IsOver self.now.templates (length store.old.layers.items) }
-        ensures left { OnOk result (store_in state store.new
-            ≡ after_copies (store_in state store.old) self.now (filter_map (chosen_at_of (store_in state store.old).layers self.now) (name.now ∷ []))) }
-        ensures told { OnOk result (refused.new ≡ refused.old
-            ++ refused_names (store_in state store.old) self.now (filter_map (chosen_at_of (store_in state store.old).layers self.now) (name.now ∷ []))) }
+        requires untold { store.old.told ≡ [] }
+        ensures copied { OnOk result (so_far (store_in state store.new) report.new
+            ≡ after_names self.now (so_far (store_in state store.old) report.old) (name.now ∷ [])) }
+        ensures taken { OnOk result (store.new.told ≡ []) }
         ensures frame { IsSameStoreBut name.now (store_in state store.old) (store_in state store.new) }
     {
         match self.chosen_at(store, name)? {
             None => Ok(()),
-            Some(item) => match self.copy_item(store, name, item)? {
-                true => Ok(()),
-                false => refused.push(name.copy()?),
-            },
+            Some(item) => self.copy_item(store, name, item, report),
+        }
+    }
+
+    // Copies the item, and reports what is told of it.
+    fn copy_item(
+        &self,
+        store: &mut Store,
+        name: &Name,
+        item: Item,
+        report: &mut CopyReport,
+    ) -> Mem<()>
+        requires dest { IsOver self.now.dest (length store.old.layers.items) }
+        requires templates { IsOver self.now.templates (length store.old.layers.items) }
+        requires untold { store.old.told ≡ [] }
+        ensures copied { OnOk result (so_far (store_in state store.new) report.new
+            ≡ after_copy self.now (so_far (store_in state store.old) report.old) (name.now, item)) }
+        ensures taken { OnOk result (store.new.told ≡ []) }
+        ensures frame { IsSameStoreBut name.now (store_in state store.old) (store_in state store.new) }
+    {
+        match self.put_item(store, name, item)? {
+            true => report.tell_put(&store.take_told()),
+            false => report.tell_refusal(name),
         }
     }
 
@@ -159,12 +187,14 @@ impl<'c> CopyTask<'c> {
     }
 
     // Puts the item into the destination, and answers whether it was taken.
-    fn copy_item(&self, store: &mut Store, name: &Name, item: Item) -> Mem<bool>
+    fn put_item(&self, store: &mut Store, name: &Name, item: Item) -> Mem<bool>
         requires dest { IsOver self.now.dest (length store.old.layers.items) }
         requires templates { IsOver self.now.templates (length store.old.layers.items) }
-        ensures left { OnOk result (store_in state store.new ≡ after_copy (store_in state store.old) self.now (name.now, item)) }
-        ensures taken { IfOk result (λ is_taken. is_refused (store_in state store.old).layers
-            (copy_write_of (store_in state store.old).layers self.now (name.now, item)) ≡ not is_taken) }
+        ensures put { result ≡ Ok true → write_done (store_in state store.old) (copy_write_of (store_in state store.old).layers self.now (name.now, item))
+            ≡ Some (store_in state store.new) }
+        ensures refused { result ≡ Ok false
+            → (write_done (store_in state store.old) (copy_write_of (store_in state store.old).layers self.now (name.now, item)) ≡ None)
+            × (store_in state store.new ≡ store_in state store.old) }
         ensures frame { IsSameStoreBut name.now (store_in state store.old) (store_in state store.new) }
     {
         let mut batch = self.copy_batch(store, name, item)?;

@@ -1,13 +1,15 @@
 //! Laws of the definitions, which show that they mean what they say.
-ghost use Rattle.std.specs.Prelude.{◌≡◌, [], ℕ, List, Option, Some, None, true, codes, map as each};
+ghost use Rattle.std.specs.Prelude.{◌≡◌, ℕ, List, Option, Some, true, false, codes, map as each};
 ghost use Rattle.std.specs.List.{AllByRecursion};
 ghost use Rattle.dc_conf.specs.Plans.{are_disjoint};
 ghost use Rattle.dc_item.specs.Item.{ItemParts, with_field};
 ghost use Rattle.dc_question.specs.Readings.{kind_by};
 ghost use Rattle.dc_template.specs.declared.kinds.Kind.TheVariants.{Password};
 ghost use Rattle.dc_store.specs.Plans.{StoreState, look};
+ghost use Rattle.dc_store.specs.StoreLaws.{KeepsApart};
 ghost use Rattle.dc_tools.specs.Copying.{Copying, IsCopied, IsOpen, chosen};
 ghost use Rattle.dc_tools.specs.Showing.{item_line, show_text_of};
+ghost use Rattle.dc_tools.specs.declared.report.CopyReport.{CopyReport};
 ghost use Rattle.dc_tools.specs.ToolExamples.{Lines, Databases, Chosen};
 
 /// What is written of some questions and databases, and where some patterns are found, as it is worked out.
@@ -24,14 +26,14 @@ pub fn lines_hide_passwords()
 {}
 
 /// A destination that takes each item refuses none. Where no item is refused, each that was copied is seen in the destination, and is shown
-/// as it is in the source. The destination keeps no backup, and no templates stand in it.
+/// as it is in the source. The destination writes no backup over itself, and no templates stand in it.
 pub fn copies_are_shown_as_their_sources()
-    ensures none { (copy : Copying) (old new : StoreState) (refused : List (List ℕ)) → IsCopied copy old new refused
-        → IsOpen old.layers copy.dest → refused ≡ [] }
-    ensures there { (copy : Copying) (old new : StoreState) → IsCopied copy old new [] → copy.dest.backup ≡ None
-        → AllByRecursion (λ e. look new.layers copy.dest e.0 ≡ Some e.1) (chosen old.layers copy) }
-    ensures shown { (copy : Copying) (old new : StoreState) (lang : List ℕ) → IsCopied copy old new [] → copy.dest.backup ≡ None
-        → are_disjoint copy.templates copy.dest ≡ true → let names = each (λ e. e.0) (chosen old.layers copy) in
+    ensures none { (copy : Copying) (old new : StoreState) (report : CopyReport) → IsCopied copy old new report
+        → IsOpen old.layers copy.dest → report.refused ≡ false }
+    ensures there { (copy : Copying) (old new : StoreState) (report : CopyReport) → IsCopied copy old new report → report.refused ≡ false
+        → KeepsApart copy.dest → AllByRecursion (λ e. look new.layers copy.dest e.0 ≡ Some e.1) (chosen old.layers copy) }
+    ensures shown { (copy : Copying) (old new : StoreState) (report : CopyReport) (lang : List ℕ) → IsCopied copy old new report → report.refused ≡ false
+        → KeepsApart copy.dest → are_disjoint copy.templates copy.dest ≡ true → let names = each (λ e. e.0) (chosen old.layers copy) in
         show_text_of new.layers (record { config = copy.dest; templates = copy.templates; lang = lang }) names
         ≡ show_text_of old.layers (record { config = copy.source; templates = copy.templates; lang = lang }) names }
 {}

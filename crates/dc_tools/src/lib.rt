@@ -4,10 +4,12 @@
 pub mod copying;
 pub mod laws;
 pub mod listing;
+pub mod report;
 pub mod showing;
 #[cfg(test)]
 mod tests;
 
 pub use copying::copy_items;
 pub use listing::{databases_text, owners_text};
+pub use report::CopyReport;
 pub use showing::show_text;

@@ -5,6 +5,7 @@ ghost use Rattle.std.specs.List.{flat_map};
 ghost use Rattle.dc_text.specs.Ascii.{newline};
 ghost use Rattle.dc_text.specs.Lines.{text_of};
 ghost use Rattle.dc_text.specs.Maps.{set_of};
+ghost use Rattle.dc_conf.specs.Trees.{shape};
 ghost use Rattle.dc_conf.specs.Plans.{IsOver};
 ghost use Rattle.dc_store.specs.Views.{store_in};
 ghost use Rattle.dc_tools.specs.Listing.{owners_of, with_all, owners_text_of, databases_text_of};
@@ -19,8 +20,8 @@ use std::alloc::Global;
 
 /// Each owner of an item that is seen in the plan, once, in byte order, in a line of its own (debconf-show(1), `--listowners`).
 pub fn owners_text(store: &Store, plan: &Plan) -> Mem<Text>
-    requires { IsOver plan.now (length store.now.layers.items) }
-    ensures { IfOk result (λ text. text ≡ owners_text_of (store_in state store.now).layers plan.now) }
+    requires { IsOver (shape plan.now) (length store.now.layers.items) }
+    ensures { IfOk result (λ text. text ≡ owners_text_of (store_in state store.now).layers (shape plan.now)) }
 {
     let alloc = *store.layers.allocator();
     let names = store.names(plan)?;
@@ -30,8 +31,8 @@ pub fn owners_text(store: &Store, plan: &Plan) -> Mem<Text>
 
 // The owners of the items that are seen under the names.
 fn owners_among(alloc: Global, store: &Store, plan: &Plan, names: &[Name]) -> Mem<TextMap<()>>
-    requires { IsOver plan.now (length store.now.layers.items) }
-    ensures { IfOk result (λ owners. owners ≡ set_of (flat_map (owners_of (store_in state store.now).layers plan.now) names.now)) }
+    requires { IsOver (shape plan.now) (length store.now.layers.items) }
+    ensures { IfOk result (λ owners. owners ≡ set_of (flat_map (owners_of (store_in state store.now).layers (shape plan.now)) names.now)) }
 {
     let mut owners = TextMap::new(alloc);
     for name in names {
@@ -48,8 +49,8 @@ fn add_owners_at(
     plan: &Plan,
     name: &Name,
 ) -> Mem<()>
-    requires { IsOver plan.now (length store.now.layers.items) }
-    ensures { OnOk result (owners.new ≡ with_all owners.old (owners_of (store_in state store.now).layers plan.now name.now)) }
+    requires { IsOver (shape plan.now) (length store.now.layers.items) }
+    ensures { OnOk result (owners.new ≡ with_all owners.old (owners_of (store_in state store.now).layers (shape plan.now) name.now)) }
 {
     match store.look(plan, name) {
         None => Ok(()),

@@ -1,9 +1,11 @@
 // The tools, over layers in memory.
 ghost use Rattle.std.specs.Prelude.{◌≡◌, length, true};
+ghost use Rattle.dc_conf.specs.Trees.{shape, Leaf, Debug};
 ghost use Rattle.dc_conf.specs.Plans.{IsOver, are_disjoint};
 
 use crate::{copy_items, databases_text, owners_text, show_text};
-use dc_conf::{Base, LayerSort, LayerSpec, Plan, read_conf};
+use dc_conf::plans::Plan;
+use dc_conf::{LayerSort, LayerSpec, read_conf};
 use dc_item::read_records;
 use dc_layer::{FileLayer, Layer, Pattern};
 use dc_question::Questions;
@@ -63,8 +65,8 @@ fn shown(
     templates: &Plan,
     owner: &str,
 ) -> Text
-    requires plan { IsOver plan.now (length store.old.layers.items) }
-    requires templates { IsOver templates.now (length store.old.layers.items) }
+    requires plan { IsOver (shape plan.now) (length store.old.layers.items) }
+    requires templates { IsOver (shape templates.now) (length store.old.layers.items) }
 {
     let owner = Name::read(alloc, owner.as_bytes()).expect(rt, "a name");
     let lang = Text::new(alloc);
@@ -75,16 +77,8 @@ fn shown(
 
 fn shown_at_first(rt: &impl Abort, alloc: Global, owner: &str) -> Text {
     let mut store = store(rt, alloc);
-    let plan = Plan {
-        base: Base::Leaf(0),
-        backup: None,
-        debug: false,
-    };
-    let templates = Plan {
-        base: Base::Leaf(1),
-        backup: None,
-        debug: false,
-    };
+    let plan = Plan::Leaf(0);
+    let templates = Plan::Leaf(1);
     shown(rt, alloc, &mut store, &plan, &templates, owner)
 }
 
@@ -103,8 +97,8 @@ fn questions_are_shown(rt: HostRuntime) {
     }
 }
 
-// Copies, and answers the names that are refused, each with a mark behind it.
-fn refused(
+// Copies, and answers what is told of it, with a mark behind it where an item was refused.
+fn told(
     rt: &impl Abort,
     alloc: Global,
     store: &mut Store,
@@ -114,23 +108,24 @@ fn refused(
     names: Option<&Pattern>,
     owners: Option<&Pattern>,
 ) -> Text
-    requires source { IsOver source.now (length store.old.layers.items) }
-    requires dest { IsOver dest.now (length store.old.layers.items) }
-    requires templates { IsOver templates.now (length store.old.layers.items) }
-    requires apart { are_disjoint source.now dest.now ≡ true }
-    ensures dest { IsOver dest.now (length store.new.layers.items) }
-    ensures templates { IsOver templates.now (length store.new.layers.items) }
+    requires source { IsOver (shape source.now) (length store.old.layers.items) }
+    requires dest { IsOver (shape dest.now) (length store.old.layers.items) }
+    requires templates { IsOver (shape templates.now) (length store.old.layers.items) }
+    requires apart { are_disjoint (shape source.now) (shape dest.now) ≡ true }
+    ensures dest { IsOver (shape dest.now) (length store.new.layers.items) }
+    ensures templates { IsOver (shape templates.now) (length store.new.layers.items) }
 {
-    let refused = copy_items(store, source, dest, templates, names, owners).expect(rt, "memory");
+    let report = copy_items(store, source, dest, templates, names, owners).expect(rt, "memory");
     let mut text = Text::new(alloc);
-    for name in refused.as_slice() {
-        text.append(name.bytes()).expect(rt, "memory");
-        text.push(b'!').expect(rt, "memory");
+    text.append(report.lines.bytes()).expect(rt, "memory");
+    if report.refused {
+        text.append(b"!\n").expect(rt, "memory");
     }
+    text.append(store.take_told().bytes()).expect(rt, "memory");
     text
 }
 
-// The names that are refused of those that are copied, the owners that stand in the destination then, and what is shown of one.
+// What is told of a copy, the owners that stand in the destination then, and what is shown of one.
 fn copied(
     rt: &impl Abort,
     alloc: Global,
@@ -138,22 +133,10 @@ fn copied(
     owners: Option<&Pattern>,
 ) -> Text {
     let mut store = store(rt, alloc);
-    let source = Plan {
-        base: Base::Leaf(0),
-        backup: None,
-        debug: false,
-    };
-    let templates = Plan {
-        base: Base::Leaf(1),
-        backup: None,
-        debug: false,
-    };
-    let dest = Plan {
-        base: Base::Leaf(2),
-        backup: None,
-        debug: false,
-    };
-    let mut text = refused(
+    let source = Plan::Leaf(0);
+    let templates = Plan::Leaf(1);
+    let dest = Plan::Leaf(2);
+    let mut text = told(
         rt, alloc, &mut store, &source, &dest, &templates, names, owners,
     );
     let listed = owners_text(&store, &dest).expect(rt, "memory");
@@ -168,7 +151,11 @@ fn items_are_copied(rt: HostRuntime) {
     let q = Pattern::build(rt.alloc(), b"^q", false).expect(&rt, "a pattern");
     let upper = Pattern::build(rt.alloc(), b"^Q", false).expect(&rt, "a pattern");
     for (names, owners, text) in [
-        (None, None, "p/secret!p\nq\n* p/empty:\n  q/a: one\n"),
+        (
+            None,
+            None,
+            "p/secret can't be changed\n!\np\nq\n* p/empty:\n  q/a: one\n",
+        ),
         (Some(&q), None, "q\n  q/a: one\n"),
         (None, Some(&q), "p\nq\n* p/empty:\n  q/a: one\n"),
         (Some(&q), Some(&q), "q\n  q/a: one\n"),
@@ -177,6 +164,29 @@ fn items_are_copied(rt: HostRuntime) {
         let copied = copied(&rt, rt.alloc(), names, owners);
         assert_eq!(rt; copied.bytes(), text.as_bytes());
     }
+}
+
+// The database at the place, of which it is told what is done.
+fn telling(rt: &impl Abort, alloc: Global, place: usize) -> Plan
+    ensures { shape result ≡ Debug (Leaf place) }
+{
+    Plan::Debug(Box::new(alloc, Plan::Leaf(place)).expect(rt, "memory"))
+}
+
+#[test]
+fn copies_are_told_item_by_item(rt: HostRuntime) {
+    let alloc = rt.alloc();
+    let mut store = store(&rt, alloc);
+    let source = telling(&rt, alloc, 0);
+    let dest = telling(&rt, alloc, 2);
+    let templates = Plan::Leaf(1);
+    let text = told(
+        &rt, alloc, &mut store, &source, &dest, &templates, None, None,
+    );
+    assert_eq!(rt;
+        text.bytes(),
+        b"debug: put p/a\ndebug: put p/empty\ndebug: put p/lines\np/secret can't be changed\ndebug: put q/a\n!\n".as_slice()
+    );
 }
 
 const CONF: &[u8] =

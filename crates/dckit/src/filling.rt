@@ -33,7 +33,7 @@ fn blank_boxes(alloc: Global) -> Mem<(Box<FileLayer>, Box<DirTreeLayer>, Box<Pac
     Ok((file, tree, pack))
 }
 
-/// Runs the words over a shelf of blank layers: one of each sort for each of the sixteen databases that a configuration may have. It answers the
+/// Runs the words over a shelf of blank layers: sixteen of each sort, as many as a configuration may have databases of it. It answers the
 /// exit status. What made a box of any layer could break what is said of it, so that no function hands one out.
 pub fn run_over<L: Link, E: Link, C: Child, F: Files>(
     alloc: Global,

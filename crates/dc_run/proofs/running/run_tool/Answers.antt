@@ -1,4 +1,5 @@
 use Rattle.std.proofs.Common.{refl}
+use Rattle.dc_run.specs.Roots.{shaped}
 use Rattle.dc_run.specs.World.{World, links_of, world}
 use Rattle.dc_run.proofs.RunLemmas.{ended_before, ended_after}
 use Rattle.dc_run.proofs.running.run_tool.Goals as goal
@@ -17,7 +18,7 @@ returns-in-Ok g c =
       ran = (
         _,
         ended_after c.args.tool.now c.args.settings.now old new c.end_run-in-Ok.result c.await_program-end.result.0
-            _ c.in-Ok.roots c.new-teletype.result.ahead _ c.use_tool-answer.result c.finish_used-how.result
+            _ (shaped c.in-Ok.roots) c.new-teletype.result.ahead _ c.use_tool-answer.result c.finish_used-how.result
             c.await_program-end.result.1 c.new-teletype.ensures c.in-Ok.ensures.starts c.use_tool-answer.ensures.does
             (rw (← c.keeps_changes.ensures) c.finish_used-how.ensures) refl c.await_program-end.ensures c.end_run-in-Ok.ensures.said c.end_run-in-Ok.ensures.outcome,
       );

@@ -1,9 +1,8 @@
-use Rattle.std.proofs.Common.{◌++◌, map as each, refl, ap, ◌∙◌}
-use Rattle.std.specs.List.{filter_map}
+use Rattle.std.proofs.Common.{map as each, refl, ◌∙◌}
 use Rattle.dc_store.specs.Plans.{StoreState, stored}
 use Rattle.dc_store.proofs.Frames.{same_count}
 use Rattle.dc_store.proofs.RowLemmas.{same_all, same_all_refl, same_all_then, all_framed}
-use Rattle.dc_tools.specs.Copying.{chosen_at, after_copies, refused_names}
+use Rattle.dc_tools.specs.Copying.{after_names, so_far}
 use Rattle.dc_tools.proofs.CopyLemmas.{turn, first_among, rest_among}
 use Rattle.dc_tools.proofs.copying.CopyTask.copy_all.Goals as goal
 
@@ -11,8 +10,8 @@ pub loop-rest-init : goal.loop-rest-init
 loop-rest-init g c =
     let layers = each (λ b. (goal.Layer-dyn g (b.vtable, b.value)).state b.value) c.args.store.now.layers.items in
     record {
-      left = refl;
-      told = ap (λ r. r ++ refused_names (stored layers c.args.store.now.told) c.args.self.now (filter_map (chosen_at layers c.args.self.now) c.args.names.now)) c.new-refused.ensures;
+      left = refl {a = after_names c.args.self.now (so_far (stored layers c.args.store.now.told) c.args.report.now) c.args.names.now};
+      untold = c.requires.untold;
       among = λ name in'. in';
       others = same_all_refl c.args.names.now layers;
       count = refl;
@@ -31,14 +30,14 @@ loop-rest-preserved g c =
     let store : StoreState = stored (each (λ b. (goal.Layer-dyn g (b.vtable, b.value)).state b.value) c.loop-rest.store.layers.items) c.loop-rest.store.told in
     let new : StoreState = stored (each (λ b. (goal.Layer-dyn g (b.vtable, b.value)).state b.value) c.copy_named.new.store.layers.items) c.copy_named.new.store.told in
     let start : StoreState = stored (each (λ b. (goal.Layer-dyn g (b.vtable, b.value)).state b.value) c.args.store.now.layers.items) c.args.store.now.told in
+    let copy = c.args.self.now in
     let rest = c.loop-rest.rest.now in
     let name = c.name-item.result in
-    let all = filter_map (chosen_at start.layers c.args.self.now) c.args.names.now in
-    let both = turn store new c.args.self.now rest name c.loop-rest.refused c.copy_named.new.refused (after_copies start c.args.self.now all) (refused_names start c.args.self.now all)
-    c.requires.apart c.in-len1-up.len_at_least c.name-item.is c.in_ok-copy_named.ensures.left c.in_ok-copy_named.ensures.told c.loop-rest.invariant.left c.loop-rest.invariant.told in
     record {
-      left = both.0;
-      told = both.1;
+      left = turn copy (so_far store c.loop-rest.report) (so_far new c.copy_named.new.report)
+          (after_names copy (so_far start c.args.report.now) c.args.names.now) rest name
+          c.requires.apart c.in-len1-up.len_at_least c.name-item.is c.in_ok-copy_named.ensures.copied c.loop-rest.invariant.left;
+      untold = c.in_ok-copy_named.ensures.taken;
       among = λ other in'. c.loop-rest.invariant.among other (rest_among rest other in');
       others = same_all_then c.args.names.now _ _ _ c.loop-rest.invariant.others
           (same_all c.args.names.now name _ _ (c.loop-rest.invariant.among name (first_among rest name c.in-len1-up.len_at_least c.name-item.is)) c.copy_named.ensures.frame.others);
