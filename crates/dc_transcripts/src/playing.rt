@@ -54,7 +54,7 @@ fn blank_boxes(
     Ok((file, tree, pack))
 }
 
-/// Runs the words over blank layers: one of each sort for each of the sixteen databases that a configuration may have.
+/// Runs the words over blank layers: sixteen of each sort, as many as a configuration may have.
 pub fn play(
     alloc: Global,
     task: Task<'_>,

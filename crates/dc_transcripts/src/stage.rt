@@ -28,8 +28,9 @@ pub struct Stage {
     words: List<Text>,
     /// The question of which it is told what the databases hold.
     held: Option<Name>,
-    /// Who speaks over the link.
+    /// Who speaks over the link, and who hears what goes to standard error.
     io: Speaker,
+    err: Speaker,
     /// What the program says that `run` starts, and the status with which it ends.
     child: Speaker,
     child_status: u8,
@@ -60,6 +61,7 @@ impl Stage {
             words: List::new(alloc),
             held: None,
             io: Speaker::new(alloc),
+            err: Speaker::new(alloc),
             child: Speaker::new(alloc),
             child_status: 0,
             files: None,
@@ -111,6 +113,7 @@ impl Stage {
             b"bytes" => self.io.say_bytes(words),
             b"cuts" => self.io.cut(words),
             b"link_fails" => self.io.fail(words),
+            b"err_fails" => self.err.fail(words),
             b"open" => {
                 self.io.leave_open();
                 Some(())
@@ -201,7 +204,7 @@ impl Stage {
     fn play_over(&self, files: &mut MemFiles) -> Option<Ran> {
         let mut io = self.io.link()?;
         let mut child = self.child.program(self.child_status)?;
-        let mut err = MemLink::new(self.alloc, b"", &[], &[]).ok()?;
+        let mut err = self.err.link()?;
         let played = self.play(&mut io, &mut err, &mut child, files).ok()?;
         Some(Ran {
             io,
@@ -229,6 +232,7 @@ impl Stage {
         )?;
         self.words = List::new(self.alloc);
         self.io = Speaker::new(self.alloc);
+        self.err = Speaker::new(self.alloc);
         self.child = Speaker::new(self.alloc);
         Some(())
     }
