@@ -8,7 +8,7 @@ use Rattle.dc_words.specs.Escaped.{escaped_words_of}
 use Rattle.dc_text.specs.Names.{is_name, is_flag_name, is_variable_key}
 use Rattle.dc_words.specs.Words.{plain_words_of}
 use Rattle.dc_proto.specs.declared.command.Command.{Command}
-use Rattle.dc_proto.specs.declared.command.Command.TheVariants.{Version, Capb, SetTitle, Title, Input, BeginBlock, EndBlock, Go, Clear, Stop, Get, Set, Reset, Subst, Fget, Fset, Metaget, Register, Unregister, Purge, ProgressStart, ProgressSet, ProgressStep, ProgressInfo, ProgressStop, LoadTemplateFile}
+use Rattle.dc_proto.specs.declared.command.Command.TheVariants.{Version, Capb, SetTitle, Title, Input, BeginBlock, EndBlock, Go, Clear, Stop, Get, Set, Reset, Subst, Fget, Fset, Metaget, Register, Unregister, Purge, ProgressStart, ProgressSet, ProgressStep, ProgressInfo, ProgressStop, LoadTemplateFile, XSave}
 use Rattle.dc_proto.specs.declared.command.Heard.{Heard}
 use Rattle.dc_proto.specs.declared.command.Heard.TheVariants.{Nothing, Known, Refused}
 use Rattle.dc_proto.specs.declared.priority.Priority.{Priority}
@@ -57,7 +57,7 @@ abbrev pub input : List (List ℕ) → Heard
 input (priority ∷ question ∷ []) = input_at (priority_of priority) question
 input arguments = Refused wrong_number
 
--- BEGINBLOCK, ENDBLOCK, GO, CLEAR, STOP, PURGE, PROGRESS STOP: a command without arguments
+-- BEGINBLOCK, ENDBLOCK, GO, CLEAR, STOP, PURGE, PROGRESS STOP, X_SAVE: a command without arguments
 abbrev pub alone : Command → List (List ℕ) → Heard
 alone command [] = Known command
 alone command arguments = Refused wrong_number
@@ -195,6 +195,7 @@ commands =
     ∷ record { word = codes "purge"; read = alone Purge }
     ∷ record { word = codes "progress"; read = progress }
     ∷ record { word = codes "x_loadtemplatefile"; read = load_template_file }
+    ∷ record { word = codes "x_save"; read = alone XSave }
     ∷ []
 
 -- what words say: the first, without regard to case, names a command. No words say nothing

@@ -82,6 +82,8 @@ pub enum Command {
         path: Text,
         owner: Option<Name>,
     },
+    /// What has changed so far is to be saved.
+    XSave,
 }
 
 /// What a line says.
@@ -197,6 +199,8 @@ fn read_question_words(alloc: Global, word: &[u8], arguments: &[Text]) -> Mem<He
         read_progress(alloc, arguments)
     } else if is_word(word, b"x_loadtemplatefile") {
         read_load_template_file(alloc, arguments)
+    } else if is_word(word, b"x_save") {
+        read_alone(alloc, Command::XSave, arguments)
     } else {
         refuse(alloc, b"unsupported command")
     }
