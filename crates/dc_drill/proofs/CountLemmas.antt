@@ -105,8 +105,7 @@ served_done link.LinkFault state left (inr part) = let wrong : ◌≡◌ {A = Li
 served_done link.TooLong state left (inl all) = sym all.2
 served_done link.TooLong state left (inr part) = let wrong : ◌≡◌ {A = LinkEnd StepError} link.Done link.OutOfMemory = part.2 in cc
 served_done link.OutOfMemory state left f = sym f.2
-served_done (link.Broken step.Term) state left f = sym f.2
-served_done (link.Broken step.OutOfMemory) state left f = let wrong : ◌≡◌ {A = LinkEnd StepError} link.Done link.OutOfMemory = f.2 in cc
+served_done (link.Broken error) state left f = sym f.2
 
 ran_count : (start state : SessionState) (talk new_talk : Option (List Piece)) (input left : Option (List ℕ)) (before code : ℕ) → IsLinkRun TakesLine Aborts talk new_talk input left start link.Done state before code
     → length state.store.layers ≡ length start.store.layers

@@ -34,7 +34,7 @@ use Rattle.dc_session.specs.Displays.{Display, Blank, displayed, described, wher
 use Rattle.dc_session.specs.Machine.{Gives, Looks, HasDone, Does, file_of}
 use Rattle.dc_session.specs.Refusals.{is_busy, no_question, no_field, bad_flag_value, read_fault, no_template_file, bad_template_file}
 use Rattle.dc_session.specs.declared.stepped.Stepped.{Stepped}
-use Rattle.dc_session.specs.declared.stepped.Stepped.TheVariants.{Replied, Stopped}
+use Rattle.dc_session.specs.declared.stepped.Stepped.TheVariants.{Replied, Save, Stopped}
 use Rattle.dc_session.specs.TemplateFiles.{Finds, FindsNoMemory}
 use Rattle.dc_session.specs.declared.template_files.Found.{Found}
 use Rattle.dc_session.specs.declared.template_files.Found.TheVariants.{Unreadable, Missing, Faulty, Templates}
@@ -91,6 +91,10 @@ module _ (command : Command) (old new : SessionState) (gives : Gives command old
 -- STOP
 pub stops : (old : SessionState) → HasDone command.Stop old Stopped old
 stops old = record { given = nothing; gives = quiet command.Stop old refl refl; stepped_is = refl; new_is = refl }
+
+-- X_SAVE
+pub asks_to_save : (old : SessionState) → HasDone command.XSave old Save old
+asks_to_save old = record { given = nothing; gives = quiet command.XSave old refl refl; stepped_is = refl; new_is = refl }
 
 -- ---- commands that write
 

@@ -4,7 +4,8 @@ use Rattle.std.specs.Prelude.{◌+◌, ⊤, codes}
 use Rattle.std.specs.Option.{option_map_or}
 use Rattle.dc_outside.specs.Counts.{Counts, FaultRose}
 use Rattle.dc_proto.specs.declared.command.Command.{Command}
-use Rattle.dc_proto.specs.declared.command.Command.TheVariants.{Version, Capb, SetTitle, Title, Input, BeginBlock, EndBlock, Go, Clear, Stop, Get, Set, Reset, Subst, Fget, Fset, Metaget, Register, Unregister, Purge, ProgressStart, ProgressSet, ProgressStep, ProgressInfo, ProgressStop, LoadTemplateFile}
+use Rattle.dc_proto.specs.declared.command.Command.TheVariants.{Version, Capb, SetTitle, Title, Input, BeginBlock, EndBlock, Go, Clear, Stop, Get, Set, Reset, Subst, Fget, Fset, Metaget, Register, Unregister, Purge, ProgressStart, ProgressSet, ProgressStep, ProgressInfo, ProgressStop, LoadTemplateFile, XSave}
+use Rattle.dc_proto.specs.declared.command.Heard.TheVariants.{Known}
 use Rattle.dc_frontend.specs.declared.frontend.Frontend.{Frontend}
 use Rattle.dc_frontend.specs.declared.frontend.Frontend.TheVariants.{Noninteractive, Teletype}
 use Rattle.dc_proto.specs.declared.reply.Reply.{Reply}
@@ -18,12 +19,12 @@ use Rattle.dc_teletype.specs.declared.teletype.Asked.{Asked}
 use Rattle.dc_teletype.specs.declared.teletype.Asked.TheVariants.{Answers, Back}
 use Rattle.dc_session.specs.Asking.{description, is_to_be_shown, prepared_if, choices_for, first_fixed, to_show, values_given, first_busy, bar_at}
 use Rattle.dc_session.specs.Answers.{CommandInputs, CommandOutcome, reply_read, reply_write, and_then, for_question, there, reply_asking, titled, with_bar, unless_busy, gone, input_reply, answered, heard_out, going, reply_only, told_code, is_supported, is_truth, answer}
-use Rattle.dc_session.specs.Machine.{Gives, Looks, HasDone}
+use Rattle.dc_session.specs.Machine.{Gives, Looks, HasDone, is_save}
 use Rattle.dc_session.specs.Refusals.{refusal, cant_change, is_busy, no_progress_bar}
 use Rattle.dc_session.specs.SessionState.{FilesState, TerminalState, SessionState}
 use Rattle.dc_session.specs.declared.asking.Bar.{Bar}
 use Rattle.dc_session.specs.declared.stepped.Stepped.{Stepped}
-use Rattle.dc_session.specs.declared.stepped.Stepped.TheVariants.{Silent, Replied, Stopped}
+use Rattle.dc_session.specs.declared.stepped.Stepped.TheVariants.{Silent, Replied, Save, Stopped}
 use Rattle.dc_session.specs.declared.template_files.Found.{Found}
 use Rattle.dc_session.specs.declared.template_files.Found.TheVariants.{Unreadable, Missing, Faulty, Templates}
 
@@ -31,11 +32,17 @@ use Rattle.dc_session.specs.declared.template_files.Found.TheVariants.{Unreadabl
 abbrev IsSoundCode : ℕ → Type 0
 IsSoundCode code = (code ≡ 0) ⊎ (code ≡ 1) ⊎ (code ≡ 10) ⊎ (code ≡ 30)
 
--- what tells of no fault
-abbrev IsSound : Stepped → Type 0
+-- what tells of no fault, and is no save
+abbrev pub IsSound : Stepped → Type 0
 IsSound Silent = ⊤
 IsSound (Replied reply) = IsSoundCode reply.code
+IsSound Save = ⊥
 IsSound Stopped = ⊤
+
+-- the same of what doesn't ask for a save; what asks for one comes to that
+abbrev pub IsFaultless : Bool → Stepped → Type 0
+IsFaultless true did = did ≡ Save
+IsFaultless false did = IsSound did
 
 zero : IsSoundCode 0
 zero = inl refl
@@ -94,11 +101,11 @@ version_sound state version given true is = rw is zero
 version_sound state version given false is = rw is thirty
 
 -- a fault is told and counted, or neither
-abbrev IsToldAsCounted : Stepped → Counts → Counts → Type 0
-IsToldAsCounted did before now = ((reply : Reply) × (did ≡ Replied reply) × (reply.code ≡ 100) × FaultRose before now) ⊎ (IsSound did × (now ≡ before))
+abbrev pub IsToldAsCounted : Bool → Stepped → Counts → Counts → Type 0
+IsToldAsCounted asks did before now = ((reply : Reply) × (did ≡ Replied reply) × (reply.code ≡ 100) × FaultRose before now) ⊎ (IsFaultless asks did × (now ≡ before))
 
 file_told : (state : SessionState) (path : List ℕ) (owner : Option (List ℕ)) (found : Found) (asked : Asked) (new : FilesState) → Looks (Some path) state.files found new
-    → IsToldAsCounted (answer state (LoadTemplateFile path owner) (record { found = found; asked = asked })).stepped state.files.counts new.counts
+    → IsToldAsCounted false (answer state (LoadTemplateFile path owner) (record { found = found; asked = asked })).stepped state.files.counts new.counts
 file_told state path owner Unreadable asked new looks = inl (_, refl, refl, looks.1)
 file_told state path owner Missing asked new looks = inr (ten, looks.counts)
 file_told state path owner (Faulty line) asked new looks = inr (ten, looks.2.counts)
@@ -125,8 +132,8 @@ going_sound : (frontend : Frontend) (state : SessionState) (asked : Asked) → I
 going_sound Noninteractive state asked = gone_sound state (values_set state.store state.at (choices_for state))
 going_sound Teletype state asked = fixed_sound state (first_fixed state) asked
 
-told_as_counted : (state : SessionState) (command : Command) (given : CommandInputs) (new : FilesState) (terminal : TerminalState) → Gives command state given new terminal
-    → IsToldAsCounted (answer state command given).stepped state.files.counts new.counts
+pub told_as_counted : (state : SessionState) (command : Command) (given : CommandInputs) (new : FilesState) (terminal : TerminalState) → Gives command state given new terminal
+    → IsToldAsCounted (is_save (Known command)) (answer state command given).stepped state.files.counts new.counts
 told_as_counted state (LoadTemplateFile path owner) given new terminal gives = file_told state path owner given.found given.asked new gives.looks
 told_as_counted state (Version version) given new terminal gives = inr (version_sound state version given (is_supported version) refl, ap (λ (f : FilesState). f.counts) gives.looks.1)
 told_as_counted state (Capb words) given new terminal gives = inr (zero, ap (λ (f : FilesState). f.counts) gives.looks.1)
@@ -138,6 +145,7 @@ told_as_counted state EndBlock given new terminal gives = inr (zero, ap (λ (f :
 told_as_counted state Go given new terminal gives = inr (going_sound state.policy.frontend state given.asked, ap (λ (f : FilesState). f.counts) gives.looks.1)
 told_as_counted state Clear given new terminal gives = inr (zero, ap (λ (f : FilesState). f.counts) gives.looks.1)
 told_as_counted state Stop given new terminal gives = inr (tt, ap (λ (f : FilesState). f.counts) gives.looks.1)
+told_as_counted state XSave given new terminal gives = inr (refl, ap (λ (f : FilesState). f.counts) gives.looks.1)
 told_as_counted state (Get word) given new terminal gives = inr (says_sound state [] _ _ (λ a. text_sound state.asking.escape), ap (λ (f : FilesState). f.counts) gives.looks.1)
 told_as_counted state (Set word text) given new terminal gives = inr (does_sound state _ _ zero, ap (λ (f : FilesState). f.counts) gives.looks.1)
 told_as_counted state (Reset word) given new terminal gives = inr (does_sound state _ _ zero, ap (λ (f : FilesState). f.counts) gives.looks.1)
@@ -163,8 +171,9 @@ no_fault code sound fault = elim sound [
 ]
 
 module _ (command : Command) (old new : SessionState) (reply : Reply) (did : HasDone command old (Replied reply) new) where
-  sound_is : (did : Stepped) → Replied reply ≡ did → IsSound did → IsSoundCode reply.code
-  sound_is did is sound = subst IsSound (sym is) sound
+  sound_is : (asks : Bool) (did : Stepped) → Replied reply ≡ did → IsFaultless asks did → IsSoundCode reply.code
+  sound_is true did is saves = let no : ◌≡◌ {A = Stepped} (Replied reply) Save = is ∙ saves in cc
+  sound_is false did is sound = subst IsSound (sym is) sound
 
   code_is : (other : Reply) → Replied reply ≡ Replied other → other.code ≡ 100 → reply.code ≡ 100
   code_is other same fault = let e : reply ≡ other = cc in ap (λ (r : Reply). r.code) e ∙ fault
@@ -172,7 +181,7 @@ module _ (command : Command) (old new : SessionState) (reply : Reply) (did : Has
   pub fault_counted : reply.code ≡ 100 → FaultRose old.files.counts new.files.counts
   fault_counted fault = elim (told_as_counted old command did.given new.files new.terminal did.gives) [
     | inl rose ↦ rose.3
-    | inr none ↦ absurd (no_fault reply.code (sound_is (answer old command did.given).stepped did.stepped_is none.0) fault)
+    | inr none ↦ absurd (no_fault reply.code (sound_is (is_save (Known command)) (answer old command did.given).stepped did.stepped_is none.0) fault)
   ]
 
   pub none_counted : (reply.code ≡ 100 → ⊥) → new.files.counts ≡ old.files.counts

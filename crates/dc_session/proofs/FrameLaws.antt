@@ -13,7 +13,7 @@ use Rattle.dc_frontend.specs.declared.frontend.Frontend.{Frontend}
 use Rattle.dc_frontend.specs.declared.frontend.Frontend.TheVariants.{Noninteractive, Teletype}
 use Rattle.dc_proto.specs.Replies.{reply}
 use Rattle.dc_proto.specs.declared.command.Command.{Command}
-use Rattle.dc_proto.specs.declared.command.Command.TheVariants.{Version, Capb, SetTitle, Title, Input, BeginBlock, EndBlock, Go, Clear, Stop, Get, Set, Reset, Subst, Fget, Fset, Metaget, Register, Unregister, Purge, ProgressStart, ProgressSet, ProgressStep, ProgressInfo, ProgressStop, LoadTemplateFile}
+use Rattle.dc_proto.specs.declared.command.Command.TheVariants.{Version, Capb, SetTitle, Title, Input, BeginBlock, EndBlock, Go, Clear, Stop, Get, Set, Reset, Subst, Fget, Fset, Metaget, Register, Unregister, Purge, ProgressStart, ProgressSet, ProgressStep, ProgressInfo, ProgressStop, LoadTemplateFile, XSave}
 use Rattle.dc_proto.specs.declared.reply.Reply.{Reply}
 use Rattle.dc_layer.specs.State.{LayerState}
 use Rattle.dc_store.specs.Plans.{StoreState, write, owned}
@@ -261,6 +261,7 @@ module _ (state : SessionState) where
   answer_keeps Go given = going_keeps state.policy.frontend given.asked
   answer_keeps Clear given = same_all_refl [] state.store.layers
   answer_keeps Stop given = same_all_refl [] state.store.layers
+  answer_keeps XSave given = same_all_refl [] state.store.layers
   answer_keeps (ProgressStart low high word) given = by_keeps [] state _ _ (λ name is. same_all_refl [] state.store.layers)
   answer_keeps (ProgressSet number) given = bar_keeps [] state state.asking.bar _ _ (λ bar. same_all_refl [] state.store.layers) (same_all_refl [] state.store.layers)
   answer_keeps (ProgressStep number) given = bar_keeps [] state state.asking.bar _ _ (λ bar. same_all_refl [] state.store.layers) (same_all_refl [] state.store.layers)

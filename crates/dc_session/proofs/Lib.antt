@@ -16,6 +16,7 @@ pub mod QuietLaws
 pub mod RunLaws
 pub mod SameAnswers
 pub mod NameLemmas
+pub mod SaveLemmas
 pub mod ServeLemmas
 pub mod SetLaws
 pub mod TakenLaws

@@ -9,7 +9,7 @@ use Rattle.dc_frontend.specs.declared.frontend.Frontend.TheVariants.{Noninteract
 use Rattle.dc_proto.specs.Commands.{heard}
 use Rattle.dc_proto.specs.Replies.{reply}
 use Rattle.dc_proto.specs.declared.command.Command.{Command}
-use Rattle.dc_proto.specs.declared.command.Command.TheVariants.{Version, Capb, SetTitle, Title, Input, BeginBlock, EndBlock, Go, Clear, Stop, Get, Set, Reset, Subst, Fget, Fset, Metaget, Register, Unregister, Purge, ProgressStart, ProgressSet, ProgressStep, ProgressInfo, ProgressStop, LoadTemplateFile}
+use Rattle.dc_proto.specs.declared.command.Command.TheVariants.{Version, Capb, SetTitle, Title, Input, BeginBlock, EndBlock, Go, Clear, Stop, Get, Set, Reset, Subst, Fget, Fset, Metaget, Register, Unregister, Purge, ProgressStart, ProgressSet, ProgressStep, ProgressInfo, ProgressStop, LoadTemplateFile, XSave}
 use Rattle.dc_proto.specs.declared.command.Heard.{Heard}
 use Rattle.dc_proto.specs.declared.command.Heard.TheVariants.{Nothing, Known, Refused}
 use Rattle.dc_proto.specs.declared.reply.Reply.{Reply}
@@ -106,6 +106,7 @@ answer_meek state EndBlock given = record { store = inl refl; asking = inl refl 
 answer_meek state Go given = going_meek state.policy.frontend state given.asked
 answer_meek state Clear given = record { store = inl refl; asking = inr (_, refl, inl refl) }
 answer_meek state Stop given = record { store = inl refl; asking = inl refl }
+answer_meek state XSave given = record { store = inl refl; asking = inl refl }
 answer_meek state (Get word) given = says_meek state [] _ _
 answer_meek state (Set word text) given = does_meek state _ _
 answer_meek state (Reset word) given = does_meek state _ _

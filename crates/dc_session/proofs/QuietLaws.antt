@@ -21,7 +21,7 @@ use Rattle.dc_frontend.specs.declared.frontend.Frontend.TheVariants.{Noninteract
 use Rattle.dc_proto.specs.Commands.{heard}
 use Rattle.dc_proto.specs.Replies.{reply}
 use Rattle.dc_proto.specs.declared.command.Command.{Command}
-use Rattle.dc_proto.specs.declared.command.Command.TheVariants.{Version, Capb, SetTitle, Title, Input, BeginBlock, EndBlock, Go, Clear, Stop, Get, Set, Reset, Subst, Fget, Fset, Metaget, Register, Unregister, Purge, ProgressStart, ProgressSet, ProgressStep, ProgressInfo, ProgressStop, LoadTemplateFile}
+use Rattle.dc_proto.specs.declared.command.Command.TheVariants.{Version, Capb, SetTitle, Title, Input, BeginBlock, EndBlock, Go, Clear, Stop, Get, Set, Reset, Subst, Fget, Fset, Metaget, Register, Unregister, Purge, ProgressStart, ProgressSet, ProgressStep, ProgressInfo, ProgressStop, LoadTemplateFile, XSave}
 use Rattle.dc_proto.specs.declared.command.Heard.{Heard}
 use Rattle.dc_proto.specs.declared.command.Heard.TheVariants.{Nothing, Known, Refused}
 use Rattle.dc_proto.specs.declared.reply.Reply.{Reply}
@@ -303,6 +303,7 @@ module _ (state : SessionState) (quiet : IsQuietSession state) where
   answer_untold Go given = going_untold state.policy.frontend given.asked
   answer_untold Clear given = refl
   answer_untold Stop given = refl
+  answer_untold XSave given = refl
   answer_untold (ProgressStart low high word) given = then_untold _ _ (λ name. refl)
   answer_untold (ProgressSet number) given = bar_untold state.asking.bar _ _ (λ bar. refl) refl
   answer_untold (ProgressStep number) given = bar_untold state.asking.bar _ _ (λ bar. refl) refl

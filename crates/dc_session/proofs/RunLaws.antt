@@ -11,17 +11,18 @@ use Rattle.dc_outside.specs.declared.files.FilesCall.{FilesCall}
 use Rattle.dc_outside.specs.declared.link.Piece.{Piece}
 use Rattle.dc_serve.specs.Execution.{Transition, lines_of, state_after, is_stop, stops, replies, add_reply, last_code_from, code_after, IsExecution}
 use Rattle.dc_serve.specs.LinkRun.{IsLinkRun, AreServed}
+use Rattle.dc_serve.specs.declared.machine.Response.{Response}
 use Rattle.dc_serve.specs.declared.outcome.LinkEnd.TheVariants.{Done}
 use Rattle.dc_session.specs.Alike.{AreAlike, AreTransitionsAlike, AreFilesAlike, EndAlike, TellSame}
 use Rattle.dc_session.specs.Machine.{TakesLine, Aborts}
 use Rattle.dc_session.specs.SessionState.{SessionState}
-use Rattle.dc_session.proofs.AlikeLaws.{GoAlike, none_alike, more_alike, takes_alike}
+use Rattle.dc_session.proofs.AlikeLaws.{GoAlike, TurnsAlike, none_alike, more_alike, takes_alike}
 use Rattle.dc_session.proofs.Determined.{IsTold, takes_told}
 
 -- ---- turns that both come to an end
 
 -- all lines had their turns, or one of them was a stop
-abbrev AreThrough : List (Transition SessionState) → List Line → Type 0
+abbrev pub AreThrough : List (Transition SessionState) → List Line → Type 0
 AreThrough transitions rest = (stops transitions ≡ true) ⊎ (rest ≡ [])
 
 through_later : (transition : Transition SessionState) (transitions : List (Transition SessionState)) (rest : List Line) → is_stop transition.did ≡ false → AreThrough (transition ∷ transitions) rest → AreThrough transitions rest
@@ -35,22 +36,30 @@ not_through transition lines rest is (inr none) = cc
 both_none : (start other : SessionState) (a b : List (Transition SessionState)) → a ≡ [] → b ≡ [] → GoAlike start other a b
 both_none start other a b first second = rw (first, second) (none_alike start other)
 
-through_alike : (disk : Disk) (start other : SessionState) (a b : List (Transition SessionState)) (later rest : List Line) → AreAlike start other → IsTold disk start.files.view → IsExecution TakesLine start a → IsExecution TakesLine other b
-    → lines_of a ++ later ≡ lines_of b ++ rest → AreThrough a later → AreThrough b rest → AreFilesAlike a b → GoAlike start other a b
-through_alike disk start other [] [] later rest alike told first second lines one_through two_through files = none_alike start other
-through_alike disk start other [] (transition ∷ b) later rest alike told first second lines one_through two_through files = absurd (not_through transition (lines_of b ++ rest) later lines one_through)
-through_alike disk start other (transition ∷ a) [] later rest alike told first second lines one_through two_through files = absurd (not_through transition (lines_of a ++ later) rest (sym lines) two_through)
-through_alike disk start other (one ∷ a) (two ∷ b) later rest alike told first second lines one_through two_through files =
-    let line : one.line ≡ two.line = cc in
-    let more : lines_of a ++ later ≡ lines_of b ++ rest = cc in
-    let takes : TakesLine start two.line one.did one.new = subst (λ (l : Line). TakesLine start l one.did one.new) line first.0 in
-    let here = takes_alike disk start other alike told one.did two.did one.new two.new files.0 two.line takes second.0 in
-    more_alike start other one two a b two.line here (elim (cases_Bool (is_stop one.did)) [
-      | inl stop ↦ both_none one.new two.new a b (first.1 stop) (second.1 (ap is_stop (sym here.does) ∙ stop))
-      | inr on ↦
-          through_alike disk one.new two.new a b later rest here.leaves (takes_told disk start told one.did one.new two.line takes) first.2 second.2 more
-          (through_later one a later on one_through) (through_later two b rest (ap is_stop (sym here.does) ∙ on) two_through) files.1
-    ])
+-- A machine does the same at a line in sessions that are alike and of which so much is told, where it leaves the same files, and as much is told of
+-- what it leaves.
+pub record DoesAlike (steps : SessionState → Line → Response → SessionState → Type 0) (Told : SessionState → Type 0) : Type 0 where
+  pub alike : (old other : SessionState) → AreAlike old other → Told old → (did again : Response) (new left : SessionState) → new.files ≡ left.files → (line : Line) → steps old line did new → steps other line again left
+      → TurnsAlike old other line did again new left
+  pub told : (old new : SessionState) (line : Line) (did : Response) → Told old → steps old line did new → Told new
+
+module _ (steps : SessionState → Line → Response → SessionState → Type 0) (Told : SessionState → Type 0) (does : DoesAlike steps Told) where
+  through_alike : (start other : SessionState) (a b : List (Transition SessionState)) (later rest : List Line) → AreAlike start other → Told start → IsExecution steps start a → IsExecution steps other b
+      → lines_of a ++ later ≡ lines_of b ++ rest → AreThrough a later → AreThrough b rest → AreFilesAlike a b → GoAlike start other a b
+  through_alike start other [] [] later rest alike told first second lines one_through two_through files = none_alike start other
+  through_alike start other [] (transition ∷ b) later rest alike told first second lines one_through two_through files = absurd (not_through transition (lines_of b ++ rest) later lines one_through)
+  through_alike start other (transition ∷ a) [] later rest alike told first second lines one_through two_through files = absurd (not_through transition (lines_of a ++ later) rest (sym lines) two_through)
+  through_alike start other (one ∷ a) (two ∷ b) later rest alike told first second lines one_through two_through files =
+      let line : one.line ≡ two.line = cc in
+      let more : lines_of a ++ later ≡ lines_of b ++ rest = cc in
+      let takes : steps start two.line one.did one.new = subst (λ (l : Line). steps start l one.did one.new) line first.0 in
+      let here = does.alike start other alike told one.did two.did one.new two.new files.0 two.line takes second.0 in
+      more_alike start other one two a b two.line here (elim (cases_Bool (is_stop one.did)) [
+        | inl stop ↦ both_none one.new two.new a b (first.1 stop) (second.1 (ap is_stop (sym here.does) ∙ stop))
+        | inr on ↦
+            through_alike one.new two.new a b later rest here.leaves (does.told start one.new two.line one.did told takes) first.2 second.2 more
+            (through_later one a later on one_through) (through_later two b rest (ap is_stop (sym here.does) ∙ on) two_through) files.1
+      ])
 
 -- ---- what alike turns say and leave
 
@@ -83,9 +92,10 @@ front_taken : (front : List ℕ) (left : Option (List ℕ)) (input : List ℕ) �
 front_taken front None input took = absurd (cc)
 front_taken front (Some back) input took = (back, cc)
 
-module _ (input : List ℕ) (talk new_talk : Option (List Piece)) (left : Option (List ℕ)) (start new : SessionState) (before code : ℕ) (run : IsLinkRun TakesLine Aborts talk new_talk (Some input) left start Done new before code) where
+module _ {B : Type 0} (steps : SessionState → Line → Response → SessionState → Type 0) (aborts : SessionState → Line → B → SessionState → Type 0)
+    (input : List ℕ) (talk new_talk : Option (List Piece)) (left : Option (List ℕ)) (start new : SessionState) (before code : ℕ) (run : IsLinkRun steps aborts talk new_talk (Some input) left start Done new before code) where
   -- its lines are the first ones of all, and it was through with them
-  abbrev IsThrough : Type 0
+  abbrev pub IsThrough : Type 0
   IsThrough = (rest : List Line) × (lines_of run.transitions ++ rest ≡ all_lines input) × AreThrough run.transitions rest
 
   stopped : AreServed run.pieces (Some input) (lines_of run.transitions ++ run.rest) → stops run.transitions ≡ true → IsThrough
@@ -95,7 +105,7 @@ module _ (input : List ℕ) (talk new_talk : Option (List Piece)) (left : Option
       (run.rest ++ behind, sym (append_assoc (lines_of run.transitions) run.rest behind) ∙ ap (λ (l : List Line). l ++ behind) lines ∙ sym (all_lines-append (got run.pieces) cut.0) ∙ ap all_lines (sym cut.1), inl stop)
   stopped (inr all) stop = (run.rest, all.0 ∙ ap all_lines all.1.whole, inl stop)
 
-  is_through : IsThrough
+  pub is_through : IsThrough
   is_through = elim run.answered.read [
     | inl stop ↦ stopped run.served stop
     | inr read ↦ ([], append-nil (lines_of run.transitions) ∙ read.0 ∙ ap all_lines read.1.whole, inr refl)
@@ -105,22 +115,31 @@ module _ (input : List ℕ) (talk new_talk : Option (List Piece)) (left : Option
 abbrev pub RunAlike : (pieces others : List Piece) (code other_code : ℕ) (start other new last : SessionState) → Type 0
 RunAlike pieces others code other_code start other new last = EndAlike pieces others code other_code new last × TellSame start.err new.err other.err last.err
 
-pub runs_alike : (disk : Disk) (calls : List FilesCall) (start other new last : SessionState) (input : List ℕ) (talk new_talk told new_told : Option (List Piece)) (left rest : Option (List ℕ)) (before code number : ℕ)
-    → start.files.view ≡ record { disk = Some disk; calls = Some calls } → AreAlike start other
-    → (one : IsLinkRun TakesLine Aborts talk new_talk (Some input) left start Done new before code) → (two : IsLinkRun TakesLine Aborts told new_told (Some input) rest other Done last before number)
-    → AreFilesAlike one.transitions two.transitions → RunAlike one.pieces two.pieces code number start other new last
-runs_alike disk calls start other new last input talk new_talk told new_told left rest before code number files_told alike one two files =
-    let first = is_through input talk new_talk left start new before code one in
-    let second = is_through input told new_told rest other last before number two in
-    let both = through_alike disk start other one.transitions two.transitions first.0 second.0 alike (calls, files_told) one.course two.course (first.1 ∙ sym second.1) first.2 second.2 files in
-    let one_said = one.answered.are_said in
-    let two_said = two.answered.are_said in (
-      record {
-        replies = one_said.pieces_are ∙ same_replies one.transitions two.transitions both.0 ∙ sym two_said.pieces_are;
-        code_is = one_said.code_is ∙ same_code before before one.transitions two.transitions refl both.0 ∙ sym two_said.code_is;
-        states = subst (λ (s : SessionState). AreAlike new s) (sym two_said.state_is)
-            (subst (λ (s : SessionState). AreAlike s (state_after other two.transitions)) (sym one_said.state_is) (left_alike start other one.transitions two.transitions alike both.0));
-      },
-      subst (λ (s : SessionState). TellSame start.err new.err other.err s.err) (sym two_said.state_is)
-          (subst (λ (s : SessionState). TellSame start.err s.err other.err (state_after other two.transitions).err) (sym one_said.state_is) both.1),
-    )
+module _ {B : Type 0} (steps : SessionState → Line → Response → SessionState → Type 0) (aborts : SessionState → Line → B → SessionState → Type 0) (Told : SessionState → Type 0) (does : DoesAlike steps Told) where
+  pub runs_alike : (start other new last : SessionState) (input : List ℕ) (talk new_talk told new_told : Option (List Piece)) (left rest : Option (List ℕ)) (before code number : ℕ)
+      → Told start → AreAlike start other
+      → (one : IsLinkRun steps aborts talk new_talk (Some input) left start Done new before code) → (two : IsLinkRun steps aborts told new_told (Some input) rest other Done last before number)
+      → AreFilesAlike one.transitions two.transitions → RunAlike one.pieces two.pieces code number start other new last
+  runs_alike start other new last input talk new_talk told new_told left rest before code number all_told alike one two files =
+      let first = is_through steps aborts input talk new_talk left start new before code one in
+      let second = is_through steps aborts input told new_told rest other last before number two in
+      let both = through_alike steps Told does start other one.transitions two.transitions first.0 second.0 alike all_told one.course two.course (first.1 ∙ sym second.1) first.2 second.2 files in
+      let one_said = one.answered.are_said in
+      let two_said = two.answered.are_said in (
+        record {
+          replies = one_said.pieces_are ∙ same_replies one.transitions two.transitions both.0 ∙ sym two_said.pieces_are;
+          code_is = one_said.code_is ∙ same_code before before one.transitions two.transitions refl both.0 ∙ sym two_said.code_is;
+          states = subst (λ (s : SessionState). AreAlike new s) (sym two_said.state_is)
+              (subst (λ (s : SessionState). AreAlike s (state_after other two.transitions)) (sym one_said.state_is) (left_alike start other one.transitions two.transitions alike both.0));
+        },
+        subst (λ (s : SessionState). TellSame start.err new.err other.err s.err) (sym two_said.state_is)
+            (subst (λ (s : SessionState). TellSame start.err s.err other.err (state_after other two.transitions).err) (sym one_said.state_is) both.1),
+      )
+
+-- ---- a session by itself
+
+pub takes_does : (disk : Disk) → DoesAlike TakesLine (λ (s : SessionState). IsTold disk s.files.view)
+takes_does disk = record {
+  alike = λ old other alike told did again new left files line. takes_alike disk old other alike told did again new left files line;
+  told = λ old new line did told takes. takes_told disk old told did new line takes;
+}

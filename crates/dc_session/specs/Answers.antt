@@ -12,7 +12,7 @@ use Rattle.dc_frontend.specs.declared.frontend.Frontend.{Frontend}
 use Rattle.dc_frontend.specs.declared.frontend.Frontend.TheVariants.{Noninteractive, Teletype}
 use Rattle.dc_proto.specs.Replies.{reply}
 use Rattle.dc_proto.specs.declared.command.Command.{Command}
-use Rattle.dc_proto.specs.declared.command.Command.TheVariants.{Version, Capb, SetTitle, Title, Input, BeginBlock, EndBlock, Go, Clear, Stop, Get, Set, Reset, Subst, Fget, Fset, Metaget, Register, Unregister, Purge, ProgressStart, ProgressSet, ProgressStep, ProgressInfo, ProgressStop, LoadTemplateFile}
+use Rattle.dc_proto.specs.declared.command.Command.TheVariants.{Version, Capb, SetTitle, Title, Input, BeginBlock, EndBlock, Go, Clear, Stop, Get, Set, Reset, Subst, Fget, Fset, Metaget, Register, Unregister, Purge, ProgressStart, ProgressSet, ProgressStep, ProgressInfo, ProgressStop, LoadTemplateFile, XSave}
 use Rattle.dc_proto.specs.declared.reply.Reply.{Reply}
 use Rattle.dc_store.specs.Plans.{StoreState, owned}
 use Rattle.dc_store.specs.Batches.{names_of}
@@ -29,7 +29,7 @@ use Rattle.dc_session.specs.SessionState.{FilesState, TerminalState, SessionStat
 use Rattle.dc_session.specs.declared.asking.Asking.{Asking}
 use Rattle.dc_session.specs.declared.asking.Bar.{Bar}
 use Rattle.dc_session.specs.declared.stepped.Stepped.{Stepped}
-use Rattle.dc_session.specs.declared.stepped.Stepped.TheVariants.{Replied, Stopped}
+use Rattle.dc_session.specs.declared.stepped.Stepped.TheVariants.{Replied, Save, Stopped}
 use Rattle.dc_session.specs.declared.template_files.Found.{Found}
 use Rattle.dc_session.specs.declared.template_files.Found.TheVariants.{Unreadable, Missing, Faulty, Templates}
 
@@ -223,6 +223,8 @@ answer state (ProgressInfo word) given = on_bar state (λ bar. and_then state (�
 answer state ProgressStop given = on_bar state (λ bar. reply_asking state (reply 0 (codes "OK")) (with_bar state.asking None))
 -- X_LOADTEMPLATEFILE path [owner]
 answer state (LoadTemplateFile path owner) given = loading state (unwrap_or owner state.owner) given.found
+-- X_SAVE: nothing changes, and what stands around the session saves
+answer state XSave given = record { stepped = Save; store = state.store; asking = state.asking }
 
 -- the state that it leaves, with the files and the terminal as they are then
 abbrev pub after_command : SessionState → Command → CommandInputs → FilesState → TerminalState → SessionState

@@ -1,5 +1,5 @@
 -- The plain machine behind a link: what a line does, and what it leaves.
-use Rattle.std.specs.Prelude.{◌≡◌, ◌⊎◌, ℕ, Bool, List, [], Option, Some, None, Result, Ok, Err}
+use Rattle.std.specs.Prelude.{◌≡◌, ◌⊎◌, ℕ, Bool, true, false, List, [], Option, Some, None, Result, Ok, Err}
 use Rattle.dc_outside.specs.LinkCalls.{Tells}
 use Rattle.dc_outside.specs.declared.link.LinkError.TheVariants.{Failed, OutOfMemory}
 use Rattle.dc_text.specs.declared.memory.OutOfMemory as memory
@@ -8,21 +8,23 @@ use Rattle.dc_words.specs.declared.stream.Line.TheVariants.{Whole, TooLong}
 use Rattle.dc_proto.specs.Commands.{heard}
 use Rattle.dc_proto.specs.Replies.{line_too_long, printed}
 use Rattle.dc_proto.specs.declared.command.Command.{Command}
-use Rattle.dc_proto.specs.declared.command.Command.TheVariants.{LoadTemplateFile}
+use Rattle.dc_proto.specs.declared.command.Command.TheVariants.{LoadTemplateFile, XSave}
 use Rattle.dc_proto.specs.declared.command.Heard.{Heard}
 use Rattle.dc_proto.specs.declared.command.Heard.TheVariants.{Nothing, Known, Refused}
+use Rattle.dc_proto.specs.declared.reply.Reply.{Reply}
 use Rattle.dc_store.specs.Plans.{stored}
 use Rattle.dc_store.specs.StoreLaws.{AreSameButAll}
 use Rattle.dc_serve.specs.declared.machine.Response.{Response}
 use Rattle.dc_serve.specs.declared.machine.Response.TheVariants as heeded
 use Rattle.dc_session.specs.Answers.{CommandInputs, answer, after_command, names_on}
 use Rattle.dc_session.specs.Displays.{displayed, Shows}
+use Rattle.dc_session.specs.Refusals.{saved}
 use Rattle.dc_session.specs.SessionState.{FilesState, TerminalState, SessionState}
 use Rattle.dc_session.specs.declared.stepped.StepError.{StepError}
 use Rattle.dc_session.specs.declared.stepped.StepError.TheVariants as step
 use Rattle.dc_session.specs.TemplateFiles.{Finds, FindsNoMemory}
 use Rattle.dc_session.specs.declared.stepped.Stepped.{Stepped}
-use Rattle.dc_session.specs.declared.stepped.Stepped.TheVariants.{Silent, Replied, Stopped}
+use Rattle.dc_session.specs.declared.stepped.Stepped.TheVariants.{Silent, Replied, Save, Stopped}
 use Rattle.dc_session.specs.declared.template_files.Found.{Found}
 use Rattle.dc_session.specs.declared.template_files.Found.TheVariants.{Missing}
 
@@ -92,10 +94,25 @@ abbrev pub Steps : SessionState → Line → Stepped → SessionState → Type 0
 Steps old TooLong did new = (did ≡ Replied line_too_long) × (new ≡ old)
 Steps old (Whole line) did new = StepsHeard (heard old.asking.escape line) old did new
 
+-- what asks for a save
+abbrev pub is_save : Heard → Bool
+is_save (Known XSave) = true
+is_save said = false
+
+-- whether a line asks for a save, read in this mode
+abbrev pub asks_to_save : Bool → Line → Bool
+asks_to_save escape TooLong = false
+asks_to_save escape (Whole line) = is_save (heard escape line)
+
 -- a reply is sent as it is printed
+abbrev pub printed_in : Bool → Reply → Response
+printed_in escape reply = heeded.Replied reply.code (printed escape reply)
+
+-- what a line comes to, as it is sent; that to a save goes out once that is done
 abbrev pub sent_in : Bool → Stepped → Response
 sent_in escape Silent = heeded.Silent
-sent_in escape (Replied reply) = heeded.Replied reply.code (printed escape reply)
+sent_in escape (Replied reply) = printed_in escape reply
+sent_in escape Save = printed_in escape saved
 sent_in escape Stopped = heeded.Stopped
 
 -- and its reply is sent in the same mode

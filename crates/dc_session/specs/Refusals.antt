@@ -1,4 +1,4 @@
--- What is replied where a command is refused (debconf-devel(7)).
+-- What is replied where a command is refused, and where a save is done (debconf-devel(7)).
 use Rattle.std.specs.Prelude.{ℕ, List, ◌++◌, codes, decimal}
 use Rattle.dc_proto.specs.Replies.{reply}
 use Rattle.dc_proto.specs.declared.reply.Reply.{Reply}
@@ -46,6 +46,10 @@ no_template_file = reply 10 (codes "no such template file")
 
 abbrev pub bad_template_file : ℕ → Reply
 bad_template_file line = reply 10 (codes "bad template file, line " ++ decimal line)
+
+-- all that has changed is saved
+abbrev pub saved : Reply
+saved = reply 0 (codes "saved")
 
 -- the reply to a call that is refused; a field is told as it was typed
 abbrev pub refusal : List ℕ → QuestionError → Reply

@@ -3,6 +3,8 @@ use Rattle.std.specs.Prelude.{◌≡◌, ◌⊎◌, ℕ, Bool, List, [], Option}
 use Rattle.dc_conf.specs.Trees.{Tree}
 use Rattle.dc_outside.specs.LinkCalls.{Tells}
 use Rattle.dc_frontend.specs.declared.frontend.Frontend.{Frontend}
+use Rattle.dc_words.specs.declared.stream.Line.{Line}
+use Rattle.dc_serve.specs.declared.machine.Response.{Response}
 use Rattle.dc_layer.specs.State.{LayerState}
 use Rattle.dc_proto.specs.declared.priority.Priority.{Priority}
 use Rattle.dc_question.specs.Questions.{QuestionContext}
@@ -17,7 +19,6 @@ use Rattle.dc_session.specs.Machine.{TakesLine, Aborts}
 use Rattle.dc_session.specs.SessionState.{FilesState, LinkState, TerminalState, SessionState}
 use Rattle.dc_session.specs.declared.serving.SessionSetup.{SessionSetup}
 use Rattle.dc_session.specs.declared.stepped.StepError.{StepError}
-use Rattle.dc_session.specs.declared.stepped.StepError.TheVariants as step
 
 -- ---- what a session is begun over
 
@@ -58,35 +59,36 @@ resources_in state = resources_of state.store.layers state.files state.terminal 
 
 -- The session was finished, and what the layers told at that was told on standard error; or memory ran out at it, and at most the items of the
 -- questions that were asked changed.
-abbrev pub IsFinished : SessionState → LinkEnd StepError → Resources → LinkEnd StepError → Type 0
+abbrev pub IsFinished : {B : Type 0} → SessionState → LinkEnd B → Resources → LinkEnd B → Type 0
 IsFinished state served left ended =
     ((left.layers ≡ (finished state).layers) × Tells (finished state).told state.err left.err × (ended ≡ served))
     ⊎ (AreSameButAll state.asking.asked state.store.layers left.layers × (left.err ≡ state.err) × (ended ≡ link.OutOfMemory))
 
--- the end of a session that broke off at a line
-abbrev pub end_broken : StepError → LinkEnd StepError
-end_broken step.Term = link.Broken step.Term
-end_broken step.OutOfMemory = link.OutOfMemory
-
 -- it stays as it was, and ends so
-abbrev pub IsUnfinished : SessionState → Resources → LinkEnd StepError → LinkEnd StepError → Type 0
-IsUnfinished state left ended end = (left.layers ≡ state.store.layers) × (left.err ≡ state.err) × (ended ≡ end)
+abbrev pub IsUnfinished : {B : Type 0} → SessionState → LinkEnd B → Resources → LinkEnd B → Type 0
+IsUnfinished state served left ended = (left.layers ≡ state.store.layers) × (left.err ≡ state.err) × (ended ≡ served)
 
--- What becomes of a session whose link was served to this end: it is finished, unless memory ran out or the terminal failed.
-abbrev pub Finishes : LinkEnd StepError → SessionState → Resources → LinkEnd StepError → Type 0
+-- What becomes of a session whose link was served to this end: it is finished, unless memory ran out or a line wasn't heeded to its end.
+abbrev pub Finishes : {B : Type 0} → LinkEnd B → SessionState → Resources → LinkEnd B → Type 0
 Finishes link.Done state left ended = IsFinished state link.Done left ended
 Finishes link.LinkFault state left ended = IsFinished state link.LinkFault left ended
 Finishes link.TooLong state left ended = IsFinished state link.TooLong left ended
-Finishes link.OutOfMemory state left ended = IsUnfinished state left ended link.OutOfMemory
-Finishes (link.Broken error) state left ended = IsUnfinished state left ended (end_broken error)
+Finishes link.OutOfMemory state left ended = IsUnfinished state link.OutOfMemory left ended
+Finishes (link.Broken error) state left ended = IsUnfinished state (link.Broken error) left ended
 
--- a session that began so was served, over a link and from the last code on, and finished, and left these
-pub record IsServed (start : SessionState) (left : Resources) (old new : LinkState) (ended : LinkEnd StepError) (before code : ℕ) : Type 0 where
+-- A session that began so was served, over a link and from the last code on, and finished, and left these. A line that came does what the steps of
+-- the machine say that served it, which may stand around the session, and one that isn't heeded to its end what it says of that.
+pub record IsServedBy {B : Type 0} (steps : SessionState → Line → Response → SessionState → Type 0) (aborts : SessionState → Line → B → SessionState → Type 0)
+    (start : SessionState) (left : Resources) (old new : LinkState) (ended : LinkEnd B) (before code : ℕ) : Type 0 where
   pub state : SessionState
-  pub served : LinkEnd StepError
-  pub ran : IsLinkRun TakesLine Aborts old.talk new.talk old.input new.input start served state before code
+  pub served : LinkEnd B
+  pub ran : IsLinkRun steps aborts old.talk new.talk old.input new.input start served state before code
   pub files_are : left.files ≡ state.files
   pub terminal_is : left.terminal ≡ state.terminal
   pub finishes : Finishes served state left ended
   pub counts : LinkCounts served old.counts new.counts
   pub program : new.program ≡ old.program
+
+-- the same of a session by itself, which saves nothing
+abbrev pub IsServed : SessionState → Resources → LinkState → LinkState → LinkEnd StepError → ℕ → ℕ → Type 0
+IsServed = IsServedBy TakesLine Aborts

@@ -26,13 +26,13 @@ ghost use Rattle.dc_session.specs.Alike.{AreAlike, AreTransitionsSame, AreTransi
 ghost use Rattle.dc_session.specs.Answers.{nothing, answer, names_on, text_reply};
 ghost use Rattle.dc_session.specs.Asking.{finished, first_fixed};
 ghost use Rattle.dc_session.specs.Escaping.{set_line, unescaped};
-ghost use Rattle.dc_session.specs.Machine.{TakesLine, Steps, Aborts, HasDone};
+ghost use Rattle.dc_session.specs.Machine.{TakesLine, Steps, Aborts, HasDone, asks_to_save};
 ghost use Rattle.dc_session.specs.Quiet.{IsQuietSession};
 ghost use Rattle.dc_session.specs.SessionState.{SessionState};
 ghost use Rattle.dc_session.specs.Taken.{Takes};
 ghost use Rattle.dc_session.specs.declared.stepped.StepError.TheVariants.{Term};
 ghost use Rattle.dc_session.specs.declared.stepped.Stepped.{Stepped};
-ghost use Rattle.dc_session.specs.declared.stepped.Stepped.TheVariants.{Replied};
+ghost use Rattle.dc_session.specs.declared.stepped.Stepped.TheVariants.{Replied, Save};
 
 /// A line that is refused, by a reply of code 10, 20 or 100, changes neither the store nor what was asked for. It may have read a file. One of
 /// code 1 or 30 leaves the store too.
@@ -41,6 +41,13 @@ pub fn refused_commands_change_nothing()
         → (new.store ≡ old.store) × (new.err ≡ old.err) × (new.at ≡ old.at) × (new.owner ≡ old.owner) × (new.policy ≡ old.policy) }
     ensures asking { (old new : SessionState) (line : Line) (reply : Reply) → Steps old line (Replied reply) new → reply.code ≢ 0 → reply.code ≢ 30
         → new.asking ≡ old.asking }
+{}
+
+/// A line comes to a save exactly where it is X_SAVE without arguments, and then the session changes nothing.
+pub fn saves_are_asked_for_by_one_command()
+    ensures asked { (old new : SessionState) (line : Line) (stepped : Stepped) → Steps old line stepped new → asks_to_save old.asking.escape line ≡ true
+        → (stepped ≡ Save) × (new ≡ old) }
+    ensures alone { (old new : SessionState) (line : Line) → Steps old line Save new → asks_to_save old.asking.escape line ≡ true }
 {}
 
 /// A command changes at most the items that its writes are on, in whichever layers they stand.

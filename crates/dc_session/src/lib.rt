@@ -21,6 +21,7 @@ pub mod terminal;
 
 pub use asking::{Asking, Bar};
 pub use policy::AskPolicy;
+pub use replies::sent_in;
 pub use serving::{SessionSetup, ask_policy, finish_served, serve_layers};
 pub use session::Session;
 pub use session_questions::SessionQuestions;

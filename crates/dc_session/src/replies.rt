@@ -4,7 +4,7 @@ ghost use Rattle.dc_text.specs.Names.{is_name};
 ghost use Rattle.dc_proto.specs.Replies.{reply as reply_of};
 ghost use Rattle.dc_session.specs.Answers.{truth, is_truth};
 ghost use Rattle.dc_session.specs.Inside.{IsNamed, TellsRefusal, Tells};
-ghost use Rattle.dc_session.specs.Machine.{sent_in as sent_as};
+ghost use Rattle.dc_session.specs.Machine.{printed_in, sent_in as sent_as};
 ghost use Rattle.dc_session.specs.Refusals.{no_question, no_template, no_field, cant_change, other_template, is_busy, bad_flag_value, bad_template_file};
 ghost use Rattle.dc_session.specs.declared.stepped.Stepped.TheVariants.{Replied};
 
@@ -15,18 +15,26 @@ use dc_serve::Response;
 use dc_text::{Mem, Name, NameRefused, OutOfMemory, Text};
 use std::alloc::Global;
 
-/// What a line comes to as it is sent: a reply as it is printed, in escape mode or in plain mode.
+/// What a line comes to as it is sent: a reply as it is printed, in escape mode or in plain mode. That to a save tells that it is done.
 pub fn sent_in(alloc: Global, stepped: Stepped, escape: bool) -> Mem<Response>
     ensures { IfOk result (λ did. did ≡ sent_as escape stepped) }
 {
     match stepped {
         Stepped::Silent => Ok(Response::Silent),
         Stepped::Stopped => Ok(Response::Stopped),
-        Stepped::Replied(reply) => Ok(Response::Replied {
-            code: reply.code,
-            text: print_reply(alloc, &reply, escape)?,
-        }),
+        Stepped::Save => print(alloc, &Reply::new(alloc, 0, b"saved")?, escape),
+        Stepped::Replied(reply) => print(alloc, &reply, escape),
     }
+}
+
+// The reply as it is printed.
+fn print(alloc: Global, reply: &Reply, escape: bool) -> Mem<Response>
+    ensures { IfOk result (λ did. did ≡ printed_in escape reply.now) }
+{
+    Ok(Response::Replied {
+        code: reply.code,
+        text: print_reply(alloc, reply, escape)?,
+    })
 }
 
 /// This is replied.

@@ -241,12 +241,13 @@ fn priority_said(said: Result<Text, QuestionError>) -> Mem<Priority>
     }
 }
 
-/// Finishes a session whose link was served to this end, by itself or by a machine around it, unless memory ran out or the terminal failed, and
-/// tells what the layers told at that.
-pub fn finish_served<'s, 'f, 't, 'h, 'e, F: Files, T: Link, E: Link>(
+/// Finishes a session whose link was served to this end, by itself or by a machine around it, unless memory ran out or a line wasn't heeded to
+/// its end, and tells what the layers told at that.
+pub fn finish_served<'s, 'f, 't, 'h, 'e, F: Files, T: Link, E: Link, B: Drop>(
     session: &mut Session<'s, 'f, 't, 'h, 'e, F, T, E>,
-    served: Conversation<StepError>,
-) -> Conversation<StepError>
+    served: Conversation<B>,
+) -> Conversation<B>
+    requires plans { HasPlans session.old.desk.questions }
     ensures finishes { Finishes served.end (session_of state F.files T.link E.link session.old)
         (resources_in (session_of state F.files T.link E.link session.new)) result.end }
     ensures rest { session_of state F.files T.link E.link session.new ≡ record
@@ -259,8 +260,8 @@ pub fn finish_served<'s, 'f, 't, 'h, 'e, F: Files, T: Link, E: Link>(
 {
     let Conversation { end, last_code } = served;
     let end = match end {
-        LinkEnd::OutOfMemory | LinkEnd::Broken(StepError::OutOfMemory) => LinkEnd::OutOfMemory,
-        LinkEnd::Broken(StepError::Term) => LinkEnd::Broken(StepError::Term),
+        LinkEnd::OutOfMemory => LinkEnd::OutOfMemory,
+        LinkEnd::Broken(error) => LinkEnd::Broken(error),
         ended => match session.finish() {
             Ok(()) => {
                 session.tell_store();

@@ -2,6 +2,7 @@
 ghost use Rattle.std.specs.Prelude.{◌≡◌, IfOk, IfErr};
 ghost use Rattle.std.specs.Borrow.{GName};
 ghost use Rattle.dc_session.specs.SessionState.{SessionState, terminal_at, session_at_desk, session_of, borrows_of};
+ghost use Rattle.dc_question.specs.Asked.{HasPlans};
 ghost use Rattle.dc_session.specs.Inside.{DoesHeard};
 ghost use Rattle.dc_session.specs.Machine.{Handles as HandlesLine, TakesLine, TellsStore, Aborts as AbortsAt, Steps, DoesShowing};
 
@@ -23,8 +24,8 @@ use std::alloc::Global;
 #[derive(Drop)]
 pub struct Session<'s, 'f, 't, 'h, 'e, F: Files, T: Link, E: Link> {
     pub(crate) alloc: Global,
-    pub(crate) desk: SessionQuestions<'s>,
-    pub(crate) files: &'f mut F,
+    pub desk: SessionQuestions<'s>,
+    pub files: &'f mut F,
     pub(crate) terminal: &'t mut T,
     pub(crate) teletype: &'h mut Teletype,
     pub(crate) err: &'e mut E,
@@ -45,6 +46,7 @@ impl<'s, 'f, 't, 'h, 'e, F: Files, T: Link, E: Link> Session<'s, 'f, 't, 'h, 'e,
         policy: AskPolicy,
         asking: &'s mut Asking,
     ) -> Session<'s, 'f, 't, 'h, 'e, F, T, E>
+        requires plans { HasPlans desk.questions }
         ensures state { ⟦<Self as LineMachine>⟧.state result ≡ session_at_desk (λ b. (Layer-box b).state b.value) desk.entry (F.files files.old)
             (terminal_at (T.link terminal.old) teletype.old.ahead) (E.link err.old) policy asking.old }
         ensures borrows { result.desk.questions.store.ghost_name ≡ desk.entry.questions.store.ghost_name }
@@ -75,6 +77,7 @@ impl<'s, 'f, 't, 'h, 'e, F: Files, T: Link, E: Link> Session<'s, 'f, 't, 'h, 'e,
         &'h mut Teletype,
         &'e mut E,
     )
+        requires plans { HasPlans self.desk.questions }
         ensures desk { result.0 ≡ self.entry.desk }
         ensures files { result.1 ≡ self.entry.files }
         ensures terminal { result.2 ≡ self.entry.terminal }
@@ -105,6 +108,7 @@ impl<'s, 'f, 't, 'h, 'e, F: Files, T: Link, E: Link> Session<'s, 'f, 't, 'h, 'e,
     /// What a line comes to, and what it leaves. A line is read in the mode that stands before it. After a refusal, of code 10, 20 or
     /// 100, nothing has changed.
     pub fn step(&mut self, line: &Line) -> Result<Stepped, StepError>
+        requires plans { HasPlans self.old.desk.questions }
         ensures ok { IfOk result (λ stepped. Steps (⟦<Self as LineMachine>⟧.state self.old) line.now stepped (⟦<Self as LineMachine>⟧.state self.new)) }
         ensures err { IfErr result (λ error. AbortsAt (⟦<Self as LineMachine>⟧.state self.old) line.now error (⟦<Self as LineMachine>⟧.state self.new)) }
         ensures borrows { borrows_of self.new ≡ borrows_of self.old }
@@ -120,6 +124,7 @@ impl<'s, 'f, 't, 'h, 'e, F: Files, T: Link, E: Link> Session<'s, 'f, 't, 'h, 'e,
 
     /// Tells on standard error what the layers told, as far as that takes it, and forgets it.
     pub fn tell_store(&mut self)
+        requires plans { HasPlans self.old.desk.questions }
         ensures tells { TellsStore (⟦<Self as LineMachine>⟧.state self.old) (⟦<Self as LineMachine>⟧.state self.new) }
         ensures borrows { borrows_of self.new ≡ borrows_of self.old }
     {
@@ -182,6 +187,7 @@ impl<'s, 'f, 't, 'h, 'e, F: Files, T: Link, E: Link> Session<'s, 'f, 't, 'h, 'e,
             Command::ProgressInfo(word) => self.progress_info(word),
             Command::ProgressStop => lifted(self.progress_stop()),
             Command::LoadTemplateFile { path, owner } => lifted(self.load(path, owner)),
+            Command::XSave => Ok(Stepped::Save),
         }
     }
 }

@@ -53,6 +53,7 @@ impl<'s> SessionQuestions<'s> {
 
     /// The layers, as the session left them. Their store keeps none.
     pub fn into_layers(self, alloc: Global) -> Vec<Box<dyn Layer>>
+        requires plans { IsSetOver self.questions.context (length self.questions.store.now.layers.items) }
         ensures { result.items ≡ self.entry.questions.store.now.layers.items }
     {
         let SessionQuestions {

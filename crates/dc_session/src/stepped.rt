@@ -12,6 +12,8 @@ pub enum Stepped {
     /// It has no reply.
     Silent,
     Replied(Reply),
+    /// What has changed so far is to be saved by what stands around the session, and `0 saved` is the reply once that is done.
+    Save,
     /// The session ends, and no more lines are read.
     Stopped,
 }

@@ -2,7 +2,7 @@ use Rattle.std.proofs.Common.{[], refl}
 use Rattle.dc_proto.specs.Replies.{reply}
 use Rattle.dc_proto.specs.declared.command.Command.TheVariants as command
 use Rattle.dc_session.proofs.AskingLemmas.{told_does}
-use Rattle.dc_session.proofs.CommandLemmas.{quiet, stops}
+use Rattle.dc_session.proofs.CommandLemmas.{asks_to_save, quiet, stops}
 use Rattle.dc_session.proofs.TerminalLemmas.{lifts}
 use Rattle.dc_session.proofs.session.Session.run.Goals as goal
 
@@ -17,3 +17,6 @@ returns-in-EndBlock-clause-does g c =
 
 pub returns-in-Stop-clause-does : goal.returns-in-Stop-clause-does
 returns-in-Stop-clause-does g c = rw c.in-Stop.is (stops _)
+
+pub returns-in-XSave-clause-does : goal.returns-in-XSave-clause-does
+returns-in-XSave-clause-does g c = rw c.in-XSave.is (asks_to_save _)
