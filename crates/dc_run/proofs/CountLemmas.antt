@@ -20,13 +20,13 @@ use Rattle.dc_serve.specs.Ends.{LinkCounts}
 use Rattle.dc_serve.specs.LinkRun.{Answered}
 use Rattle.dc_serve.specs.declared.outcome.LinkEnd.{LinkEnd}
 use Rattle.dc_serve.specs.declared.outcome.LinkEnd.TheVariants as link
-use Rattle.dc_session.specs.Machine.{TakesLine, Aborts}
-use Rattle.dc_session.specs.Serving.{IsServed, Resources}
+use Rattle.dc_save.specs.declared.saving.SaveError.TheVariants as save
+use Rattle.dc_session.specs.Serving.{Resources}
 use Rattle.dc_outside.specs.State.{FilesState, LinkState}
 use Rattle.dc_session.specs.SessionState.{SessionState, TerminalState}
 use Rattle.dc_session.specs.declared.stepped.StepError.{StepError}
 use Rattle.dc_session.specs.declared.stepped.StepError.TheVariants as step
-use Rattle.dc_session.proofs.TerminalLaws.{CountsBreak, AsksNobody, breaks_count, course_counts, course_nobody, never_fails}
+use Rattle.dc_session.proofs.TerminalLaws.{CountsBreak, AsksNobody, breaks_count, never_fails}
 use Rattle.dc_cli.specs.declared.tool.Tool.{Tool}
 use Rattle.dc_cli.specs.declared.tool.Tool.TheVariants.{Communicate, LoadTemplate, Run, Show, CopyDb, SetSelections, GetSelections, Drill}
 use Rattle.dc_run.specs.declared.outcome.End.{End}
@@ -48,11 +48,15 @@ use Rattle.dc_run.specs.declared.outcome.PatternAt.{PatternAt}
 use Rattle.dc_run.specs.declared.outcome.PatternAt.TheVariants.{Database, Word}
 use Rattle.dc_tools.specs.Copying.{Copying}
 use Rattle.dc_run.specs.Saves.{Save}
+use Rattle.dc_run.specs.SavingSession.{TakesSaving, BreaksSaving, IsServedSaving}
+use Rattle.dc_run.specs.declared.saving_session.SavingBreak.{SavingBreak}
+use Rattle.dc_run.specs.declared.saving_session.SavingBreak.TheVariants as saving
 use Rattle.dc_run.specs.Running.{IsNotStarted, IsStarted, end_unstarted, Awaits}
 use Rattle.dc_run.specs.Starting.{EndsBefore, begun, keeps_changes}
 use Rattle.dc_run.specs.TemplateLoading.{EndsAt}
 use Rattle.dc_run.specs.World.{Links, Stock, World, RunState, before_rounds}
 use Rattle.dc_run.proofs.CrashLemmas.{state_left, broken_off}
+use Rattle.dc_run.proofs.SavingLemmas.{lines_count, lines_nobody}
 use Rattle.dc_run.proofs.UsedLemmas.{as_used}
 use Rattle.dc_run.proofs.RunLemmas.{ends_so}
 
@@ -124,14 +128,16 @@ ServedCounts tool.OutOfMemory before now = MayRise before now
 ServedCounts ended before now = Stays before now
 
 module _ (before now : Counts) where
-  by_link : (served : LinkEnd StepError) → LinkCounts served before now → ServedCounts (tool_end_of served) before now
+  by_link : (served : LinkEnd SavingBreak) → LinkCounts served before now → ServedCounts (tool_end_of served) before now
   by_link link.Done same = same
   by_link link.TooLong same = same
   by_link link.LinkFault rose = rose
   by_link link.OutOfMemory (inl rose) = inr (inr rose)
   by_link link.OutOfMemory (inr same) = inl same
-  by_link (link.Broken step.Term) same = same
-  by_link (link.Broken step.OutOfMemory) same = inl same
+  by_link (link.Broken (saving.Step step.Term)) same = same
+  by_link (link.Broken (saving.Step step.OutOfMemory)) same = inl same
+  by_link (link.Broken (saving.Save (save.Failed path))) same = same
+  by_link (link.Broken (saving.Save save.OutOfMemory)) same = inl same
 
   -- where memory ran out as the session was finished
   may_rise : (ended : ToolEnd) → ServedCounts ended before now → MayRise before now
@@ -144,41 +150,43 @@ module _ (before now : Counts) where
   may_rise tool.OutOfMemory may = may
   may_rise (tool.FilesFault path) same = inl same
 
-  by_session : (served ended : LinkEnd StepError) → (ended ≡ served) ⊎ (ended ≡ link.OutOfMemory) → LinkCounts served before now → ServedCounts (tool_end_of ended) before now
+  by_session : (served ended : LinkEnd SavingBreak) → (ended ≡ served) ⊎ (ended ≡ link.OutOfMemory) → LinkCounts served before now → ServedCounts (tool_end_of ended) before now
   by_session served ended (inl same) counts = rw same (by_link served counts)
   by_session served ended (inr none) counts = rw none (may_rise (tool_end_of served) (by_link served counts))
 
-served_counts : (start : SessionState) (left : Resources) (old new : LinkState) (ended : LinkEnd StepError) (before code : ℕ) → IsServed start left old new ended before code
+served_counts : (start : SessionState) (left : Resources) (old new : LinkState) (ended : LinkEnd SavingBreak) (before code : ℕ) (saves : List Save) → IsServedSaving start left old new ended before code saves
     → ServedCounts (tool_end_of ended) old.counts new.counts
-served_counts start left old new ended before code is =
-    by_session old.counts new.counts is.served ended (ends_so is.served is.state left ended is.finishes) is.counts
+served_counts start left old new ended before code saves is =
+    let served = is.by in
+    by_session old.counts new.counts served.served ended (ends_so served.served served.state left ended served.finishes) served.counts
 
 -- ---- its terminal
 
 -- what it counted, by the end of the link
-abbrev TerminalCounts : LinkEnd StepError → Counts → Counts → Type 0
-TerminalCounts (link.Broken error) before now = CountsBreak error before now
+abbrev TerminalCounts : LinkEnd SavingBreak → Counts → Counts → Type 0
+TerminalCounts (link.Broken (saving.Step error)) before now = CountsBreak error before now
 TerminalCounts ended before now = Stays before now
 
-module _ (start new : SessionState) (turns : List (Transition SessionState)) (rest : List Line) (talk : List Piece) (input : Option (List ℕ)) (code_before code : ℕ) (course : IsExecution TakesLine start turns) where
+module _ (start new : SessionState) (turns : List (Transition SessionState)) (rest : List Line) (talk : List Piece) (input : Option (List ℕ)) (code_before code : ℕ) (course : IsExecution TakesSaving start turns) where
   unused : new ≡ state_after start turns → new.terminal.link.counts ≡ start.terminal.link.counts
-  unused is = ap (λ (s : SessionState). s.terminal.link.counts) is ∙ course_counts start turns course
+  unused is = ap (λ (s : SessionState). s.terminal.link.counts) is ∙ lines_count start turns course
 
   moved : (error : StepError) (before mid now : Counts) → mid ≡ before → CountsBreak error mid now → CountsBreak error before now
   moved error before mid now same counts = subst (λ (c : Counts). CountsBreak error c now) same counts
 
-  terminal_counts : (ended : LinkEnd StepError) → Answered Aborts ended start turns rest talk input code_before new code → TerminalCounts ended start.terminal.link.counts new.terminal.link.counts
+  terminal_counts : (ended : LinkEnd SavingBreak) → Answered BreaksSaving ended start turns rest talk input code_before new code → TerminalCounts ended start.terminal.link.counts new.terminal.link.counts
   terminal_counts link.Done answered = unused (state_left start new turns rest talk input code_before code link.Done tt answered)
   terminal_counts link.LinkFault answered = unused (state_left start new turns rest talk input code_before code link.LinkFault tt answered)
   terminal_counts link.TooLong answered = unused (state_left start new turns rest talk input code_before code link.TooLong tt answered)
   terminal_counts link.OutOfMemory answered = unused (broken_off start new turns rest talk input code_before code answered)
-  terminal_counts (link.Broken error) answered =
-      moved error start.terminal.link.counts (state_after start turns).terminal.link.counts new.terminal.link.counts (course_counts start turns course)
+  terminal_counts (link.Broken (saving.Step error)) answered =
+      moved error start.terminal.link.counts (state_after start turns).terminal.link.counts new.terminal.link.counts (lines_count start turns course)
       (breaks_count (state_after start turns) new answered.line error answered.broke)
+  terminal_counts (link.Broken (saving.Save error)) answered = ap (λ (s : SessionState). s.terminal.link.counts) answered.broke.new_is ∙ lines_count start turns course
 
   -- a session that asks nobody doesn't break off at its terminal
-  unbroken : AsksNobody start → (error : StepError) → error ≡ step.Term → Answered Aborts (link.Broken error) start turns rest talk input code_before new code → ⊥
-  unbroken nobody step.Term is answered = never_fails (state_after start turns) new answered.line (course_nobody start turns nobody course) answered.broke
+  unbroken : AsksNobody start → (error : StepError) → error ≡ step.Term → Answered BreaksSaving (link.Broken (saving.Step error)) start turns rest talk input code_before new code → ⊥
+  unbroken nobody step.Term is answered = never_fails (state_after start turns) new answered.line (lines_nobody start turns nobody course) answered.broke
   unbroken nobody step.OutOfMemory is answered = cc
 
 -- ---- tools
@@ -206,26 +214,28 @@ module _ (before now : Links) (child : now.child ≡ before.child) where
   own_links tool.OutOfMemory other may = record { on_io = may; on_child = inl unserved }
   own_links (tool.FilesFault path) other same = record { on_io = same; on_child = unserved }
 
-no_term : (served ended : LinkEnd StepError) → (ended ≡ served) ⊎ (ended ≡ link.OutOfMemory) → (served ≡ link.Broken step.Term → ⊥) → tool_end_of ended ≡ tool.TermFault → ⊥
+no_term : (served ended : LinkEnd SavingBreak) → (ended ≡ served) ⊎ (ended ≡ link.OutOfMemory) → (served ≡ link.Broken (saving.Step step.Term) → ⊥) → tool_end_of ended ≡ tool.TermFault → ⊥
 no_term served link.Done by other is = cc
 no_term served link.LinkFault by other is = cc
 no_term served link.TooLong by other is = cc
 no_term served link.OutOfMemory by other is = cc
-no_term served (link.Broken step.OutOfMemory) by other is = cc
-no_term served (link.Broken step.Term) (inl same) other is = other (sym same)
-no_term served (link.Broken step.Term) (inr none) other is = cc
+no_term served (link.Broken (saving.Step step.OutOfMemory)) by other is = cc
+no_term served (link.Broken (saving.Save (save.Failed path))) by other is = cc
+no_term served (link.Broken (saving.Save save.OutOfMemory)) by other is = cc
+no_term served (link.Broken (saving.Step step.Term)) (inl same) other is = other (sym same)
+no_term served (link.Broken (saving.Step step.Term)) (inr none) other is = cc
 
-communicated_links : (start : SessionState) (before now : Links) (code : ℕ) (answer : ToolAnswer) (left : Resources) → AsksNobody start → HasCommunicated start before.io now.io code answer left
+communicated_links : (start : SessionState) (before now : Links) (code : ℕ) (answer : ToolAnswer) (left : Resources) (saves : List Save) → AsksNobody start → HasCommunicated start before.io now.io code answer left saves
     → now.child ≡ before.child → ToolLinks answer.ended before now
-communicated_links start before now code answer left nobody is child =
-    let served = is.served in
+communicated_links start before now code answer left saves nobody is child =
+    let served = is.served.by in
     let ran = served.ran in
     rw is.ended_is
     (own_links before now child (tool_end_of is.ended)
     (no_term served.served is.ended (ends_so served.served served.state left is.ended served.finishes)
     (λ broken. unbroken start served.state ran.transitions ran.rest ran.pieces before.io.input code answer.last_code ran.course nobody step.Term refl
-    (subst (λ (e : LinkEnd StepError). Answered Aborts e start ran.transitions ran.rest ran.pieces before.io.input code served.state answer.last_code) broken ran.answered)))
-    (served_counts start left before.io now.io is.ended code answer.last_code served))
+    (subst (λ (e : LinkEnd SavingBreak). Answered BreaksSaving e start ran.transitions ran.rest ran.pieces before.io.input code served.state answer.last_code) broken ran.answered)))
+    (served_counts start left before.io now.io is.ended code answer.last_code saves is.served))
 
 silent_links : (ended : ToolEnd) (state : SessionState) (rest : List (List ℕ)) (new : SessionState) (links : Links) → EndsAt ended state rest new → ToolLinks ended links links
 silent_links tool.Done state rest new links ends = all_stay links
@@ -239,46 +249,49 @@ silent_links tool.ChildFault state rest new links ends = absurd ends
 
 -- the program was served, and the user asked on the program's own link
 module _ (before now : Links) where
-  both_links : (served : LinkEnd StepError) → ServedCounts (tool_end_of served) before.child.counts now.child.counts → TerminalCounts served before.io.counts now.io.counts → ToolLinks (tool_end_of served) before now
+  both_links : (served : LinkEnd SavingBreak) → ServedCounts (tool_end_of served) before.child.counts now.child.counts → TerminalCounts served before.io.counts now.io.counts → ToolLinks (tool_end_of served) before now
   both_links link.Done child io = record { on_io = io; on_child = child }
   both_links link.TooLong child io = record { on_io = io; on_child = child }
   both_links link.LinkFault child io = inr (record { on_io = io; on_child = child })
   both_links link.OutOfMemory child io = record { on_io = inl io; on_child = child }
-  both_links (link.Broken step.Term) child io = record { on_io = io; on_child = child }
-  both_links (link.Broken step.OutOfMemory) child (inl same) = record { on_io = inl same; on_child = child }
-  both_links (link.Broken step.OutOfMemory) child (inr rose) = record { on_io = inr (inr rose); on_child = child }
+  both_links (link.Broken (saving.Step step.Term)) child io = record { on_io = io; on_child = child }
+  both_links (link.Broken (saving.Step step.OutOfMemory)) child (inl same) = record { on_io = inl same; on_child = child }
+  both_links (link.Broken (saving.Step step.OutOfMemory)) child (inr rose) = record { on_io = inr (inr rose); on_child = child }
+  both_links (link.Broken (saving.Save (save.Failed path))) child io = record { on_io = io; on_child = child }
+  both_links (link.Broken (saving.Save save.OutOfMemory)) child io = record { on_io = inl io; on_child = child }
 
-  any_io : (served : LinkEnd StepError) → TerminalCounts served before.io.counts now.io.counts → MayRise before.io.counts now.io.counts
+  any_io : (served : LinkEnd SavingBreak) → TerminalCounts served before.io.counts now.io.counts → MayRise before.io.counts now.io.counts
   any_io link.Done io = inl io
   any_io link.TooLong io = inl io
   any_io link.LinkFault io = inl io
   any_io link.OutOfMemory io = inl io
-  any_io (link.Broken step.Term) io = inr (inl io)
-  any_io (link.Broken step.OutOfMemory) (inl same) = inl same
-  any_io (link.Broken step.OutOfMemory) (inr rose) = inr (inr rose)
+  any_io (link.Broken (saving.Step step.Term)) io = inr (inl io)
+  any_io (link.Broken (saving.Step step.OutOfMemory)) (inl same) = inl same
+  any_io (link.Broken (saving.Step step.OutOfMemory)) (inr rose) = inr (inr rose)
+  any_io (link.Broken (saving.Save error)) io = inl io
 
-  program_links : (served ended : LinkEnd StepError) → (ended ≡ served) ⊎ (ended ≡ link.OutOfMemory) → ServedCounts (tool_end_of ended) before.child.counts now.child.counts
+  program_links : (served ended : LinkEnd SavingBreak) → (ended ≡ served) ⊎ (ended ≡ link.OutOfMemory) → ServedCounts (tool_end_of ended) before.child.counts now.child.counts
       → TerminalCounts served before.io.counts now.io.counts → ToolLinks (tool_end_of ended) before now
-  program_links served ended (inl same) child io = both_links ended child (subst (λ (e : LinkEnd StepError). TerminalCounts e before.io.counts now.io.counts) (sym same) io)
+  program_links served ended (inl same) child io = both_links ended child (subst (λ (e : LinkEnd SavingBreak). TerminalCounts e before.io.counts now.io.counts) (sym same) io)
   program_links served ended (inr none) child io =
-      rw none (record { on_io = any_io served io; on_child = subst (λ (e : LinkEnd StepError). ServedCounts (tool_end_of e) before.child.counts now.child.counts) none child })
+      rw none (record { on_io = any_io served io; on_child = subst (λ (e : LinkEnd SavingBreak). ServedCounts (tool_end_of e) before.child.counts now.child.counts) none child })
 
-started_links : (command : List (List ℕ)) (start : SessionState) (before now : Links) (code : ℕ) (answer : ToolAnswer) (left : Resources) → start.terminal.link ≡ before.io
-    → IsStarted command start before now code answer left → ToolLinks answer.ended before now
-started_links command start before now code answer left asks is =
-    let served = is.served in
+started_links : (command : List (List ℕ)) (start : SessionState) (before now : Links) (code : ℕ) (answer : ToolAnswer) (left : Resources) (saves : List Save) → start.terminal.link ≡ before.io
+    → IsStarted command start before now code answer left saves → ToolLinks answer.ended before now
+started_links command start before now code answer left saves asks is =
+    let served = is.served.by in
     let ran = served.ran in
     let shown = terminal_counts start served.state ran.transitions ran.rest ran.pieces is.mid.input code answer.last_code ran.course served.served ran.answered in
     rw is.ended_is
     (program_links before now served.served is.ended (ends_so served.served served.state left is.ended served.finishes)
     (subst (λ (c : Counts). ServedCounts (tool_end_of is.ended) c now.child.counts) (ap (λ (l : LinkState). l.counts) is.starts.state)
-    (served_counts start left is.mid now.child is.ended code answer.last_code served))
+    (served_counts start left is.mid now.child is.ended code answer.last_code saves is.served))
     (subst (λ (c : Counts). TerminalCounts served.served c now.io.counts) (ap (λ (l : LinkState). l.counts) asks)
     (subst (λ (c : Counts). TerminalCounts served.served start.terminal.link.counts c) (ap (λ (l : LinkState). l.counts) (sym (is.io ∙ ap (λ (t : TerminalState). t.link) served.terminal_is))) shown)))
 
-unstarted_links : (command : List (List ℕ)) (start : SessionState) (before now : Links) (code : ℕ) (answer : ToolAnswer) (left : Resources)
-    → IsNotStarted command start before now code answer left → ToolLinks answer.ended before now
-unstarted_links command start before now code answer left is = rw is.ended_is (by_error is.error is.starts) where
+unstarted_links : (command : List (List ℕ)) (start : SessionState) (before now : Links) (code : ℕ) (answer : ToolAnswer) (left : Resources) (saves : List Save)
+    → IsNotStarted command start before now code answer left saves → ToolLinks answer.ended before now
+unstarted_links command start before now code answer left saves is = rw is.ended_is (by_error is.error is.starts) where
   io : now.io.counts ≡ before.io.counts
   io = ap (λ (l : LinkState). l.counts) is.io
 
@@ -342,23 +355,23 @@ made_links (Ok text) ended before now prints child = printed_links text ended be
 made_links (Err error) ended before now none child =
     rw none.0 (record { on_io = inl (ap (λ (l : LinkState). l.counts) none.1); on_child = inl (ap (λ (l : LinkState). l.counts) child) })
 
-tool_links : (used : Tool) (state : RunState) (roots : Roots) (settings : Settings) (now : Links) (answer : ToolAnswer) (said : List ℕ) (left : Resources)
-    → Uses used roots (begun used state roots settings) state.world.links now state.code answer said left → ToolLinks answer.ended state.world.links now
-tool_links (Communicate owner) state roots settings now answer said left uses =
-    communicated_links (begun (Communicate owner) state roots settings) state.world.links now state.code answer left refl uses.0 uses.1
-tool_links (LoadTemplate owner paths) state roots settings now answer said left uses =
-    rw uses.links_are (silent_links answer.ended _ uses.loaded.rest uses.state state.world.links uses.loaded.ends)
-tool_links (Run owner frontend priority command) state roots settings now answer said left uses = elim uses.0 [
-  | inl none ↦ unstarted_links command (begun (Run owner frontend priority command) state roots settings) state.world.links now state.code answer left none
-  | inr started ↦ started_links command (begun (Run owner frontend priority command) state roots settings) state.world.links now state.code answer left refl started
+tool_links : (used : Tool) (state : RunState) (roots : Roots) (settings : Settings) (now : Links) (answer : ToolAnswer) (said : List ℕ) (left : Resources) (saves : List Save)
+    → Uses used roots (begun used state roots settings) state.world.links now state.code answer said left saves → ToolLinks answer.ended state.world.links now
+tool_links (Communicate owner) state roots settings now answer said left saves uses =
+    communicated_links (begun (Communicate owner) state roots settings) state.world.links now state.code answer left saves refl uses.0 uses.1
+tool_links (LoadTemplate owner paths) state roots settings now answer said left saves uses =
+    rw uses.0.links_are (silent_links answer.ended _ uses.0.loaded.rest uses.0.state state.world.links uses.0.loaded.ends)
+tool_links (Run owner frontend priority command) state roots settings now answer said left saves uses = elim uses.0 [
+  | inl none ↦ unstarted_links command (begun (Run owner frontend priority command) state roots settings) state.world.links now state.code answer left saves none
+  | inr started ↦ started_links command (begun (Run owner frontend priority command) state roots settings) state.world.links now state.code answer left saves refl started
 ]
-tool_links (Show database shown) state roots settings now answer said left uses = printed_links _ answer.ended state.world.links now uses.0.prints uses.0.child_is
-tool_links (CopyDb copy) state roots settings now answer said left uses =
-    copy_links roots.copy (begun (CopyDb copy) state roots settings) state.world.links now state.code answer said left uses
-tool_links (SetSelections verbose check unseen) state roots settings now answer said left uses =
+tool_links (Show database shown) state roots settings now answer said left saves uses = printed_links _ answer.ended state.world.links now uses.0.prints uses.0.child_is
+tool_links (CopyDb copy) state roots settings now answer said left saves uses =
+    copy_links roots.copy (begun (CopyDb copy) state roots settings) state.world.links now state.code answer said left uses.0
+tool_links (SetSelections verbose check unseen) state roots settings now answer said left saves uses =
     taken_links (record { verbose = verbose; check = check; unseen = unseen }) (begun (SetSelections verbose check unseen) state roots settings) state.world.links now state.code answer left uses.0 uses.1
-tool_links GetSelections state roots settings now answer said left uses = printed_links _ answer.ended state.world.links now uses.prints uses.child_is
-tool_links (Drill count) state roots settings now answer said left uses = made_links uses.0.result answer.ended state.world.links now uses.0.prints uses.0.child_is
+tool_links GetSelections state roots settings now answer said left saves uses = printed_links _ answer.ended state.world.links now uses.0.prints uses.0.child_is
+tool_links (Drill count) state roots settings now answer said left saves uses = made_links uses.0.result answer.ended state.world.links now uses.0.prints uses.0.child_is
 
 -- ---- the end of the run
 
@@ -445,13 +458,15 @@ abbrev StartCounts : ToolEnd → ℕ → ℕ → Type 0
 StartCounts tool.ChildFault before now = Rose before now
 StartCounts ended before now = now ≡ before
 
-served_start : (served : LinkEnd StepError) (before now : ℕ) → now ≡ before → StartCounts (tool_end_of served) before now
+served_start : (served : LinkEnd SavingBreak) (before now : ℕ) → now ≡ before → StartCounts (tool_end_of served) before now
 served_start link.Done before now same = same
 served_start link.LinkFault before now same = same
 served_start link.TooLong before now same = same
 served_start link.OutOfMemory before now same = same
-served_start (link.Broken step.Term) before now same = same
-served_start (link.Broken step.OutOfMemory) before now same = same
+served_start (link.Broken (saving.Step step.Term)) before now same = same
+served_start (link.Broken (saving.Step step.OutOfMemory)) before now same = same
+served_start (link.Broken (saving.Save (save.Failed path))) before now same = same
+served_start (link.Broken (saving.Save save.OutOfMemory)) before now same = same
 
 silent_start : (ended : ToolEnd) (state : SessionState) (rest : List (List ℕ)) (new : SessionState) (count : ℕ) → EndsAt ended state rest new → StartCounts ended count count
 silent_start tool.Done state rest new count ends = refl
@@ -504,23 +519,23 @@ made_start : {E : Type 0} (made : Result (List ℕ) E) (ended : ToolEnd) (old ne
 made_start (Ok text) ended old new count prints = printed_start text ended old new count prints
 made_start (Err error) ended old new count none = rw none.0 refl
 
-tool_program : (used : Tool) (roots : Roots) (start : SessionState) (before now : Links) (code : ℕ) (answer : ToolAnswer) (said : List ℕ) (left : Resources)
-    → Uses used roots start before now code answer said left → StartCounts answer.ended before.child.program.failures now.child.program.failures
-tool_program (Communicate owner) roots start before now code answer said left uses = rw uses.0.ended_is (served_start uses.0.ended _ _ (ap (λ (c : LinkState). c.program.failures) uses.1))
-tool_program (LoadTemplate owner paths) roots start before now code answer said left uses =
-    rw uses.links_are (silent_start answer.ended _ uses.loaded.rest uses.state before.child.program.failures uses.loaded.ends)
-tool_program (Run owner frontend priority command) roots start before now code answer said left uses = elim uses.0 [
+tool_program : (used : Tool) (roots : Roots) (start : SessionState) (before now : Links) (code : ℕ) (answer : ToolAnswer) (said : List ℕ) (left : Resources) (saves : List Save)
+    → Uses used roots start before now code answer said left saves → StartCounts answer.ended before.child.program.failures now.child.program.failures
+tool_program (Communicate owner) roots start before now code answer said left saves uses = rw uses.0.ended_is (served_start uses.0.ended _ _ (ap (λ (c : LinkState). c.program.failures) uses.1))
+tool_program (LoadTemplate owner paths) roots start before now code answer said left saves uses =
+    rw uses.0.links_are (silent_start answer.ended _ uses.0.loaded.rest uses.0.state before.child.program.failures uses.0.loaded.ends)
+tool_program (Run owner frontend priority command) roots start before now code answer said left saves uses = elim uses.0 [
   | inl none ↦ rw none.ended_is (unstarted_program command none.error before.child now.child none.starts)
-  | inr started ↦ rw started.ended_is (served_start started.ended before.child.program.failures now.child.program.failures (ap (λ (p : Program). p.failures) started.served.program ∙ started.starts.began.failures))
+  | inr started ↦ rw started.ended_is (served_start started.ended before.child.program.failures now.child.program.failures (ap (λ (p : Program). p.failures) started.served.by.program ∙ started.starts.began.failures))
 ]
-tool_program (Show database shown) roots start before now code answer said left uses =
+tool_program (Show database shown) roots start before now code answer said left saves uses =
     subst (λ (c : LinkState). StartCounts answer.ended before.child.program.failures c.program.failures) (sym uses.0.child_is) (printed_start _ answer.ended before.io now.io before.child.program.failures uses.0.prints)
-tool_program (CopyDb copy) roots start before now code answer said left uses = copy_program roots.copy start before now code answer said left uses
-tool_program (SetSelections verbose check unseen) roots start before now code answer said left uses =
+tool_program (CopyDb copy) roots start before now code answer said left saves uses = copy_program roots.copy start before now code answer said left uses.0
+tool_program (SetSelections verbose check unseen) roots start before now code answer said left saves uses =
     rw uses.0.ended_is (taken_start uses.0.ended _ _ (ap (λ (c : LinkState). c.program.failures) uses.1))
-tool_program GetSelections roots start before now code answer said left uses =
-    subst (λ (c : LinkState). StartCounts answer.ended before.child.program.failures c.program.failures) (sym uses.child_is) (printed_start _ answer.ended before.io now.io before.child.program.failures uses.prints)
-tool_program (Drill count) roots start before now code answer said left uses =
+tool_program GetSelections roots start before now code answer said left saves uses =
+    subst (λ (c : LinkState). StartCounts answer.ended before.child.program.failures c.program.failures) (sym uses.0.child_is) (printed_start _ answer.ended before.io now.io before.child.program.failures uses.0.prints)
+tool_program (Drill count) roots start before now code answer said left saves uses =
     subst (λ (c : LinkState). StartCounts answer.ended before.child.program.failures c.program.failures) (sym uses.0.child_is) (made_start uses.0.result answer.ended before.io now.io before.child.program.failures uses.0.prints)
 
 module _ (layers used : List LayerState) (files new : FilesState) (before now : ℕ) where
@@ -591,7 +606,7 @@ module _ (used : Tool) (settings : Settings) (old new : World) (outcome : Outcom
       let run = as_used used settings old new outcome saves worked in
       awaited_links old.links run.links new.links run.io_is run.answer.is_started run.how outcome.end run.answer.status run.status run.awaits
       (ended_links run.left.layers new.stock.used run.left.files new.stock.files old.links run.links (keeps_changes used) run.answer.ended run.how run.finishes
-      (tool_links used (before_rounds (record old { stock = run.mid })) run.roots settings run.links run.answer run.told run.left run.uses))
+      (tool_links used (before_rounds (record old { stock = run.mid })) run.roots settings run.links run.answer run.told run.left run.inner run.uses))
 
   pub program_counted : (saves : List Save) → HasRunTool used settings old new outcome saves → ProgramCounts outcome.end old.links.child.program.failures new.links.child.program.failures
   program_counted saves (inl before) = subst (λ (l : Links). ProgramCounts outcome.end old.links.child.program.failures l.child.program.failures) (sym before.1.links_are)
@@ -600,4 +615,4 @@ module _ (used : Tool) (settings : Settings) (old new : World) (outcome : Outcom
       let run = as_used used settings old new outcome saves worked in
       awaited_program run.answer.is_started old.links.child.program.failures run.links.child new.links.child run.how outcome.end run.answer.status run.status run.awaits
       (ended_program run.left.layers new.stock.used run.left.files new.stock.files old.links.child.program.failures run.links.child.program.failures (keeps_changes used) run.answer.ended run.how run.finishes
-      (tool_program used run.roots (begun used (before_rounds (record old { stock = run.mid })) run.roots settings) old.links run.links 0 run.answer run.told run.left run.uses))
+      (tool_program used run.roots (begun used (before_rounds (record old { stock = run.mid })) run.roots settings) old.links run.links 0 run.answer run.told run.left run.inner run.uses))

@@ -4,16 +4,12 @@ use Rattle.std.specs.List.{AllByRecursion}
 use Rattle.std.specs.Prelude.{codes, fold, Result, Ok, Err}
 use Rattle.std.specs.Result.{result_unwrap_or}
 use Rattle.dc_words.specs.declared.stream.Line.{Line}
-use Rattle.dc_words.specs.declared.stream.Line.TheVariants.{Whole, TooLong}
 use Rattle.dc_outside.specs.Disk.{Disk, IsDurable}
 use Rattle.dc_outside.specs.Counts.{Counts}
 use Rattle.dc_outside.specs.State.{FilesView, LinkState}
 use Rattle.dc_outside.specs.declared.link.Piece.{Piece}
-use Rattle.dc_proto.specs.Commands.{heard}
 use Rattle.dc_proto.specs.declared.command.Command.{Command}
 use Rattle.dc_proto.specs.declared.command.Command.TheVariants.{LoadTemplateFile}
-use Rattle.dc_proto.specs.declared.command.Heard.{Heard}
-use Rattle.dc_proto.specs.declared.command.Heard.TheVariants.{Nothing, Known, Refused}
 use Rattle.dc_conf.specs.Configuration.{Configuration}
 use Rattle.dc_conf.specs.declared.spec.LayerSpec.{LayerSpec}
 use Rattle.dc_conf.proofs.AnswerLemmas.{sound_answer}
@@ -50,32 +46,34 @@ use Rattle.dc_shelf.specs.Shelves.{all_set_up, GoesOn, LoadsAll}
 use Rattle.dc_serve.specs.Execution.{Transition, state_after, IsExecution}
 use Rattle.dc_serve.specs.LinkRun.{Answered}
 use Rattle.dc_serve.specs.Said.{said, BreaksOff}
-use Rattle.dc_serve.specs.declared.machine.Response.{Response}
 use Rattle.dc_serve.specs.declared.outcome.LinkEnd.{LinkEnd}
 use Rattle.dc_serve.specs.declared.outcome.LinkEnd.TheVariants as link
 use Rattle.dc_session.specs.Answers.{CommandInputs, answer, after_command, names_on}
 use Rattle.dc_session.specs.Asking.{with_seen}
-use Rattle.dc_session.specs.Machine.{Handles, TakesLine, Steps, StepsHeard, Aborts, HasDone, GivesInPart, IsDoneInPart}
+use Rattle.dc_session.specs.Machine.{HasDone, GivesInPart, IsDoneInPart}
 use Rattle.dc_session.specs.declared.stepped.StepError.TheVariants as step
-use Rattle.dc_session.specs.Serving.{IsFinished, Finishes as FinishesSession, IsServed, Resources}
+use Rattle.dc_session.specs.Serving.{IsFinished, Finishes as FinishesSession, Resources}
 use Rattle.dc_outside.specs.State.{FilesState}
 use Rattle.dc_session.specs.SessionState.{SessionState}
 use Rattle.dc_session.specs.TemplateFiles.{Finds, FindsNoMemory}
-use Rattle.dc_session.specs.declared.stepped.StepError.{StepError}
-use Rattle.dc_session.specs.declared.stepped.Stepped.{Stepped}
 use Rattle.dc_session.specs.declared.template_files.Found.{Found}
 use Rattle.dc_session.specs.declared.template_files.Found.TheVariants.{Unreadable, Missing, Faulty, Templates}
-use Rattle.dc_session.proofs.DiskLaws.{breaks_reads, course_reads}
+use Rattle.dc_session.proofs.DiskLaws.{breaks_reads}
 use Rattle.dc_session.proofs.FrameLaws.{row_keeps, others_stay}
-use Rattle.dc_run.specs.Ends.{IsEnded, tool_end_of, comes_to_save, end_by, end_unwaited}
+use Rattle.dc_run.specs.Ends.{IsEnded, tool_end_of, comes_to_save, end_by, end_of, end_unwaited}
 use Rattle.dc_run.specs.Running.{Awaits}
 use Rattle.dc_run.specs.Finishing.{images_of}
 use Rattle.dc_run.specs.Jobs.{CopiesBy, HasTaken, Uses}
 use Rattle.dc_run.specs.Roots.{CopyRoots, Roots}
 use Rattle.dc_run.specs.Kills.{AllDone}
 use Rattle.dc_run.specs.Saves.{Save, AreSaves, Commits}
+use Rattle.dc_run.specs.SavingSession.{TakesSaving, BreaksSaving, IsServedSaving, saves_in, broken_save}
+use Rattle.dc_run.specs.declared.saving_session.SavingBreak.{SavingBreak}
+use Rattle.dc_run.specs.declared.saving_session.SavingBreak.TheVariants as saving
 use Rattle.dc_run.specs.Starting.{conf_text, IsConfiguration, EndsBefore, HasLoaded, HasReadConf, databases_of, has_files, keeps_changes, roots}
 use Rattle.dc_run.proofs.KindLemmas.{Kind, kind_of, specs_in, same_specs}
+use Rattle.dc_run.proofs.Kills.{saves_joined, done_joined, each_joined}
+use Rattle.dc_run.proofs.SavingLemmas.{IsOfKinds, specs_of, lines_keep, lines_save, saves_done, saves_kept}
 use Rattle.dc_run.proofs.SelectionLemmas.{selections_keep}
 use Rattle.dc_cli.specs.Tools.{Names}
 use Rattle.dc_run.specs.TemplateLoading.{FileTurn, IsFileTurn, IsFileCourse, state_after as file_state, EndsAt}
@@ -221,28 +219,6 @@ set_up_for (layer ∷ layers) (spec ∷ specs) e =
     let here : kind_of layer ≡ (spec.sort, Some spec) = first_kind _ _ _ _ e in
     ((ap (λ (k : Kind). k.1) here, ap (λ (k : Kind). k.0) here), set_up_for layers specs (other_kinds _ _ _ _ e))
 
-abbrev specs_of : SessionState → List Kind
-specs_of state = specs_in state.store.layers
-
-heard_keeps : (said : Heard) (old new : SessionState) (did : Stepped) → StepsHeard said old did new → specs_of new ≡ specs_of old
-heard_keeps Nothing old new did steps = ap specs_of steps.1
-heard_keeps (Known command) old new did steps = same_specs (names_on old command steps.given) old.store.layers new.store.layers (others_stay command old new did steps)
-heard_keeps (Refused reply) old new did steps = ap specs_of steps.1
-
-steps_keep : (old new : SessionState) (line : Line) (did : Stepped) → Steps old line did new → specs_of new ≡ specs_of old
-steps_keep old new TooLong did steps = ap specs_of steps.1
-steps_keep old new (Whole line) did steps = heard_keeps (heard old.asking.escape line) old new did steps
-
-heeds_keep : (old new : SessionState) (line : Line) (did : Response) → Handles old line did new → specs_of new ≡ specs_of old
-heeds_keep old new line did steps = steps_keep old new line steps.stepped steps.steps
-
-takes_keep : (old new : SessionState) (line : Line) (did : Response) → TakesLine old line did new → specs_of new ≡ specs_of old
-takes_keep old new line did takes = ap specs_of takes.tells.new_is ∙ heeds_keep old takes.mid line did takes.handled
-
-course_keeps : (start : SessionState) (turns : List (Transition SessionState)) → IsExecution TakesLine start turns → specs_of (state_after start turns) ≡ specs_of start
-course_keeps start [] is = refl
-course_keeps start (turn ∷ turns) is = course_keeps turn.new turns is.2 ∙ takes_keep start turn.new turn.line turn.did is.0
-
 last_after : (start : SessionState) (gone : List (Transition SessionState)) (last : Transition SessionState) → state_after start (gone ++ last ∷ []) ≡ last.new
 last_after start [] last = refl
 last_after start (turn ∷ gone) last = last_after turn.new gone last
@@ -256,25 +232,55 @@ module _ (start new : SessionState) (turns : List (Transition SessionState)) (re
   broken_off (inr unsaid) = behind unsaid.gone unsaid.last unsaid.turns_are unsaid.state_is
 
   -- the state is the one that the turns leave, where the layers are saved
-  pub state_left : (ended : LinkEnd StepError) → IsEnded (tool_end_of ended) → Answered Aborts ended start turns rest talk input before new code → new ≡ state_after start turns
+  pub state_left : (ended : LinkEnd SavingBreak) → IsEnded (tool_end_of ended) → Answered BreaksSaving ended start turns rest talk input before new code → new ≡ state_after start turns
   state_left link.Done is answered = answered.are_said.state_is
   state_left link.LinkFault is (inl lost) = lost.answered.are_said.state_is
   state_left link.LinkFault is (inr cut) = behind cut.answered.gone cut.answered.last cut.answered.turns_are cut.answered.state_is
   state_left link.TooLong is answered = answered.answered.are_said.state_is
   state_left link.OutOfMemory is answered = absurd is
-  state_left (link.Broken step.Term) is answered = absurd is
-  state_left (link.Broken step.OutOfMemory) is answered = absurd is
+  state_left (link.Broken (saving.Step step.Term)) is answered = absurd is
+  state_left (link.Broken (saving.Step step.OutOfMemory)) is answered = absurd is
+  state_left (link.Broken (saving.Save (save.Failed path))) is answered = absurd is
+  state_left (link.Broken (saving.Save save.OutOfMemory)) is answered = absurd is
 
-  reads_to : IsExecution TakesLine start turns → new ≡ state_after start turns → new.files.view.disk ≡ start.files.view.disk
-  reads_to course is = ap (λ (s : SessionState). s.files.view.disk) is ∙ course_reads start turns course
+  left_so : new ≡ state_after start turns → new.files.view.disk ≡ (state_after start turns).files.view.disk
+  left_so is = ap (λ (s : SessionState). s.files.view.disk) is
 
-  -- at each end the session has only read files
-  session_reads : IsExecution TakesLine start turns → (ended : LinkEnd StepError) → Answered Aborts ended start turns rest talk input before new code → new.files.view.disk ≡ start.files.view.disk
-  session_reads course link.Done answered = reads_to course (state_left link.Done tt answered)
-  session_reads course link.LinkFault answered = reads_to course (state_left link.LinkFault tt answered)
-  session_reads course link.TooLong answered = reads_to course (state_left link.TooLong tt answered)
-  session_reads course link.OutOfMemory answered = reads_to course (broken_off answered)
-  session_reads course (link.Broken error) answered = breaks_reads (state_after start turns) new answered.line error answered.broke ∙ course_reads start turns course
+  -- behind the last turn only the save at which the session broke off changes the disk
+  last_saves : (ended : LinkEnd SavingBreak) → Answered BreaksSaving ended start turns rest talk input before new code
+      → AreSaves (state_after start turns).files.view.disk (broken_save ended (state_after start turns) new) new.files.view.disk
+  last_saves link.Done answered = left_so (state_left link.Done tt answered)
+  last_saves link.LinkFault answered = left_so (state_left link.LinkFault tt answered)
+  last_saves link.TooLong answered = left_so (state_left link.TooLong tt answered)
+  last_saves link.OutOfMemory answered = left_so (broken_off answered)
+  last_saves (link.Broken (saving.Step error)) answered = breaks_reads (state_after start turns) new answered.line error answered.broke
+  last_saves (link.Broken (saving.Save error)) answered = (refl, answered.broke.is, (λ failed. refl), refl)
+
+  -- the saves of the session alone change the disk
+  pub session_saves : IsExecution TakesSaving start turns → (ended : LinkEnd SavingBreak) → Answered BreaksSaving ended start turns rest talk input before new code
+      → AreSaves start.files.view.disk (saves_in start turns ++ broken_save ended (state_after start turns) new) new.files.view.disk
+  session_saves course ended answered =
+      saves_joined start.files.view.disk (state_after start turns).files.view.disk new.files.view.disk (saves_in start turns) (broken_save ended (state_after start turns) new)
+      (lines_save start turns course) (inl (saves_done start turns)) (last_saves ended answered)
+
+-- where the layers are saved at the end the session broke off at no save
+none_broken : (ended : LinkEnd SavingBreak) → IsEnded (tool_end_of ended) → (old new : SessionState) → AllDone (broken_save ended old new)
+none_broken link.Done is old new = tt
+none_broken link.LinkFault is old new = tt
+none_broken link.TooLong is old new = tt
+none_broken link.OutOfMemory is old new = tt
+none_broken (link.Broken (saving.Step error)) is old new = tt
+none_broken (link.Broken (saving.Save (save.Failed path))) is old new = absurd is
+none_broken (link.Broken (saving.Save save.OutOfMemory)) is old new = absurd is
+
+-- and one at which it did is of layers of the same databases
+broken_kept : (ended : LinkEnd SavingBreak) (old new : SessionState) (kinds : List Kind) → specs_of old ≡ kinds → AllByRecursion (IsOfKinds kinds) (broken_save ended old new)
+broken_kept link.Done old new kinds is = tt
+broken_kept link.LinkFault old new kinds is = tt
+broken_kept link.TooLong old new kinds is = tt
+broken_kept link.OutOfMemory old new kinds is = tt
+broken_kept (link.Broken (saving.Step error)) old new kinds is = tt
+broken_kept (link.Broken (saving.Save error)) old new kinds is = (is, tt)
 
 -- ---- a session that is finished
 
@@ -298,23 +304,23 @@ all_seen_keep at store [] = refl
 all_seen_keep at store (name ∷ names) = all_seen_keep at (with_seen at store name) names ∙ seen_keeps at store name
 
 module _ (state : SessionState) (left : Resources) where
-  finished_keeps : (served ended : LinkEnd StepError) → IsFinished state served left ended → specs_in left.layers ≡ specs_of state
+  finished_keeps : (served ended : LinkEnd SavingBreak) → IsFinished state served left ended → specs_in left.layers ≡ specs_of state
   finished_keeps served ended (inl all) = ap specs_in all.0 ∙ all_seen_keep state.at state.store state.asking.asked
   finished_keeps served ended (inr none) = same_specs state.asking.asked state.store.layers left.layers none.0
 
-  session_keeps : (served ended : LinkEnd StepError) → FinishesSession served state left ended → specs_in left.layers ≡ specs_of state
+  session_keeps : (served ended : LinkEnd SavingBreak) → FinishesSession served state left ended → specs_in left.layers ≡ specs_of state
   session_keeps link.Done ended finishes = finished_keeps link.Done ended finishes
   session_keeps link.LinkFault ended finishes = finished_keeps link.LinkFault ended finishes
   session_keeps link.TooLong ended finishes = finished_keeps link.TooLong ended finishes
   session_keeps link.OutOfMemory ended finishes = ap specs_in finishes.0
   session_keeps (link.Broken error) ended finishes = ap specs_in finishes.0
 
-no_memory_left : (ended : LinkEnd StepError) → ended ≡ link.OutOfMemory → IsEnded (tool_end_of ended) → ⊥
-no_memory_left ended is done = subst (λ (e : LinkEnd StepError). IsEnded (tool_end_of e)) is done
+no_memory_left : (ended : LinkEnd SavingBreak) → ended ≡ link.OutOfMemory → IsEnded (tool_end_of ended) → ⊥
+no_memory_left ended is done = subst (λ (e : LinkEnd SavingBreak). IsEnded (tool_end_of e)) is done
 
 -- a session after which the layers are saved was served to such an end
-was_served : (served ended : LinkEnd StepError) → (ended ≡ served) ⊎ (ended ≡ link.OutOfMemory) → IsEnded (tool_end_of ended) → IsEnded (tool_end_of served)
-was_served served ended (inl same) done = subst (λ (e : LinkEnd StepError). IsEnded (tool_end_of e)) same done
+was_served : (served ended : LinkEnd SavingBreak) → (ended ≡ served) ⊎ (ended ≡ link.OutOfMemory) → IsEnded (tool_end_of ended) → IsEnded (tool_end_of served)
+was_served served ended (inl same) done = subst (λ (e : LinkEnd SavingBreak). IsEnded (tool_end_of e)) same done
 was_served served ended (inr none) done = absurd (no_memory_left ended none done)
 
 -- ---- template files
@@ -381,59 +387,82 @@ end_keeps tool.ChildFault is state rest new ends = absurd is
 
 -- ---- tools
 
--- A tool only reads files, and where they are saved its layers stay those of their databases.
-pub record KeepsAll (saves : Bool) (start : SessionState) (ended : ToolEnd) (layers : List LayerState) (files : FilesState) : Type 0 where
-  pub disk : files.view.disk ≡ start.files.view.disk
+-- The saves of a tool in its middle alone change the disk, each is of layers of its databases, and where the tool then comes to its end all are done,
+-- and its layers stay those of their databases.
+pub record KeepsAll (saves : Bool) (start : SessionState) (ended : ToolEnd) (layers : List LayerState) (files : FilesState) (inner : List Save) : Type 0 where
+  pub are : AreSaves start.files.view.disk inner files.view.disk
+  pub kept : AllByRecursion (IsOfKinds (specs_of start)) inner
+  pub done : IsEnded ended → AllDone inner
   pub specs : saves ≡ true → IsEnded ended → specs_in layers ≡ specs_of start
 
-served_keeps : (start : SessionState) (old new : LinkState) (before : ℕ) (given : ToolAnswer) (left : Resources) (ended : LinkEnd StepError) → given.ended ≡ tool_end_of ended
-    → IsServed start left old new ended before given.last_code → KeepsAll true start given.ended left.layers left.files
-served_keeps start old new before given left ended ended_is served =
+served_keeps : (start : SessionState) (old new : LinkState) (before : ℕ) (given : ToolAnswer) (left : Resources) (ended : LinkEnd SavingBreak) (saves : List Save) → given.ended ≡ tool_end_of ended
+    → IsServedSaving start left old new ended before given.last_code saves → KeepsAll true start given.ended left.layers left.files saves
+served_keeps start old new before given left ended saves ended_is is =
+    let served = is.by in
     let ran = served.ran in
+    let mid = state_after start ran.transitions in
+    let behind : List Save = broken_save served.served mid served.state in
+    let done : IsEnded given.ended → IsEnded (tool_end_of served.served) = λ to. was_served served.served ended (ends_so served.served served.state left ended served.finishes) (subst IsEnded ended_is to) in
+    let saved_so : AreSaves start.files.view.disk (saves_in start ran.transitions ++ behind) served.state.files.view.disk
+    = session_saves start served.state ran.transitions ran.rest ran.pieces old.input before given.last_code ran.course served.served ran.answered in
     record {
-      disk = ap (λ (f : FilesState). f.view.disk) served.files_are ∙ session_reads start served.state ran.transitions ran.rest ran.pieces old.input before given.last_code ran.course served.served ran.answered;
-      specs = λ saves is.
-          let done : IsEnded (tool_end_of served.served) = was_served served.served ended (ends_so served.served served.state left ended served.finishes) (subst IsEnded ended_is is) in
+      are = subst (λ (l : List Save). AreSaves start.files.view.disk l left.files.view.disk) (sym is.saves_are)
+          (subst (λ (f : FilesState). AreSaves start.files.view.disk (saves_in start ran.transitions ++ behind) f.view.disk) (sym served.files_are) saved_so);
+      kept = subst (AllByRecursion (IsOfKinds (specs_of start))) (sym is.saves_are)
+          (each_joined (IsOfKinds (specs_of start)) (saves_in start ran.transitions) behind (saves_kept start ran.transitions ran.course (specs_of start) refl)
+          (broken_kept served.served mid served.state (specs_of start) (lines_keep start ran.transitions ran.course)));
+      done = λ to. subst AllDone (sym is.saves_are) (done_joined (saves_in start ran.transitions) behind (saves_done start ran.transitions) (none_broken served.served (done to) mid served.state));
+      specs = λ saves to.
           session_keeps served.state left served.served ended served.finishes
-          ∙ ap specs_of (state_left start served.state ran.transitions ran.rest ran.pieces old.input before given.last_code served.served done ran.answered)
-          ∙ course_keeps start ran.transitions ran.course;
+          ∙ ap specs_of (state_left start served.state ran.transitions ran.rest ran.pieces old.input before given.last_code served.served (done to) ran.answered)
+          ∙ lines_keep start ran.transitions ran.course;
     }
 
-copy_keeps : (found : Option CopyRoots) (start : SessionState) (old new : Links) (before : ℕ) (given : ToolAnswer) (told : List ℕ) (left : Resources) → CopiesBy found start old new before given told left
-    → KeepsAll true start given.ended left.layers left.files
-copy_keeps None start old new before given told left none = absurd none
-copy_keeps (Some copy) start old new before given told left is =
-    record { disk = ap (λ (l : Resources). l.files.view.disk) is.left_is; specs = λ saves ended. same_specs (names start.store.layers start.at.config) start.store.layers left.layers is.others }
+-- a tool that makes no save in its middle
+module _ (keeps : Bool) (start : SessionState) (ended : ToolEnd) (layers : List LayerState) (files : FilesState) (inner : List Save) (none : inner ≡ []) (same : files.view.disk ≡ start.files.view.disk) where
+  none_made : (keeps ≡ true → IsEnded ended → specs_in layers ≡ specs_of start) → KeepsAll keeps start ended layers files inner
+  none_made specs = record {
+    are = subst (λ (l : List Save). AreSaves start.files.view.disk l files.view.disk) (sym none) same;
+    kept = subst (AllByRecursion (IsOfKinds (specs_of start))) (sym none) tt;
+    done = λ is. subst AllDone (sym none) tt;
+    specs = specs;
+  }
 
-taken_keeps : (saves : Bool) (choices : Choices) (start : SessionState) (old new : LinkState) (before : ℕ) (given : ToolAnswer) (left : Resources) → HasTaken choices start old new before given left → KeepsAll saves start given.ended left.layers left.files
-taken_keeps saves choices start old new before given left is = record {
-  disk = ap (λ (l : Resources). l.files.view.disk) is.left_is;
-  specs = λ saved ended. ap (λ (l : Resources). specs_in l.layers) is.left_is
-      ∙ selections_keep (selections_over start.store.layers start.at choices start.err) is.state old new is.ended before given.last_code is.selected (subst IsEnded is.ended_is ended);
-}
+copy_keeps : (found : Option CopyRoots) (start : SessionState) (old new : Links) (before : ℕ) (given : ToolAnswer) (told : List ℕ) (left : Resources) (inner : List Save) → CopiesBy found start old new before given told left → inner ≡ []
+    → KeepsAll true start given.ended left.layers left.files inner
+copy_keeps None start old new before given told left inner none saves_are = absurd none
+copy_keeps (Some copy) start old new before given told left inner is saves_are =
+    none_made true start given.ended left.layers left.files inner saves_are (ap (λ (l : Resources). l.files.view.disk) is.left_is)
+    (λ saves ended. same_specs (names start.store.layers start.at.config) start.store.layers left.layers is.others)
 
-pub tool_keeps : (used : Tool) (roots : Roots) (start : SessionState) (old new : Links) (before : ℕ) (given : ToolAnswer) (told : List ℕ) (left : Resources) → Uses used roots start old new before given told left
-    → KeepsAll (keeps_changes used) start given.ended left.layers left.files
-tool_keeps (Communicate owner) roots start old new before given told left uses = served_keeps start old.io new.io before given left uses.0.ended uses.0.ended_is uses.0.served
-tool_keeps (LoadTemplate owner paths) roots start old new before given told left uses =
-    let loads = uses.loaded in
-    record {
-      disk = ap (λ (l : Resources). l.files.view.disk) uses.left_is ∙ end_reads given.ended (file_state start loads.turns) loads.rest uses.state loads.ends ∙ files_read start loads.turns loads.course;
-      specs = λ saves is. ap (λ (l : Resources). specs_in l.layers) uses.left_is ∙ end_keeps given.ended is (file_state start loads.turns) loads.rest uses.state loads.ends ∙ files_keep start loads.turns loads.course;
-    }
-tool_keeps (Run owner frontend priority command) roots start old new before given told left uses = elim uses.0 [
-  | inl none ↦ record { disk = ap (λ (l : Resources). l.files.view.disk) none.left_is; specs = λ saves is. ap (λ (l : Resources). specs_in l.layers) none.left_is }
-  | inr started ↦ served_keeps start started.mid new.child before given left started.ended started.ended_is started.served
+taken_keeps : (saves : Bool) (choices : Choices) (start : SessionState) (old new : LinkState) (before : ℕ) (given : ToolAnswer) (left : Resources) (inner : List Save) → HasTaken choices start old new before given left → inner ≡ []
+    → KeepsAll saves start given.ended left.layers left.files inner
+taken_keeps saves choices start old new before given left inner is saves_are =
+    none_made saves start given.ended left.layers left.files inner saves_are (ap (λ (l : Resources). l.files.view.disk) is.left_is)
+    (λ saved ended. ap (λ (l : Resources). specs_in l.layers) is.left_is
+    ∙ selections_keep (selections_over start.store.layers start.at choices start.err) is.state old new is.ended before given.last_code is.selected (subst IsEnded is.ended_is ended))
+
+pub tool_keeps : (used : Tool) (roots : Roots) (start : SessionState) (old new : Links) (before : ℕ) (given : ToolAnswer) (told : List ℕ) (left : Resources) (inner : List Save) → Uses used roots start old new before given told left inner
+    → KeepsAll (keeps_changes used) start given.ended left.layers left.files inner
+tool_keeps (Communicate owner) roots start old new before given told left inner uses = served_keeps start old.io new.io before given left uses.0.ended inner uses.0.ended_is uses.0.served
+tool_keeps (LoadTemplate owner paths) roots start old new before given told left inner uses =
+    let loads = uses.0.loaded in
+    none_made true start given.ended left.layers left.files inner uses.1
+    (ap (λ (l : Resources). l.files.view.disk) uses.0.left_is ∙ end_reads given.ended (file_state start loads.turns) loads.rest uses.0.state loads.ends ∙ files_read start loads.turns loads.course)
+    (λ saves is. ap (λ (l : Resources). specs_in l.layers) uses.0.left_is ∙ end_keeps given.ended is (file_state start loads.turns) loads.rest uses.0.state loads.ends ∙ files_keep start loads.turns loads.course)
+tool_keeps (Run owner frontend priority command) roots start old new before given told left inner uses = elim uses.0 [
+  | inl none ↦ none_made true start given.ended left.layers left.files inner none.saves_are (ap (λ (l : Resources). l.files.view.disk) none.left_is) (λ saves is. ap (λ (l : Resources). specs_in l.layers) none.left_is)
+  | inr started ↦ served_keeps start started.mid new.child before given left started.ended inner started.ended_is started.served
 ]
-tool_keeps (Show database shown) roots start old new before given told left uses =
-    record { disk = ap (λ (l : Resources). l.files.view.disk) uses.0.left_is; specs = λ saves is. ap (λ (l : Resources). specs_in l.layers) uses.0.left_is }
-tool_keeps (CopyDb copy) roots start old new before given told left uses = copy_keeps roots.copy start old new before given told left uses
-tool_keeps (SetSelections verbose check unseen) roots start old new before given told left uses =
-    taken_keeps (not check) (record { verbose = verbose; check = check; unseen = unseen }) start old.io new.io before given left uses.0
-tool_keeps GetSelections roots start old new before given told left uses =
-    record { disk = ap (λ (l : Resources). l.files.view.disk) uses.left_is; specs = λ saves is. ap (λ (l : Resources). specs_in l.layers) uses.left_is }
-tool_keeps (Drill count) roots start old new before given told left uses =
-    record { disk = ap (λ (l : Resources). l.files.view.disk) uses.0.left_is; specs = λ saves is. cc }
+tool_keeps (Show database shown) roots start old new before given told left inner uses =
+    none_made (keeps_changes (Show database shown)) start given.ended left.layers left.files inner uses.2 (ap (λ (l : Resources). l.files.view.disk) uses.0.left_is) (λ saves is. ap (λ (l : Resources). specs_in l.layers) uses.0.left_is)
+tool_keeps (CopyDb copy) roots start old new before given told left inner uses = copy_keeps roots.copy start old new before given told left inner uses.0 uses.1
+tool_keeps (SetSelections verbose check unseen) roots start old new before given told left inner uses =
+    taken_keeps (not check) (record { verbose = verbose; check = check; unseen = unseen }) start old.io new.io before given left inner uses.0 uses.3
+tool_keeps GetSelections roots start old new before given told left inner uses =
+    none_made (keeps_changes GetSelections) start given.ended left.layers left.files inner uses.1 (ap (λ (l : Resources). l.files.view.disk) uses.0.left_is) (λ saves is. ap (λ (l : Resources). specs_in l.layers) uses.0.left_is)
+tool_keeps (Drill count) roots start old new before given told left inner uses =
+    none_made (keeps_changes (Drill count)) start given.ended left.layers left.files inner uses.2 (ap (λ (l : Resources). l.files.view.disk) uses.0.left_is) (λ saves is. cc)
 
 -- ---- the save of a round
 
@@ -466,7 +495,24 @@ saved_then tool.ChildFault (Err save.OutOfMemory) is = cc
 saved_then tool.OutOfMemory (Err save.OutOfMemory) is = cc
 saved_then (tool.FilesFault fault) (Err save.OutOfMemory) is = cc
 
+of_done : (ended : ToolEnd) → end_of ended ≡ end.Done → IsEnded ended
+of_done tool.Done is = tt
+of_done tool.LinkFault is = tt
+of_done tool.TooLong is = tt
+of_done tool.PrintFault is = cc
+of_done tool.TermFault is = cc
+of_done tool.ChildFault is = cc
+of_done tool.OutOfMemory is = cc
+of_done (tool.FilesFault path) is = cc
+
 module _ (left new : Stock) (last : List Save) (how : End) (ended : ToolEnd) where
+  -- a round that did all was one of a tool that did
+  pub ended_all : (saves : Bool) → Commits saves ended left new last how → how ≡ end.Done → IsEnded ended
+  ended_all true has done =
+      let all : end_by ended has.answer ≡ end.Done = sym has.end_is ∙ done in
+      of_done ended (ap (end_by ended) (sym (saved_then ended has.answer all)) ∙ all)
+  ended_all false has done = of_done ended (sym has.end_is ∙ done)
+
   -- what is said of the layers that are saved is said of each save
   pub each_save : (Of : List LayerState → Type 0) (saves : Bool) → Commits saves ended left new last how → (saves ≡ true → Of left.used) → AllByRecursion (λ save. Of save.layers) last
   each_save Of true has of = subst (AllByRecursion (λ (save : Save). Of save.layers)) (sym has.saves_are) (of refl, tt)

@@ -2,6 +2,7 @@
 use Rattle.std.proofs.Common.{◌≡◌, ◌≢◌, ◌⊎◌, inl, inr, ⊎_elim, List, [], ◌∷◌, ◌++◌, Option, Some, refl, sym, ap, subst, ◌∙◌, arith}
 use Rattle.std.specs.Prelude.{Result, Ok, Err}
 use Rattle.std.specs.Option.{option_map}
+use Rattle.std.specs.List.{AllByRecursion}
 use Rattle.dc_outside.specs.Disk.{Disk, DiskState, IsDurable, moment, HasLeftMore, then_stands}
 use Rattle.dc_outside.specs.Steps.{Step, after_step, done}
 use Rattle.dc_outside.specs.State.{FilesView}
@@ -93,7 +94,7 @@ pub record IsOver (before after : Disk) (over later : List Save) (since : Disk) 
   pub durable : IsDurable since.current
   pub stands : since.current ≡ all_saved before.current (images_in over)
 
-over_then : (over later : List Save) (before after since : Disk) → AreSaves (Some before) (over ++ later) (Some after) → AllDone over → IsDurable before.current → disk_after (Some before) over ≡ Some since → IsOver before after over later since
+pub over_then : (over later : List Save) (before after since : Disk) → AreSaves (Some before) (over ++ later) (Some after) → AllDone over → IsDurable before.current → disk_after (Some before) over ≡ Some since → IsOver before after over later since
 over_then [] later before after since are done durable at =
     let same : since ≡ before = sym (same_some before since at) in
     record {
@@ -121,3 +122,26 @@ keeps_saves saves before after are durable over later split done since at =
       durable = now.durable;
       stands = now.stands;
     }
+
+-- ---- some saves behind others
+
+-- of which all were done, or that none follow
+pub saves_joined : (old mid new : Option Disk) (saves more : List Save) → AreSaves old saves mid → AllDone saves ⊎ (more ≡ []) → AreSaves mid more new → AreSaves old (saves ++ more) new
+saves_joined old mid new [] more are done later = subst (λ (d : Option Disk). AreSaves d more new) are later
+saves_joined old mid new (save ∷ saves) more are (inl done) later =
+    (are.0, are.1, (λ failed. absurd (failed done.0)), saves_joined save.after.view.disk mid new saves more are.3 (inl done.1) later)
+saves_joined old mid new (save ∷ saves) more are (inr none) later =
+    (are.0, are.1, (λ failed. ap (λ (l : List Save). l ++ more) (are.2 failed) ∙ none), saves_joined save.after.view.disk mid new saves more are.3 (inr none) later)
+
+pub done_joined : (saves more : List Save) → AllDone saves → AllDone more → AllDone (saves ++ more)
+done_joined [] more done later = later
+done_joined (save ∷ saves) more done later = (done.0, done_joined saves more done.1 later)
+
+-- what is said of each is said of all
+pub each_joined : (Of : Save → Type 0) (saves more : List Save) → AllByRecursion Of saves → AllByRecursion Of more → AllByRecursion Of (saves ++ more)
+each_joined Of [] more are later = later
+each_joined Of (save ∷ saves) more are later = (are.0, each_joined Of saves more are.1 later)
+
+pub each_mapped : (One Other : Save → Type 0) → ((save : Save) → One save → Other save) → (saves : List Save) → AllByRecursion One saves → AllByRecursion Other saves
+each_mapped One Other step [] are = tt
+each_mapped One Other step (save ∷ saves) are = (step save are.0, each_mapped One Other step saves are.1)

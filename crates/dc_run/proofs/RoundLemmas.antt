@@ -2,7 +2,7 @@
 use Rattle.std.proofs.Common.{◌≡◌, ◌≢◌, ◌&&◌, ℕ, Bool, true, false, List, [], ◌∷◌, ◌++◌, refl, sym, ap, subst, ◌∙◌, max, arith, map as each}
 use Rattle.std.specs.Prelude.{Result, Ok, Err, MatchResult}
 use Rattle.std.proofs.lemmas.List.{append-nil}
-use Rattle.dc_layer.specs.State.{saved}
+use Rattle.dc_layer.specs.State.{LayerState, saved}
 use Rattle.dc_save.specs.Saving.{Saves, SaveCounts}
 use Rattle.dc_save.specs.declared.saving.SaveError.{SaveError}
 use Rattle.dc_run.specs.declared.outcome.End.{End}
@@ -27,17 +27,19 @@ none_most n = omega arith
 
 -- ---- the save
 
+-- what a save left of the layers, by its answer
+pub kept_marked : (layers used : List LayerState) (given : Result (Unit {0}) SaveError) → MatchResult given (λ _. used ≡ each saved layers) (λ _. used ≡ layers) → used ≡ kept_by given layers
+kept_marked layers used (Ok done) is = is
+kept_marked layers used (Err error) is = is
+
 pub committed : (saves : Bool) (ended : ToolEnd) (how : End) (left new : Stock) (given : Result (Unit {0}) SaveError) → saves ≡ true → Saves (Rattle.dc_run.specs.Finishing.images_of left.used) left.files.view new.files.view given
     → SaveCounts left.files.view new.files.view given left.files.counts new.files.counts → MatchResult given (λ _. new.used ≡ each saved left.used) (λ _. new.used ≡ left.used) → how ≡ end_by ended given
     → (last : List Save) × Commits saves ended left new last how
 committed false ended how left new given is saves counts marked end_is = absurd (cc)
 committed true ended how left new given is saves counts marked end_is = (
   (record { layers = left.used; before = left.files; after = new.files; answer = given }) ∷ [],
-  record { answer = given; saves_are = refl; is = record { saves = saves; counts = counts }; used_is = kept given marked; end_is = end_is },
-) where
-  kept : (answer : Result (Unit {0}) SaveError) → MatchResult answer (λ _. new.used ≡ each saved left.used) (λ _. new.used ≡ left.used) → new.used ≡ kept_by answer left.used
-  kept (Ok done) is = is
-  kept (Err error) is = is
+  record { answer = given; saves_are = refl; is = record { saves = saves; counts = counts }; used_is = kept_marked left.used new.used given marked; end_is = end_is },
+)
 
 -- what is said of the save by how the tool ended
 marked : (left new : Stock) (given : Result (Unit {0}) SaveError) → new.used ≡ kept_by given left.used → MatchResult given (λ _. new.used ≡ each saved left.used) (λ _. new.used ≡ left.used)

@@ -1,19 +1,19 @@
 -- What a run of a tool comes to.
-use Rattle.std.proofs.Common.{◌≡◌, ◌⊎◌, ◌&&◌, Bool, inl, inr, ℕ, ◌<◌, false, List, [], ◌∷◌, ◌++◌, length, Option, Some, Ok, refl, sym, subst, ap, ◌∙◌, arith}
+use Rattle.std.proofs.Common.{◌≡◌, ◌⊎◌, ◌&&◌, Bool, inl, inr, ℕ, ◌<◌, true, false, List, [], ◌∷◌, ◌++◌, length, Option, Some, Ok, Err, refl, sym, subst, ap, ◌∙◌, arith}
 use Rattle.dc_outside.specs.LinkCalls.{Starts}
+use Rattle.dc_outside.specs.declared.link.LinkError.{LinkError}
 use Rattle.dc_layer.specs.State.{LayerState}
 use Rattle.dc_frontend.specs.declared.frontend.Frontend.{Frontend}
 use Rattle.dc_frontend.specs.declared.frontend.Frontend.TheVariants.{Noninteractive}
 use Rattle.dc_proto.specs.declared.priority.Priority.{Priority}
 use Rattle.dc_serve.specs.declared.outcome.LinkEnd.{LinkEnd}
 use Rattle.dc_serve.specs.declared.outcome.LinkEnd.TheVariants as link
-use Rattle.dc_session.specs.Serving.{IsFinished, Finishes as FinishesSession, IsServed, Resources, resources_in, resources_of}
+use Rattle.dc_session.specs.Serving.{IsFinished, Finishes as FinishesSession, Resources, resources_in, resources_of}
 use Rattle.dc_drill.specs.Drilling.{Drills}
 use Rattle.std.specs.Prelude.{codes, Result}
 use Rattle.dc_outside.specs.State.{FilesState, LinkState}
 use Rattle.dc_session.specs.SessionState.{SessionState, TerminalState, nothing_typed, nowhere, terminal_at}
 use Rattle.dc_session.specs.declared.stepped.StepError.{StepError}
-use Rattle.dc_session.specs.declared.stepped.StepError.TheVariants as step
 use Rattle.dc_cli.specs.Tools.{AreRefusedAt, IsToolWords, Names, NamesTool, IsCommand, owner_of}
 use Rattle.dc_cli.specs.declared.tool.Tool.{Tool}
 use Rattle.dc_cli.specs.declared.tool.Tool.TheVariants.{Communicate, LoadTemplate, Run, Show, CopyDb, SetSelections, GetSelections, Drill}
@@ -33,8 +33,10 @@ use Rattle.dc_run.specs.Jobs.{HasCommunicated, CopiesBy, answers_said, refused_s
 use Rattle.dc_run.specs.Rounds.{Whole, Round, HasDone}
 use Rattle.dc_teletype.specs.TerminalLines.{TypeAhead}
 use Rattle.dc_run.specs.Saves.{Save, Commits}
+use Rattle.dc_run.specs.SavingSession.{IsServedSaving}
+use Rattle.dc_run.specs.declared.saving_session.SavingBreak.{SavingBreak}
 use Rattle.dc_run.specs.Inside.{HasCommand, HasLoadedOver, HasServedProgram, HasPrinted, HasPrintedAnswers, DrillsOver, HasTakenOver, HasDrilledOver, CopiesOver, context_by}
-use Rattle.dc_run.specs.Running.{HasRunProgram, Awaits}
+use Rattle.dc_run.specs.Running.{HasRunProgram, Awaits, end_unstarted}
 use Rattle.dc_run.specs.Starting.{EndsBefore, HasStarted, begun, chosen, chosen_frontend, chosen_priority, keeps_changes, resources_for, session_at}
 use Rattle.dc_run.specs.World.{Links, Stock, World, RunState, before_rounds, links_of, run_state, stock_of}
 use Rattle.dc_run.proofs.RoundLemmas.{most_none, none_most}
@@ -43,17 +45,16 @@ use Rattle.dc_run.proofs.Saying.{none_said}
 -- ---- a session that was served
 
 -- it ends as its link was served, unless memory ran out
-ended_by : (state : SessionState) (left : Resources) (served ended : LinkEnd StepError) → IsFinished state served left ended → (ended ≡ served) ⊎ (ended ≡ link.OutOfMemory)
+ended_by : {B : Type 0} (state : SessionState) (left : Resources) (served ended : LinkEnd B) → IsFinished state served left ended → (ended ≡ served) ⊎ (ended ≡ link.OutOfMemory)
 ended_by state left served ended (inl all) = inl all.2
 ended_by state left served ended (inr none) = inr none.2
 
-pub ends_so : (served : LinkEnd StepError) (state : SessionState) (left : Resources) (ended : LinkEnd StepError) → FinishesSession served state left ended → (ended ≡ served) ⊎ (ended ≡ link.OutOfMemory)
+pub ends_so : {B : Type 0} (served : LinkEnd B) (state : SessionState) (left : Resources) (ended : LinkEnd B) → FinishesSession served state left ended → (ended ≡ served) ⊎ (ended ≡ link.OutOfMemory)
 ends_so link.Done state left ended finishes = ended_by state left link.Done ended finishes
 ends_so link.LinkFault state left ended finishes = ended_by state left link.LinkFault ended finishes
 ends_so link.TooLong state left ended finishes = ended_by state left link.TooLong ended finishes
 ends_so link.OutOfMemory state left ended finishes = inr finishes.2
-ends_so (link.Broken step.Term) state left ended finishes = inl finishes.2
-ends_so (link.Broken step.OutOfMemory) state left ended finishes = inr finishes.2
+ends_so (link.Broken error) state left ended finishes = inl finishes.2
 
 -- ---- what a tool does
 
@@ -61,29 +62,44 @@ ends_so (link.Broken step.OutOfMemory) state left ended finishes = inr finishes.
 abbrev begun_with : Tool → RunState → Roots → Settings → Option Frontend → Option Priority → SessionState
 begun_with used state roots settings frontend priority = session_at (resources_for used state) roots settings (owner_of used) frontend priority
 
-module _ (used : Tool) (state : RunState) (roots : Roots) (settings : Settings) (left : Resources) (old new : LinkState) (ended : LinkEnd StepError) (before code : ℕ) where
+module _ (used : Tool) (state : RunState) (roots : Roots) (settings : Settings) (left : Resources) (old new : LinkState) (ended : LinkEnd SavingBreak) (before code : ℕ) (saves : List Save) where
   -- it was served with these
   pub served_with : (frontend : Option Frontend) (priority : Option Priority) → frontend ≡ chosen_frontend used settings roots → priority ≡ chosen_priority used settings roots
-      → IsServed (begun_with used state roots settings frontend priority) left old new ended before code → IsServed (begun used state roots settings) left old new ended before code
+      → IsServedSaving (begun_with used state roots settings frontend priority) left old new ended before code saves → IsServedSaving (begun used state roots settings) left old new ended before code saves
   served_with frontend priority same_frontend same_priority served =
-      subst (λ (f : Option Frontend). IsServed (begun_with used state roots settings f (chosen_priority used settings roots)) left old new ended before code) same_frontend
-      (subst (λ (p : Option Priority). IsServed (begun_with used state roots settings frontend p) left old new ended before code) same_priority served)
+      subst (λ (f : Option Frontend). IsServedSaving (begun_with used state roots settings f (chosen_priority used settings roots)) left old new ended before code saves) same_frontend
+      (subst (λ (p : Option Priority). IsServedSaving (begun_with used state roots settings frontend p) left old new ended before code saves) same_priority served)
 
 -- the link was served, and that is the answer
-pub was_communicated : (state : RunState) (roots : Roots) (settings : Settings) (owner : List ℕ) (left : Resources) (old new : LinkState) (ended : LinkEnd StepError) (before code : ℕ)
+pub was_communicated : (state : RunState) (roots : Roots) (settings : Settings) (owner : List ℕ) (left : Resources) (old new : LinkState) (ended : LinkEnd SavingBreak) (before code : ℕ) (saves : List Save)
     (priority : Option Priority) → priority ≡ chosen settings roots → (answer : ToolAnswer) → answer.last_code ≡ code → answer.ended ≡ tool_end_of ended → answer.status ≡ answer.last_code → answer.is_started ≡ false
-    → IsServed (begun_with (Communicate owner) state roots settings (Some Noninteractive) priority) left old new ended before code
-    → HasCommunicated (begun (Communicate owner) state roots settings) old new before answer left
-was_communicated state roots settings owner left old new ended before code priority same answer code_is ended_is status_is waits served = record {
+    → IsServedSaving (begun_with (Communicate owner) state roots settings (Some Noninteractive) priority) left old new ended before code saves
+    → HasCommunicated (begun (Communicate owner) state roots settings) old new before answer left saves
+was_communicated state roots settings owner left old new ended before code saves priority same answer code_is ended_is status_is waits served = record {
   ended = ended;
   ended_is = ended_is;
-  served = subst (λ (n : ℕ). IsServed (begun (Communicate owner) state roots settings) left old new ended before n) (sym code_is)
-      (served_with (Communicate owner) state roots settings left old new ended before code (Some Noninteractive) priority refl same served);
+  served = subst (λ (n : ℕ). IsServedSaving (begun (Communicate owner) state roots settings) left old new ended before n saves) (sym code_is)
+      (served_with (Communicate owner) state roots settings left old new ended before code saves (Some Noninteractive) priority refl same served);
   status_is = status_is;
   waits = waits;
 }
 
-module _ (roots : Roots) (settings : Settings) (io child new new_child err new_err : LinkState) (files left_files : FilesState) (layers left_layers : List LayerState) (ahead unused : TypeAhead) (before : ℕ) (answer : ToolAnswer) where
+-- the program that was started was served, and that is the answer
+pub was_served_for : (owner : List ℕ) (chosen_for : Option Frontend) (least : Option Priority) (command : List (List ℕ)) (state : RunState) (roots : Roots) (settings : Settings) (left : Resources) (old new : LinkState)
+    (ended : LinkEnd SavingBreak) (before code : ℕ) (saves : List Save) (frontend : Option Frontend) (priority : Option Priority)
+    → frontend ≡ chosen_frontend (Run owner chosen_for least command) settings roots → priority ≡ chosen_priority (Run owner chosen_for least command) settings roots
+    → (answer : ToolAnswer) → answer.last_code ≡ code → answer.ended ≡ tool_end_of ended → answer.is_started ≡ true
+    → IsServedSaving (begun_with (Run owner chosen_for least command) state roots settings frontend priority) left old new ended before code saves
+    → HasServedProgram (begun (Run owner chosen_for least command) state roots settings) old new before answer left saves
+was_served_for owner chosen_for least command state roots settings left old new ended before code saves frontend priority same_frontend same_priority answer code_is ended_is waits served = record {
+  ended = ended;
+  ended_is = ended_is;
+  served = subst (λ (n : ℕ). IsServedSaving (begun (Run owner chosen_for least command) state roots settings) left old new ended before n saves) (sym code_is)
+      (served_with (Run owner chosen_for least command) state roots settings left old new ended before code saves frontend priority same_frontend same_priority served);
+  waits = waits;
+}
+
+module _ (roots : Roots) (settings : Settings) (io child new new_child err new_err : LinkState) (files left_files : FilesState) (layers left_layers : List LayerState) (ahead unused : TypeAhead) (before : ℕ) (answer : ToolAnswer) (saves : List Save) where
   abbrev found : RunState
   found = run_state io child err files layers ahead before
 
@@ -91,8 +107,8 @@ module _ (roots : Roots) (settings : Settings) (io child new new_child err new_e
   left = run_state new new_child new_err left_files left_layers unused answer.last_code
 
   -- the link was served
-  pub communicated : (owner : List ℕ) → new_child ≡ child → HasCommunicated (begun (Communicate owner) found roots settings) io new before answer (resources_for (Communicate owner) left)
-      → HasDone (Communicate owner) roots settings found left answer []
+  pub communicated : (owner : List ℕ) → new_child ≡ child → HasCommunicated (begun (Communicate owner) found roots settings) io new before answer (resources_for (Communicate owner) left) saves
+      → HasDone (Communicate owner) roots settings found left answer saves
   communicated owner same served = record {
     told = [];
     left = resources_for (Communicate owner) left;
@@ -100,14 +116,13 @@ module _ (roots : Roots) (settings : Settings) (io child new new_child err new_e
     stock_is = refl;
     said = none_said new_err;
     ahead_is = refl;
-    saves_are = refl;
     code_is = refl;
   }
 
   -- a program was started, or not
   pub ran_program : (owner : List ℕ) (frontend : Option Frontend) (priority : Option Priority) (command : List (List ℕ))
-      → HasRunProgram command (begun (Run owner frontend priority command) found roots settings) (links_of io child) (links_of new new_child) before answer (resources_for (Run owner frontend priority command) left)
-      → HasDone (Run owner frontend priority command) roots settings found left answer []
+      → HasRunProgram command (begun (Run owner frontend priority command) found roots settings) (links_of io child) (links_of new new_child) before answer (resources_for (Run owner frontend priority command) left) saves
+      → HasDone (Run owner frontend priority command) roots settings found left answer saves
   ran_program owner frontend priority command ran = record {
     told = [];
     left = resources_for (Run owner frontend priority command) left;
@@ -115,7 +130,6 @@ module _ (roots : Roots) (settings : Settings) (io child new new_child err new_e
     stock_is = refl;
     said = none_said new_err;
     ahead_is = refl;
-    saves_are = refl;
     code_is = refl;
   }
 
@@ -126,11 +140,10 @@ module _ (roots : Roots) (settings : Settings) (io child err new_err : LinkState
   loaded_files owner paths over = record {
     told = over.said;
     left = resources_in over.state;
-    uses = record { state = over.state; left_is = refl; loaded = over.loads; last_code_is = over.last_code_is; links_are = refl; waits = over.waits };
+    uses = (record { state = over.state; left_is = refl; loaded = over.loads; last_code_is = over.last_code_is; links_are = refl; waits = over.waits }, refl);
     stock_is = λ i. stock_of (over.files_are i) (over.layers_are i);
     said = subst (λ (l : LinkState). HasSaid over.said l new_err) (sym over.err_is) over.telling;
     ahead_is = sym (ap (λ (t : TerminalState). t.ahead) over.terminal_is);
-    saves_are = refl;
     code_is = refl;
   }
 
@@ -141,11 +154,10 @@ module _ (roots : Roots) (settings : Settings) (io new child err : LinkState) (f
   was_shown database shown same printed = record {
     told = [];
     left = resources_in (begun (Show database shown) (run_state io child err files layers ahead before) roots settings);
-    uses = (record { prints = printed.prints; child_is = refl; left_is = refl; code_is = printed.code_is; status_is = printed.status_is; waits = printed.waits }, refl);
+    uses = (record { prints = printed.prints; child_is = refl; left_is = refl; code_is = printed.code_is; status_is = printed.status_is; waits = printed.waits }, refl, refl);
     stock_is = λ i. stock_of files (same i);
     said = none_said err;
     ahead_is = refl;
-    saves_are = refl;
     code_is = refl;
   }
 
@@ -159,12 +171,14 @@ module _ (roots : Roots) (settings : Settings) (io child err new_err : LinkState
       record {
         told = is.said;
         left = record (resources_in start) { layers = left_layers };
-        uses = subst (λ (found : Option CopyRoots). CopiesBy found start (links_of io child) (links_of io child) before answer is.said (record (resources_in start) { layers = left_layers })) (sym over.1)
-            (record { copies = is.copies; others = is.others; left_is = refl; links_are = refl; code_is = is.code_is; waits = is.waits });
+        uses = (
+          subst (λ (found : Option CopyRoots). CopiesBy found start (links_of io child) (links_of io child) before answer is.said (record (resources_in start) { layers = left_layers })) (sym over.1)
+              (record { copies = is.copies; others = is.others; left_is = refl; links_are = refl; code_is = is.code_is; waits = is.waits }),
+          refl,
+        );
         stock_is = refl;
         said = is.telling;
         ahead_is = refl;
-        saves_are = refl;
         code_is = refl;
       }
 
@@ -191,11 +205,11 @@ module _ (roots : Roots) (settings : Settings) (io new child err new_err : LinkS
           },
           refl,
           refl,
+          refl,
         );
         stock_is = refl;
         said = none_said new_err;
         ahead_is = refl;
-        saves_are = refl;
         code_is = refl;
       }
 
@@ -206,11 +220,10 @@ module _ (roots : Roots) (settings : Settings) (io new child err new_err : LinkS
   was_said same printed = record {
     told = printed.told.said;
     left = resources_in (begun GetSelections (run_state io child err files layers ahead before) roots settings);
-    uses = record { prints = printed.prints; tells = printed.told.tells; child_is = refl; left_is = refl; code_is = printed.code_is; waits = printed.waits };
+    uses = (record { prints = printed.prints; tells = printed.told.tells; child_is = refl; left_is = refl; code_is = printed.code_is; waits = printed.waits }, refl);
     stock_is = λ i. stock_of files (same i);
     said = printed.told.telling;
     ahead_is = refl;
-    saves_are = refl;
     code_is = refl;
   }
 
@@ -235,11 +248,11 @@ module _ (roots : Roots) (settings : Settings) (io new child err : LinkState) (f
             waits = over.waits;
           },
           refl,
+          refl,
         );
         stock_is = refl;
         said = none_said err;
         ahead_is = refl;
-        saves_are = refl;
         code_is = refl;
       }
 
@@ -254,10 +267,17 @@ module _ (count : ℕ) (layers left : List LayerState) (roots : Roots) (settings
       subst (λ (o : List ℕ). DrillsBy o (chosen settings roots) result files terminal err) owner_is
       (subst (λ (t : Option Priority). DrillsBy owner t result files terminal err) chosen_is (drills files terminal err))
 
+-- the program wasn't started
+pub not_started : (command : List (List ℕ)) (start : SessionState) (old new : Links) (before : ℕ) (answer : ToolAnswer) (left : Resources) (error : LinkError)
+    → answer.ended ≡ end_unstarted error → Starts {T = Unit {0}} command old.child new.child (Err error) → new.io ≡ old.io → left ≡ resources_in start → answer.last_code ≡ before → answer.is_started ≡ false
+    → (saves : List Save) × HasRunProgram command start old new before answer left saves
+not_started command start old new before answer kept error ended_is starts io left_is code_is waits =
+    ([], inl (record { error = error; ended_is = ended_is; starts = starts; io = io; left_is = left_is; code_is = code_is; waits = waits; saves_are = refl }))
+
 -- the program was started and served
-pub started_so : (command : List (List ℕ)) (start : SessionState) (old new : Links) (before : ℕ) (answer : ToolAnswer) (left : Resources) (mid : LinkState)
-    → Starts {T = Unit {0}} command old.child mid (Ok tt) → HasServedProgram start mid new.child before answer left → new.io ≡ left.terminal.link → HasRunProgram command start old new before answer left
-started_so command start old new before answer left mid starts served io =
+pub started_so : (command : List (List ℕ)) (start : SessionState) (old new : Links) (before : ℕ) (answer : ToolAnswer) (left : Resources) (mid : LinkState) (saves : List Save)
+    → Starts {T = Unit {0}} command old.child mid (Ok tt) → HasServedProgram start mid new.child before answer left saves → new.io ≡ left.terminal.link → HasRunProgram command start old new before answer left saves
+started_so command start old new before answer kept mid saves starts served io =
     inr (record { mid = mid; starts = starts; ended = served.ended; ended_is = served.ended_is; served = served.served; io = io; waits = served.waits })
 
 -- ---- the command
@@ -289,16 +309,16 @@ module _ (used : Tool) (settings : Settings) (old new : World) (outcome : Outcom
   ended_before before same said is =
       subst (λ (o : Outcome). HasRunTool used settings old new o []) (sym is) (inl (before, record { links_are = same; said = said; code_is = refl; status_is = refl }, refl))
 
-  pub ended_after : (mid : Stock) (roots : Roots) (ahead : TypeAhead) (left : RunState) (answer : ToolAnswer) (saved : End) (status : ℕ) → ahead ≡ nothing_typed → HasStarted used settings.conf_path old.stock.files mid roots
-      → HasDone used roots settings (run_state old.links.io old.links.child old.err mid.files mid.used ahead 0) left answer [] → (commits : (last : List Save) × Commits (keeps_changes used && comes_to_save answer.ended) answer.ended left.world.stock new.stock last saved)
+  pub ended_after : (mid : Stock) (roots : Roots) (ahead : TypeAhead) (left : RunState) (answer : ToolAnswer) (inner : List Save) (saved : End) (status : ℕ) → ahead ≡ nothing_typed → HasStarted used settings.conf_path old.stock.files mid roots
+      → HasDone used roots settings (run_state old.links.io old.links.child old.err mid.files mid.used ahead 0) left answer inner → (commits : (last : List Save) × Commits (keeps_changes used && comes_to_save answer.ended) answer.ended left.world.stock new.stock last saved)
       → new.links.io ≡ left.world.links.io → Awaits answer.is_started left.world.links.child new.links.child saved how answer.status status → HasSaid (end_line how) left.world.err new.err
-      → outcome ≡ record { status = status_of how status; end = how; last_code = answer.last_code } → HasRunTool used settings old new outcome (commits.0 ++ [])
-  ended_after mid roots ahead left answer saved status none started does commits io awaits said is =
-      let done : HasDone used roots settings (before_rounds (record old { stock = mid })) left answer []
-      = subst (λ (a : TypeAhead). HasDone used roots settings (run_state old.links.io old.links.child old.err mid.files mid.used a 0) left answer []) none does in
+      → outcome ≡ record { status = status_of how status; end = how; last_code = answer.last_code } → HasRunTool used settings old new outcome ((inner ++ commits.0) ++ [])
+  ended_after mid roots ahead left answer inner saved status none started does commits io awaits said is =
+      let done : HasDone used roots settings (before_rounds (record old { stock = mid })) left answer inner
+      = subst (λ (a : TypeAhead). HasDone used roots settings (run_state old.links.io old.links.child old.err mid.files mid.used a 0) left answer inner) none does in
       let after : RunState = record { world = record { stock = new.stock; links = new.links; err = left.world.err }; ahead = left.ahead; code = left.code } in
-      let round : Round = record { job = Whole used; answer = answer; left = left; inner = []; last = commits.0; finish = saved; status = status; how = how; new = after } in
-      subst (λ (o : Outcome). HasRunTool used settings old new o (commits.0 ++ [])) (sym is) (inr (record {
+      let round : Round = record { job = Whole used; answer = answer; left = left; inner = inner; last = commits.0; finish = saved; status = status; how = how; new = after } in
+      subst (λ (o : Outcome). HasRunTool used settings old new o ((inner ++ commits.0) ++ [])) (sym is) (inr (record {
         mid = record old { stock = mid };
         roots = roots;
         started = started;

@@ -1,7 +1,8 @@
 -- Nothing changes on the disk in a run but what its saves do, and these save layers of its databases.
-use Rattle.std.proofs.Common.{◌≡◌, ◌&&◌, inl, inr, Bool, true, false, List, [], ◌++◌, ℕ, Option, Some, Ok, refl, sym, ap, subst, ◌∙◌}
+use Rattle.std.proofs.Common.{◌≡◌, ◌⊎◌, ◌&&◌, inl, inr, Bool, true, false, List, [], ◌++◌, ℕ, Option, Some, Ok, refl, sym, ap, subst, ◌∙◌}
 use Rattle.std.specs.List.{AllByRecursion}
 use Rattle.dc_outside.specs.Disk.{Disk}
+use Rattle.dc_layer.specs.State.{LayerState}
 use Rattle.dc_cli.specs.Tools.{Names}
 use Rattle.dc_cli.specs.declared.tool.Tool.{Tool}
 use Rattle.dc_outside.specs.State.{FilesState}
@@ -18,10 +19,11 @@ use Rattle.dc_run.specs.declared.outcome.End.TheVariants as end
 use Rattle.dc_run.specs.declared.outcome.Outcome.{Outcome}
 use Rattle.dc_run.specs.declared.outcome.ToolEnd.{ToolEnd}
 use Rattle.dc_run.specs.declared.settings.Settings.{Settings}
-use Rattle.dc_run.proofs.CrashLemmas.{KeepsAll, loads_read, before_reads, loads_keep, set_up_specs, set_for, tool_keeps, ended_then, each_save, all_saved_then, done_before, of_configuration}
+use Rattle.dc_run.proofs.CrashLemmas.{KeepsAll, loads_read, before_reads, loads_keep, set_up_specs, set_for, tool_keeps, ended_then, ended_all, each_save, all_saved_then, done_before, of_configuration}
 use Rattle.dc_run.proofs.KindLemmas.{specs_in}
-use Rattle.dc_run.proofs.Kills.{keeps_saves}
+use Rattle.dc_run.proofs.Kills.{keeps_saves, saves_joined, done_joined, each_joined, each_mapped}
 use Rattle.dc_run.proofs.RoundLemmas.{one_round, jobs_had}
+use Rattle.dc_run.proofs.SavingLemmas.{IsOfKinds, specs_of}
 
 both_true : (one other : Bool) → one && other ≡ true → (one ≡ true) × (other ≡ true)
 both_true true other is = (refl, is)
@@ -30,6 +32,11 @@ both_true false other is = absurd (cc)
 saved_between : (saves : Bool) (ended : ToolEnd) (left new : Stock) (last : List Save) (how : End) → Commits saves ended left new last how → AreSaves left.files.view.disk last new.files.view.disk
 saved_between true ended left new last how has = subst (λ (l : List Save). AreSaves left.files.view.disk l new.files.view.disk) (sym has.saves_are) (refl, has.is, (λ failed. refl), refl)
 saved_between false ended left new last how has = subst (λ (l : List Save). AreSaves left.files.view.disk l new.files.view.disk) (sym has.saves_are) (ap (λ (s : Stock). s.files.view.disk) has.stays)
+
+-- a save at the end follows those in the middle only where they are done
+inner_first : (saves : Bool) (ended : ToolEnd) (left new : Stock) (inner last : List Save) (how : End) → Commits saves ended left new last how → (saves ≡ true → AllDone inner) → AllDone inner ⊎ (last ≡ [])
+inner_first true ended left new inner last how has done = inl (done refl)
+inner_first false ended left new inner last how has done = inr has.saves_are
 
 -- what is killed is said by the saves
 keeps_by : (words : List (List ℕ)) (path : List ℕ) (old new : FilesState) (how : End) (saves : List Save) → AreSaves old.view.disk saves new.view.disk → AllByRecursion (λ save. AreOfConfiguration words old.view.disk path save.layers) saves
@@ -61,12 +68,13 @@ module _ (used : Tool) (settings : Settings) (old new : World) (outcome : Outcom
   commits : Commits (keeps_changes used && comes_to_save one.round.answer.ended) one.round.answer.ended one.round.left.world.stock one.round.new.world.stock one.round.last one.round.finish
   commits = subst (λ (j : Job). Commits (is_saved_at j one.round.answer.ended) one.round.answer.ended one.round.left.world.stock one.round.new.world.stock one.round.last one.round.finish) one.job_is one.is.commits
 
-  saves_are : saves ≡ one.round.last
-  saves_are = one.saves_are ∙ ap (λ (l : List Save). l ++ one.round.last) works.saves_are
+  keeps : KeepsAll (keeps_changes used) (begun used start worked.roots settings) one.round.answer.ended one.round.left.world.stock.used one.round.left.world.stock.files one.round.inner
+  keeps = subst (λ (s : Stock). KeepsAll (keeps_changes used) (begun used start worked.roots settings) one.round.answer.ended s.used s.files one.round.inner) (sym works.stock_is)
+      (tool_keeps used worked.roots (begun used start worked.roots settings) worked.mid.links one.round.left.world.links 0 one.round.answer works.told works.left one.round.inner works.uses)
 
-  keeps : KeepsAll (keeps_changes used) (begun used start worked.roots settings) one.round.answer.ended one.round.left.world.stock.used one.round.left.world.stock.files
-  keeps = subst (λ (s : Stock). KeepsAll (keeps_changes used) (begun used start worked.roots settings) one.round.answer.ended s.used s.files) (sym works.stock_is)
-      (tool_keeps used worked.roots (begun used start worked.roots settings) worked.mid.links one.round.left.world.links 0 one.round.answer works.told works.left works.uses)
+  inner_done : AllDone one.round.inner ⊎ (one.round.last ≡ [])
+  inner_done = inner_first (keeps_changes used && comes_to_save one.round.answer.ended) one.round.answer.ended one.round.left.world.stock one.round.new.world.stock one.round.inner one.round.last one.round.finish commits
+      (λ is. keeps.done (ended_then one.round.answer.ended (both_true _ _ is).1))
 
   stock_is : new.stock ≡ one.round.new.world.stock
   stock_is = ap (λ (w : World). w.stock) (worked.rest_is ∙ ap (λ (s : RunState). record s.world { err = new.err }) one.new_is)
@@ -74,24 +82,39 @@ module _ (used : Tool) (settings : Settings) (old new : World) (outcome : Outcom
   pub run_saves : AreSaves old.stock.files.view.disk saves new.stock.files.view.disk
   run_saves =
       subst (λ (d : Option Disk). AreSaves d saves new.stock.files.view.disk) (loads_read used settings.conf_path worked.roots.conf old.stock.files worked.mid.stock (Ok tt) worked.started.loaded)
-      (subst (λ (l : List Save). AreSaves worked.mid.stock.files.view.disk l new.stock.files.view.disk) (sym saves_are)
-      (subst (λ (s : Stock). AreSaves worked.mid.stock.files.view.disk one.round.last s.files.view.disk) (sym stock_is)
-      (subst (λ (d : Option Disk). AreSaves d one.round.last one.round.new.world.stock.files.view.disk) keeps.disk
+      (subst (λ (l : List Save). AreSaves worked.mid.stock.files.view.disk l new.stock.files.view.disk) (sym one.saves_are)
+      (subst (λ (s : Stock). AreSaves worked.mid.stock.files.view.disk (one.round.inner ++ one.round.last) s.files.view.disk) (sym stock_is)
+      (saves_joined worked.mid.stock.files.view.disk one.round.left.world.stock.files.view.disk one.round.new.world.stock.files.view.disk one.round.inner one.round.last keeps.are inner_done
       (saved_between (keeps_changes used && comes_to_save one.round.answer.ended) one.round.answer.ended one.round.left.world.stock one.round.new.world.stock one.round.last one.round.finish commits))))
 
+  -- the layers that the tool began with
+  first_specs : specs_of (begun used start worked.roots settings) ≡ set_for (databases_of used worked.roots.conf)
+  first_specs = loads_keep _ _ _ _ _ _ _ _ worked.started.loaded.loads ∙ set_up_specs (databases_of used worked.roots.conf)
+
   specs : keeps_changes used && comes_to_save one.round.answer.ended ≡ true → specs_in one.round.left.world.stock.used ≡ set_for (databases_of used worked.roots.conf)
-  specs is = keeps.specs (both_true _ _ is).0 (ended_then one.round.answer.ended (both_true _ _ is).1) ∙ loads_keep _ _ _ _ _ _ _ _ worked.started.loaded.loads ∙ set_up_specs (databases_of used worked.roots.conf)
+  specs is = keeps.specs (both_true _ _ is).0 (ended_then one.round.answer.ended (both_true _ _ is).1) ∙ first_specs
 
   saves_done : outcome.end ≡ end.Done → AllDone saves
-  saves_done done = subst AllDone (sym saves_are)
-      (all_saved_then one.round.left.world.stock one.round.new.world.stock one.round.last one.round.finish one.round.answer.ended (keeps_changes used && comes_to_save one.round.answer.ended) commits
-      (done_before one.round.answer.is_started one.round.left.world.links.child one.round.new.world.links.child one.round.finish one.round.how one.round.answer.status one.round.status one.is.awaits (sym one.how_is ∙ done)))
+  saves_done done =
+      let finish : one.round.finish ≡ end.Done = done_before one.round.answer.is_started one.round.left.world.links.child one.round.new.world.links.child one.round.finish one.round.how one.round.answer.status one.round.status one.is.awaits (sym one.how_is ∙ done) in
+      subst AllDone (sym one.saves_are)
+      (done_joined one.round.inner one.round.last
+      (keeps.done (ended_all one.round.left.world.stock one.round.new.world.stock one.round.last one.round.finish one.round.answer.ended (keeps_changes used && comes_to_save one.round.answer.ended) commits finish))
+      (all_saved_then one.round.left.world.stock one.round.new.world.stock one.round.last one.round.finish one.round.answer.ended (keeps_changes used && comes_to_save one.round.answer.ended) commits finish))
 
   module _ (words : List (List ℕ)) (named : Names words used) where
-    saves_of_databases : AllByRecursion (λ save. AreOfConfiguration words old.stock.files.view.disk settings.conf_path save.layers) saves
-    saves_of_databases = subst (AllByRecursion (λ (save : Save). AreOfConfiguration words old.stock.files.view.disk settings.conf_path save.layers)) (sym saves_are)
+    abbrev IsOfRun : Save → Type 0
+    IsOfRun save = AreOfConfiguration words old.stock.files.view.disk settings.conf_path save.layers
+
+    of_run : (layers : List LayerState) → specs_in layers ≡ set_for (databases_of used worked.roots.conf) → AreOfConfiguration words old.stock.files.view.disk settings.conf_path layers
+    of_run layers is = of_configuration words used named old.stock.files.view.disk settings.conf_path worked.roots.conf worked.started.loaded.conf_is.conf_is.conf_is layers is
+
+    saves_of_databases : AllByRecursion IsOfRun saves
+    saves_of_databases = subst (AllByRecursion IsOfRun) (sym one.saves_are)
+        (each_joined IsOfRun one.round.inner one.round.last
+        (each_mapped (IsOfKinds (specs_of (begun used start worked.roots settings))) IsOfRun (λ save is. of_run save.layers (is ∙ first_specs)) one.round.inner keeps.kept)
         (each_save one.round.left.world.stock one.round.new.world.stock one.round.last one.round.finish one.round.answer.ended (AreOfConfiguration words old.stock.files.view.disk settings.conf_path) (keeps_changes used && comes_to_save one.round.answer.ended) commits
-        (λ is. of_configuration words used named old.stock.files.view.disk settings.conf_path worked.roots.conf worked.started.loaded.conf_is.conf_is.conf_is one.round.left.world.stock.used (specs is)))
+        (λ is. of_run one.round.left.world.stock.used (specs is))))
 
     worked_keeps : KeepsDatabases words settings.conf_path old.stock.files new.stock.files outcome.end saves
     worked_keeps = keeps_by words settings.conf_path old.stock.files new.stock.files outcome.end saves run_saves saves_of_databases saves_done

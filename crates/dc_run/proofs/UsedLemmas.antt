@@ -49,6 +49,7 @@ module _ (used : Tool) (settings : Settings) (roots : Roots) (old : World) (mid 
           told = works.told;
           left = works.left;
           links = left.world.links;
+          inner = inner;
           uses = works.uses;
           how = finish;
           finishes = subst (λ (s : Stock). FinishesWhere (keeps_changes used) s.used new.stock.used given.ended s.files new.stock.files finish) works.stock_is

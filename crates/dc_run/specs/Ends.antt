@@ -12,12 +12,13 @@ use Rattle.dc_save.specs.declared.saving.SaveError.{SaveError}
 use Rattle.dc_save.specs.declared.saving.SaveError.TheVariants as save
 use Rattle.dc_serve.specs.declared.outcome.LinkEnd.{LinkEnd}
 use Rattle.dc_serve.specs.declared.outcome.LinkEnd.TheVariants as link
-use Rattle.dc_session.specs.declared.stepped.StepError.{StepError}
 use Rattle.dc_session.specs.declared.stepped.StepError.TheVariants as step
 use Rattle.dc_run.specs.declared.outcome.End.{End}
 use Rattle.dc_run.specs.declared.outcome.End.TheVariants as end
 use Rattle.dc_run.specs.declared.outcome.ToolEnd.{ToolEnd}
 use Rattle.dc_run.specs.declared.outcome.ToolEnd.TheVariants as tool
+use Rattle.dc_run.specs.declared.saving_session.SavingBreak.{SavingBreak}
+use Rattle.dc_run.specs.declared.saving_session.SavingBreak.TheVariants as saving
 use Rattle.dc_run.specs.declared.outcome.PatternAt.{PatternAt}
 use Rattle.dc_run.specs.declared.outcome.PatternAt.TheVariants.{Database}
 use Rattle.dc_run.specs.World.{Links}
@@ -59,14 +60,16 @@ end_of_load (load.Failed path) = end.FilesFault path
 end_of_load (load.Damaged path line) = end.Damaged path line
 end_of_load load.OutOfMemory = end.OutOfMemory
 
--- how a tool ended that serves a link, by the end of the link
-abbrev pub tool_end_of : LinkEnd StepError → ToolEnd
+-- how a tool ended that serves a session with its saves, by the end of the link
+abbrev pub tool_end_of : LinkEnd SavingBreak → ToolEnd
 tool_end_of link.Done = tool.Done
 tool_end_of link.LinkFault = tool.LinkFault
 tool_end_of link.TooLong = tool.TooLong
 tool_end_of link.OutOfMemory = tool.OutOfMemory
-tool_end_of (link.Broken step.Term) = tool.TermFault
-tool_end_of (link.Broken step.OutOfMemory) = tool.OutOfMemory
+tool_end_of (link.Broken (saving.Step step.Term)) = tool.TermFault
+tool_end_of (link.Broken (saving.Step step.OutOfMemory)) = tool.OutOfMemory
+tool_end_of (link.Broken (saving.Save (save.Failed path))) = tool.FilesFault path
+tool_end_of (link.Broken (saving.Save save.OutOfMemory)) = tool.OutOfMemory
 
 -- the end of a run whose tool ended so
 abbrev pub end_of : ToolEnd → End

@@ -20,12 +20,19 @@ use Rattle.dc_layer.specs.State.{LayerState}
 use Rattle.dc_question.specs.Questions.{QuestionContext}
 use Rattle.dc_session.specs.Refusals.{refusal}
 use Rattle.dc_serve.specs.declared.outcome.LinkEnd.{LinkEnd}
-use Rattle.dc_session.specs.Serving.{IsServed, Resources, resources_of}
+use Rattle.dc_save.specs.declared.saving.SaveError.{SaveError}
+use Rattle.dc_session.specs.Serving.{Resources, resources_of}
+use Rattle.dc_run.specs.Saves.{IsSave, Save, kept_by}
+use Rattle.dc_run.specs.SavingSession.{IsServedSaving, save_of}
+use Rattle.dc_run.specs.declared.saving_session.SavingBreak.{SavingBreak}
 use Rattle.dc_outside.specs.State.{FilesState, LinkState}
-use Rattle.dc_session.specs.SessionState.{SessionState}
+use Rattle.dc_session.specs.SessionState.{SessionState, session_of}
+use Rattle.dc_session.specs.declared.session.Session.{Session}
 use Rattle.dc_session.specs.declared.asking.Asking.{Asking}
 use Rattle.dc_session.specs.declared.policy.AskPolicy.{AskPolicy}
 use Rattle.dc_session.specs.declared.stepped.StepError.{StepError}
+use Rattle.dc_session.specs.declared.stepped.Stepped.{Stepped}
+use Rattle.dc_session.specs.declared.stepped.Stepped.TheVariants as saving
 use Rattle.dc_store.specs.Plans.{names, stored}
 use Rattle.dc_session.specs.declared.template_loading.FileEnd.{FileEnd}
 use Rattle.dc_session.specs.declared.template_loading.FileEnd.TheVariants as file
@@ -130,11 +137,27 @@ pub record HasLoadedOver (start : SessionState) (paths : List (List ℕ)) (old n
 
 -- ---- a tool
 
--- the commands of a program were served, with the terminal left so
-pub record HasServedProgram (start : SessionState) (old new : LinkState) (before : ℕ) (answer : ToolAnswer) (left : Resources) : Type 0 where
-  pub ended : LinkEnd StepError
+-- a session, by the states of its boxes, where no box is named beside it
+abbrev pub session_in : {A B C X : Type 0} {F : X → Type 0} → ((x : X) × F x → LayerState) → (A → FilesState) → (B → LinkState) → (C → LinkState)
+    → Session A B C X F → SessionState
+session_in state files link err session = session_of (λ b. state (b.vtable, b.value)) files link err session
+
+-- whether a line came to a save
+abbrev pub is_saving : Stepped → Bool
+is_saving saving.Save = true
+is_saving _ = false
+
+-- all layers of a session were saved, or a call of that failed or found no memory
+pub record SavesAsked (old new : SessionState) (answer : Result (Unit {0}) SaveError) : Type 0 where
+  pub is : IsSave (save_of old new.files answer)
+  pub new_is : new ≡ record old { store = stored (kept_by answer old.store.layers) old.store.told; files = new.files }
+
+-- the commands of a program were served, with the terminal left so and these saves
+pub record HasServedProgram (start : SessionState) (old new : LinkState)
+    (before : ℕ) (answer : ToolAnswer) (left : Resources) (saves : List Save) : Type 0 where
+  pub ended : LinkEnd SavingBreak
   pub ended_is : answer.ended ≡ tool_end_of ended
-  pub served : IsServed start left old new ended before answer.last_code
+  pub served : IsServedSaving start left old new ended before answer.last_code saves
   pub waits : answer.is_started ≡ true
 
 -- the tool that asks so, with this command

@@ -20,7 +20,7 @@ use Rattle.dc_preseed.specs.declared.selected.Choices.{Choices}
 use Rattle.dc_drill.specs.Drilling.{Drills}
 use Rattle.dc_dump.specs.Saying.{said_of}
 use Rattle.dc_dump.specs.declared.saying.Said.{Said}
-use Rattle.dc_session.specs.Serving.{IsServed, Resources, resources_in}
+use Rattle.dc_session.specs.Serving.{Resources, resources_in}
 use Rattle.dc_outside.specs.State.{LinkState}
 use Rattle.dc_session.specs.SessionState.{SessionState}
 use Rattle.dc_session.specs.declared.stepped.StepError.{StepError}
@@ -35,16 +35,19 @@ use Rattle.dc_run.specs.Roots.{CopyRoots}
 use Rattle.dc_run.specs.Roots.{Roots}
 use Rattle.dc_run.specs.Ends.{tool_end_of}
 use Rattle.dc_run.specs.Running.{HasRunProgram}
+use Rattle.dc_run.specs.Saves.{Save}
+use Rattle.dc_run.specs.SavingSession.{IsServedSaving}
+use Rattle.dc_run.specs.declared.saving_session.SavingBreak.{SavingBreak}
 use Rattle.dc_run.specs.TemplateLoading.{HasLoadedFiles}
 use Rattle.dc_run.specs.World.{Links}
 
 -- ---- communicate and loadtemplate
 
--- the commands that came on the link were served, and the session was finished: its status is the code of the last reply
-pub record HasCommunicated (start : SessionState) (old new : LinkState) (before : ℕ) (answer : ToolAnswer) (left : Resources) : Type 0 where
-  pub ended : LinkEnd StepError
+-- the commands that came on the link were served, and the session was finished: its status is the code of the last reply, and these its saves
+pub record HasCommunicated (start : SessionState) (old new : LinkState) (before : ℕ) (answer : ToolAnswer) (left : Resources) (saves : List Save) : Type 0 where
+  pub ended : LinkEnd SavingBreak
   pub ended_is : answer.ended ≡ tool_end_of ended
-  pub served : IsServed start left old new ended before answer.last_code
+  pub served : IsServedSaving start left old new ended before answer.last_code saves
   pub status_is : answer.status ≡ answer.last_code
   pub waits : answer.is_started ≡ false
 
@@ -191,15 +194,20 @@ pub record HasDrilled (count : ℕ) (start : SessionState) (old new : Links) (be
 -- ---- all tools
 
 -- What a tool does from the state in which its databases were loaded, behind a reply of this code: to the links, by its answer, what it tells on
--- standard error behind its session, and what the session leaves.
-abbrev pub Uses : Tool → Roots → SessionState → Links → Links → ℕ → ToolAnswer → List ℕ → Resources → Type 0
-Uses (Communicate owner) roots start old new before answer said left =
-    HasCommunicated start old.io new.io before answer left × (new.child ≡ old.child) × (said ≡ [])
-Uses (LoadTemplate owner paths) roots start old new before answer said left = HasLoadedTemplates start paths old new before answer said left
-Uses (Run owner frontend priority command) roots start old new before answer said left = HasRunProgram command start old new before answer left × (said ≡ [])
-Uses (Show database shown) roots start old new before answer said left = HasShown shown roots.conf start old new before answer left × (said ≡ [])
-Uses (CopyDb copy) roots start old new before answer said left = CopiesBy roots.copy start old new before answer said left
-Uses (SetSelections verbose check unseen) roots start old new before answer said left =
-    HasTaken (record { verbose = verbose; check = check; unseen = unseen }) start old.io new.io before answer left × (new.child ≡ old.child) × (said ≡ [])
-Uses GetSelections roots start old new before answer said left = HasSaidAnswers start old new before answer said left
-Uses (Drill count) roots start old new before answer said left = HasDrilled count start old new before answer left × (said ≡ [])
+-- standard error behind its session, what the session leaves, and the saves in the middle of it, of which those that serve no commands have none.
+abbrev pub Uses : Tool → Roots → SessionState → Links → Links → ℕ → ToolAnswer → List ℕ → Resources → List Save → Type 0
+Uses (Communicate owner) roots start old new before answer said left saves =
+    HasCommunicated start old.io new.io before answer left saves × (new.child ≡ old.child) × (said ≡ [])
+Uses (LoadTemplate owner paths) roots start old new before answer said left saves =
+    HasLoadedTemplates start paths old new before answer said left × (saves ≡ [])
+Uses (Run owner frontend priority command) roots start old new before answer said left saves =
+    HasRunProgram command start old new before answer left saves × (said ≡ [])
+Uses (Show database shown) roots start old new before answer said left saves =
+    HasShown shown roots.conf start old new before answer left × (said ≡ []) × (saves ≡ [])
+Uses (CopyDb copy) roots start old new before answer said left saves = CopiesBy roots.copy start old new before answer said left × (saves ≡ [])
+Uses (SetSelections verbose check unseen) roots start old new before answer said left saves =
+    HasTaken (record { verbose = verbose; check = check; unseen = unseen }) start old.io new.io before answer left
+    × (new.child ≡ old.child) × (said ≡ []) × (saves ≡ [])
+Uses GetSelections roots start old new before answer said left saves = HasSaidAnswers start old new before answer said left × (saves ≡ [])
+Uses (Drill count) roots start old new before answer said left saves =
+    HasDrilled count start old new before answer left × (said ≡ []) × (saves ≡ [])

@@ -12,11 +12,12 @@ use Rattle.dc_run.specs.Ends.{status_of}
 use Rattle.dc_run.specs.Finishing.{FinishesWhere}
 use Rattle.dc_run.specs.Jobs.{Uses}
 use Rattle.dc_run.specs.Running.{Awaits}
+use Rattle.dc_run.specs.Saves.{Save}
 use Rattle.dc_run.specs.Starting.{HasStarted, begun, keeps_changes}
 use Rattle.dc_run.specs.World.{Links, Stock, World, before_rounds}
 
--- The layers were loaded, the tool ran over them, and what it left was saved, or not, by how it ended. A program that was started is waited
--- for then. The end is told behind what the tool told.
+-- The layers were loaded, the tool ran over them, perhaps with saves in its middle, and what it left was saved, or not, by how it ended. A program that
+-- was started is waited for then. The end is told behind what the tool told.
 pub record HasUsed (tool : Tool) (settings : Settings) (old new : World) (outcome : Outcome) : Type 0 where
   pub mid : Stock
   pub roots : Roots
@@ -25,7 +26,8 @@ pub record HasUsed (tool : Tool) (settings : Settings) (old new : World) (outcom
   pub told : List ℕ
   pub left : Resources
   pub links : Links
-  pub uses : Uses tool roots (begun tool (before_rounds (record old { stock = mid })) roots settings) old.links links 0 answer told left
+  pub inner : List Save
+  pub uses : Uses tool roots (begun tool (before_rounds (record old { stock = mid })) roots settings) old.links links 0 answer told left inner
   pub how : End
   pub finishes : FinishesWhere (keeps_changes tool) left.layers new.stock.used answer.ended left.files new.stock.files how
   pub io_is : new.links.io ≡ links.io

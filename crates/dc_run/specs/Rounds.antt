@@ -28,15 +28,14 @@ FindsJobs used old new (Err how) status = ⊥
 
 -- ---- one round
 
--- The tool did what it does from the state that the round found, told what it tells behind its session, and saved nothing in its middle.
+-- The tool did what it does from the state that the round found, with these saves in its middle, and told what it tells behind its session.
 pub record HasDone (used : Tool) (roots : Roots) (settings : Settings) (old new : RunState) (answer : ToolAnswer) (saves : List Save) : Type 0 where
   pub told : List ℕ
   pub left : Resources
-  pub uses : Uses used roots (begun used old roots settings) old.world.links new.world.links old.code answer told left
+  pub uses : Uses used roots (begun used old roots settings) old.world.links new.world.links old.code answer told left saves
   pub stock_is : new.world.stock ≡ stock_of left.files left.layers
   pub said : HasSaid told left.err new.world.err
   pub ahead_is : new.ahead ≡ left.terminal.ahead
-  pub saves_are : saves ≡ []
   pub code_is : new.code ≡ answer.last_code
 
 -- What a job does to what its round found: what it leaves before its save, its answer, and the saves in its middle.

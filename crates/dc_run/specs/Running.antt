@@ -1,18 +1,20 @@
 -- What the tool `run` does: it starts a program, serves its commands, and waits for it (debconf(1)).
-use Rattle.std.specs.Prelude.{◌≡◌, ◌⊎◌, ℕ, Bool, true, false, List, Ok, Err}
+use Rattle.std.specs.Prelude.{◌≡◌, ◌⊎◌, ℕ, Bool, true, false, List, [], Ok, Err}
 use Rattle.dc_outside.specs.LinkCalls.{Starts, Waits}
 use Rattle.dc_outside.specs.declared.link.LinkError.{LinkError}
 use Rattle.dc_outside.specs.declared.link.LinkError.TheVariants.{Failed, OutOfMemory}
 use Rattle.dc_serve.specs.declared.outcome.LinkEnd.{LinkEnd}
-use Rattle.dc_session.specs.Serving.{IsServed, Resources, resources_in}
+use Rattle.dc_session.specs.Serving.{Resources, resources_in}
 use Rattle.dc_outside.specs.State.{LinkState}
 use Rattle.dc_session.specs.SessionState.{SessionState}
-use Rattle.dc_session.specs.declared.stepped.StepError.{StepError}
 use Rattle.dc_run.specs.declared.outcome.End.{End}
 use Rattle.dc_run.specs.declared.outcome.ToolAnswer.{ToolAnswer}
 use Rattle.dc_run.specs.declared.outcome.ToolEnd.{ToolEnd}
 use Rattle.dc_run.specs.declared.outcome.ToolEnd.TheVariants as tool
 use Rattle.dc_run.specs.Ends.{tool_end_of, end_unwaited}
+use Rattle.dc_run.specs.Saves.{Save}
+use Rattle.dc_run.specs.SavingSession.{IsServedSaving}
+use Rattle.dc_run.specs.declared.saving_session.SavingBreak.{SavingBreak}
 use Rattle.dc_run.specs.World.{Links}
 
 -- ---- the program is started and served
@@ -23,7 +25,8 @@ end_unstarted Failed = tool.ChildFault
 end_unstarted OutOfMemory = tool.OutOfMemory
 
 -- the start failed, or found no memory, and nothing was done
-pub record IsNotStarted (command : List (List ℕ)) (start : SessionState) (old new : Links) (before : ℕ) (answer : ToolAnswer) (left : Resources) : Type 0 where
+pub record IsNotStarted (command : List (List ℕ)) (start : SessionState) (old new : Links)
+    (before : ℕ) (answer : ToolAnswer) (left : Resources) (saves : List Save) : Type 0 where
   pub error : LinkError
   pub ended_is : answer.ended ≡ end_unstarted error
   pub starts : Starts {T = Unit {0}} command old.child new.child (Err error)
@@ -31,21 +34,23 @@ pub record IsNotStarted (command : List (List ℕ)) (start : SessionState) (old 
   pub left_is : left ≡ resources_in start
   pub code_is : answer.last_code ≡ before
   pub waits : answer.is_started ≡ false
+  pub saves_are : saves ≡ []
 
 -- the program was started with the command's words, its commands were served, with the user asked on the program's own link, and the session
 -- was finished
-pub record IsStarted (command : List (List ℕ)) (start : SessionState) (old new : Links) (before : ℕ) (answer : ToolAnswer) (left : Resources) : Type 0 where
+pub record IsStarted (command : List (List ℕ)) (start : SessionState) (old new : Links)
+    (before : ℕ) (answer : ToolAnswer) (left : Resources) (saves : List Save) : Type 0 where
   pub mid : LinkState
   pub starts : Starts {T = Unit {0}} command old.child mid (Ok tt)
-  pub ended : LinkEnd StepError
+  pub ended : LinkEnd SavingBreak
   pub ended_is : answer.ended ≡ tool_end_of ended
-  pub served : IsServed start left mid new.child ended before answer.last_code
+  pub served : IsServedSaving start left mid new.child ended before answer.last_code saves
   pub io : new.io ≡ left.terminal.link
   pub waits : answer.is_started ≡ true
 
-abbrev pub HasRunProgram : List (List ℕ) → SessionState → Links → Links → ℕ → ToolAnswer → Resources → Type 0
-HasRunProgram command start old new before answer left =
-    IsNotStarted command start old new before answer left ⊎ IsStarted command start old new before answer left
+abbrev pub HasRunProgram : List (List ℕ) → SessionState → Links → Links → ℕ → ToolAnswer → Resources → List Save → Type 0
+HasRunProgram command start old new before answer left saves =
+    IsNotStarted command start old new before answer left saves ⊎ IsStarted command start old new before answer left saves
 
 -- ---- it is waited for, when all else is done
 

@@ -54,8 +54,8 @@ fn is_saved(keeps: bool, ended: &ToolEnd) -> bool
     keeps && comes_to_save(ended)
 }
 
-// Saves the images of all layers, which are made before the first call of the files, and then marks each layer as saved.
-fn save_all<F: Files>(
+/// Saves the images of all layers, which are made before the first call of the files, and then marks each layer as saved.
+pub fn save_all<F: Files>(
     alloc: Global,
     files: &mut F,
     layers: &mut [Box<dyn Layer>],

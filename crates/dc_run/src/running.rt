@@ -1,5 +1,5 @@
 // The call that the program makes.
-ghost use Rattle.std.specs.Prelude.{◌≡◌, List, [], length, map as each, true};
+ghost use Rattle.std.specs.Prelude.{◌≡◌, List, length, map as each, true};
 ghost use Rattle.dc_outside.specs.Programs.{IsIdle, IsRunning};
 ghost use Rattle.dc_run.specs.EndLines.{end_line, HasSaid};
 ghost use Rattle.dc_run.specs.Ends.{status_of};
@@ -138,11 +138,11 @@ fn use_tool<L: Link, E: Link, C: Child, F: Files>(
     requires apart { AreApart tool.now (shaped roots.now) (length used.old.items) }
     requires idle { IsIdle (C.link child.old).program.life }
     requires command { HasCommand tool.now }
-    ensures does { HasDone tool.now (shaped roots.now) settings.now
+    ensures does { (saves : List Save) × HasDone tool.now (shaped roots.now) settings.now
         (run_state (L.link io.old) (C.link child.old) (E.link err.old) (F.files files.old) (each state used.old.items) teletype.old.ahead last_code)
         (run_state (L.link io.new) (C.link child.new) (E.link err.new) (F.files files.new) (each state used.new.items) teletype.new.ahead
         result.last_code)
-        result [] }
+        result saves }
     ensures running { result.is_started ≡ true → IsRunning (C.link child.new).program.life }
 {
     match tool {

@@ -8,13 +8,16 @@ ghost use Rattle.dc_run.specs.Inside.{HasServedProgram, asked_run};
 ghost use Rattle.dc_run.specs.Running.{HasRunProgram, end_unstarted as end_unstarted_of};
 ghost use Rattle.dc_run.specs.Starting.{AreOver, begun, resources_for, session_at};
 ghost use Rattle.dc_run.specs.World.{links_of, run_state};
-ghost use Rattle.dc_session.specs.Serving.{IsServed, resources_of};
+ghost use Rattle.dc_run.specs.Saves.{Save};
+ghost use Rattle.dc_run.specs.SavingSession.{IsServedSaving};
+ghost use Rattle.dc_session.specs.Serving.{resources_of};
 ghost use Rattle.dc_session.specs.SessionState.{terminal_at};
 ghost use Rattle.dc_cli.specs.declared.tool.Tool.TheVariants.{Communicate};
 ghost use Rattle.dc_conf.specs.Trees.{shape};
 ghost use Rattle.dc_run.specs.Roots.{shaped};
 
 use crate::outcome::{ToolAnswer, ToolEnd, tool_end};
+use crate::saving_session::{SavingBreak, serve_saving};
 use crate::settings::Settings;
 use crate::starting::{Roots, chosen, chosen_frontend, first_of};
 use dc_frontend::Frontend;
@@ -22,7 +25,7 @@ use dc_layer::Layer;
 use dc_outside::{Child, Files, Link, LinkError};
 use dc_proto::Priority;
 use dc_serve::Conversation;
-use dc_session::{NoTerminal, SessionSetup, StepError, serve_layers};
+use dc_session::{NoTerminal, SessionSetup};
 use dc_teletype::Teletype;
 use dc_text::{List, Name, Text};
 use std::alloc::Global;
@@ -51,13 +54,14 @@ pub fn communicate<L: Link, E: Link, F: Files>(
 ) -> ToolAnswer
     requires roots { AreOver (shaped roots.now) (length used.old.items) }
     requires disjoint { are_disjoint (shape roots.now.config) (shape roots.now.templates) ≡ true }
-    ensures served { (child : LinkState) → HasCommunicated
+    ensures served { (saves : List Save) × ((child : LinkState) → HasCommunicated
         (begun (Communicate owner.now)
         (run_state (L.link io.old) child (E.link err.old) (F.files files.old) (each state used.old.items) teletype.old.ahead last_code)
         (shaped roots.now) settings.now)
         (L.link io.old) (L.link io.new) last_code result
         (resources_for (Communicate owner.now)
-        (run_state (L.link io.new) child (E.link err.new) (F.files files.new) (each state used.new.items) teletype.new.ahead result.last_code)) }
+        (run_state (L.link io.new) child (E.link err.new) (F.files files.new) (each state used.new.items) teletype.new.ahead result.last_code))
+        saves) }
 {
     let served = serve_for(
         alloc,
@@ -102,14 +106,15 @@ pub fn run_program<L: Link, E: Link, C: Child, F: Files>(
     requires disjoint { are_disjoint (shape roots.now.config) (shape roots.now.templates) ≡ true }
     requires idle { IsIdle (C.link child.old).program.life }
     requires some { 0 < length command.now }
-    ensures ran { HasRunProgram command.now
+    ensures ran { (saves : List Save) × HasRunProgram command.now
         (begun (asked_run asking.now command.now)
         (run_state (L.link io.old) (C.link child.old) (E.link err.old) (F.files files.old) (each state used.old.items) teletype.old.ahead last_code)
         (shaped roots.now) settings.now)
         (links_of (L.link io.old) (C.link child.old)) (links_of (L.link io.new) (C.link child.new)) last_code result
         (resources_for (asked_run asking.now command.now)
         (run_state (L.link io.new) (C.link child.new) (E.link err.new) (F.files files.new) (each state used.new.items) teletype.new.ahead
-        result.last_code)) }
+        result.last_code))
+        saves }
     ensures running { result.is_started ≡ true → IsRunning (C.link child.new).program.life }
 {
     match child.start(command) {
@@ -141,14 +146,15 @@ fn serve_program<L: Link, E: Link, C: Child, F: Files>(
 ) -> ToolAnswer
     requires roots { AreOver (shaped roots.now) (length used.old.items) }
     requires disjoint { are_disjoint (shape roots.now.config) (shape roots.now.templates) ≡ true }
-    ensures served { (command : List (List ℕ)) → HasServedProgram
+    ensures served { (saves : List Save) × ((command : List (List ℕ)) → HasServedProgram
         (begun (asked_run asking.now command)
         (run_state (L.link io.old) (C.link child.old) (E.link err.old) (F.files files.old) (each state used.old.items) teletype.old.ahead last_code)
         (shaped roots.now) settings.now)
         (C.link child.old) (C.link child.new) last_code result
         (resources_for (asked_run asking.now command)
         (run_state (L.link io.new) (C.link child.new) (E.link err.new) (F.files files.new) (each state used.new.items) teletype.new.ahead
-        result.last_code)) }
+        result.last_code))
+        saves) }
 {
     let served = serve_for(
         alloc,
@@ -188,15 +194,15 @@ fn serve_for<L: Link, T: Link, E: Link, F: Files>(
     used: &mut Vec<Box<dyn Layer>>,
     teletype: &mut Teletype,
     last_code: u8,
-) -> Conversation<StepError>
+) -> Conversation<SavingBreak>
     requires roots { AreOver (shaped roots.now) (length used.old.items) }
     requires disjoint { are_disjoint (shape roots.now.config) (shape roots.now.templates) ≡ true }
-    ensures { IsServed
+    ensures { (saves : List Save) × IsServedSaving
         (session_at
         (resources_of (each state used.old.items) (F.files files.old) (terminal_at (T.link terminal.old) teletype.old.ahead) (E.link err.old))
         (shaped roots.now) settings.now owner.now frontend threshold)
         (resources_of (each state used.new.items) (F.files files.new) (terminal_at (T.link terminal.new) teletype.new.ahead) (E.link err.new))
-        (L.link io.old) (L.link io.new) result.end last_code result.last_code }
+        (L.link io.old) (L.link io.new) result.end last_code result.last_code saves }
 {
     let setup = SessionSetup {
         owner,
@@ -205,7 +211,7 @@ fn serve_for<L: Link, T: Link, E: Link, F: Files>(
         threshold,
         nonint_seen: settings.nonint_seen,
     };
-    serve_layers(
+    serve_saving(
         alloc,
         io,
         terminal,

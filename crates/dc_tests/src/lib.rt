@@ -2,8 +2,6 @@
 #![tactic(auto)]
 
 #[cfg(test)]
-mod around_tests;
-#[cfg(test)]
 mod running_tests;
 #[cfg(test)]
 mod tests;

@@ -15,7 +15,7 @@ use dc_text::{FieldKey, List, Text};
 use std::alloc::Global;
 use std::process::Abort;
 
-pub(crate) fn text(rt: &impl Abort, alloc: Global, bytes: &str) -> Text {
+fn text(rt: &impl Abort, alloc: Global, bytes: &str) -> Text {
     Text::from_bytes(alloc, bytes.as_bytes()).expect(rt, "memory")
 }
 
@@ -201,7 +201,7 @@ fn a_program_is_read_to_its_end_and_waited_for(rt: HostRuntime) {
 }
 
 // A layer in a file, without items.
-pub(crate) fn layer(rt: &impl Abort, alloc: Global) -> FileLayer {
+fn layer(rt: &impl Abort, alloc: Global) -> FileLayer {
     let mut layer = FileLayer::blank(alloc);
     let spec = LayerSpec {
         name: Text::new(alloc),

@@ -6,8 +6,11 @@ use Rattle.dc_run.proofs.serving.communicate.Goals as goal
 
 pub returns : goal.returns
 returns g c = record {
-  served = λ child. was_communicated
-      (run_state (g.L.Link.link c.args.io.now) child (g.E.Link.link c.args.err.now) _ _ c.args.teletype.now.ahead c.args.last_code)
-      (shaped c.args.roots.now) c.args.settings.now c.args.owner.now _ _ _ c.serve_for-served.result.end c.args.last_code c.serve_for-served.result.last_code c.chosen.result c.chosen.ensures _ refl
-      c.tool_end.ensures refl refl c.serve_for-served.ensures;
+  served = (
+    c.serve_for-served.ensures.0,
+    λ child. was_communicated
+        (run_state (g.L.Link.link c.args.io.now) child (g.E.Link.link c.args.err.now) _ _ c.args.teletype.now.ahead c.args.last_code)
+        (shaped c.args.roots.now) c.args.settings.now c.args.owner.now _ _ _ c.serve_for-served.result.end c.args.last_code c.serve_for-served.result.last_code _ c.chosen.result c.chosen.ensures _ refl
+        c.tool_end.ensures refl refl c.serve_for-served.ensures.1,
+  );
 }
