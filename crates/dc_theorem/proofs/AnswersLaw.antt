@@ -1,5 +1,5 @@
 -- Where no failure of the files was counted and a run did all, each line has the reply of its row.
-use Rattle.std.proofs.Common.{◌≡◌, ℕ, inl, inr, List, [], ◌∷◌, refl, ap, sym, subst, ◌∙◌, arith}
+use Rattle.std.proofs.Common.{◌≡◌, ℕ, Bool, true, false, inl, inr, List, [], ◌∷◌, refl, ap, sym, subst, ◌∙◌, arith}
 use Rattle.std.specs.Prelude.{◌≤◌, ◌≢◌, Option, Some, None}
 use Rattle.std.specs.Io.KnownBytes.{prepend_known}
 use Rattle.dc_words.specs.declared.stream.Line.{Line}
@@ -15,7 +15,8 @@ use Rattle.dc_frontend.specs.declared.frontend.Frontend.{Frontend}
 use Rattle.dc_proto.specs.declared.priority.Priority.{Priority}
 use Rattle.dc_serve.specs.Execution.{Transition, IsExecution, state_after}
 use Rattle.dc_serve.specs.LinkRun.{IsWhole}
-use Rattle.dc_session.specs.Machine.{TakesLine, Looks, Steps, StepsHeard, file_of}
+use Rattle.dc_serve.specs.declared.machine.Response.{Response}
+use Rattle.dc_session.specs.Machine.{Looks, Steps, StepsHeard, asks_to_save, file_of}
 use Rattle.dc_session.specs.Serving.{Resources}
 use Rattle.dc_session.specs.SessionState.{SessionState}
 use Rattle.dc_session.specs.TemplateFiles.{Finds}
@@ -26,15 +27,16 @@ use Rattle.dc_cli.specs.declared.tool.Tool.{Tool}
 use Rattle.dc_cli.specs.declared.tool.Tool.TheVariants.{Communicate, Run}
 use Rattle.dc_run.specs.OneRound.{HasUsed}
 use Rattle.dc_run.specs.Running.{IsStarted}
+use Rattle.dc_run.specs.SavingSession.{HandlesBy, TakesSaving}
 use Rattle.dc_run.specs.Starting.{begun, keeps_changes}
 use Rattle.dc_run.specs.World.{World, before_rounds}
 use Rattle.dc_run.specs.declared.outcome.End.TheVariants as end
 use Rattle.dc_run.specs.declared.outcome.Outcome.{Outcome}
 use Rattle.dc_run.specs.declared.settings.Settings.{Settings}
-use Rattle.dc_theorem.specs.Completeness.{Answers, AnswersAll, AnswersHeard, AnswersLine}
+use Rattle.dc_theorem.specs.Completeness.{Answers, AnswersAll, AnswersHeard, AnswersLine, HandlesAll}
 use Rattle.dc_theorem.proofs.CallsLaw.{at_save}
 use Rattle.dc_theorem.proofs.CleanLaw.{waited_link}
-use Rattle.dc_theorem.proofs.CountsLater.{course_kept, end_of_later, rose_behind, rose_between, start_later, takes_kept}
+use Rattle.dc_theorem.proofs.CountsLater.{course_kept, end_of_later, rose_behind, rose_between, saving_kept, start_later}
 use Rattle.dc_theorem.proofs.EndLemmas.{WasServed, unstarted_other, was_served}
 
 -- ---- a line
@@ -60,23 +62,26 @@ module _ (old new : SessionState) (did : Stepped) (none : ¬ Rose old.files.coun
 same_least : (n : ℕ) → n ≤ n
 same_least n = omega arith
 
-course_answered : (start : SessionState) (turns : List (Transition SessionState)) → IsExecution TakesLine start turns → ¬ Rose start.files.counts.faults (state_after start turns).files.counts.faults → IsExecution Answers start turns
+all_handled : (asks : Bool) (old mid : SessionState) (line : Line) (did : Response) → ¬ Rose old.files.counts.faults mid.files.counts.faults → HandlesBy asks old line did mid → HandlesAll asks old line did mid
+all_handled true old mid line did none saves = saves
+all_handled false old mid line did none handled =
+    record { stepped = handled.stepped; steps = line_answered old mid handled.stepped none line handled.steps; did_is = handled.did_is }
+
+course_answered : (start : SessionState) (turns : List (Transition SessionState)) → IsExecution TakesSaving start turns → ¬ Rose start.files.counts.faults (state_after start turns).files.counts.faults → IsExecution Answers start turns
 course_answered start [] course none = tt
 course_answered start (turn ∷ turns) course none =
     let first : ℕ = start.files.counts.faults in
     let second : ℕ = turn.new.files.counts.faults in
-    let last : ℕ = (state_after turn.new turns).files.counts.faults in (
+    let last : ℕ = (state_after turn.new turns).files.counts.faults in
+    let here : ¬ Rose first course.0.mid.files.counts.faults
+    = λ rose. none (rose_between first first second last (same_least first) (subst (λ (s : SessionState). Rose first s.files.counts.faults) (sym course.0.tells.new_is) rose) (course_kept turn.new turns course.2).0) in (
       record {
         mid = course.0.mid;
-        stepped = course.0.handled.stepped;
-        steps = line_answered start course.0.mid course.0.handled.stepped
-            (λ rose. none (rose_between first first second last (same_least first)
-            (subst (λ (s : SessionState). Rose first s.files.counts.faults) (sym course.0.tells.new_is) rose) (course_kept turn.new turns course.2).0)) turn.line course.0.handled.steps;
-        did_is = course.0.handled.did_is;
+        handled = all_handled (asks_to_save start.asking.escape turn.line) start course.0.mid turn.line turn.did here course.0.handled;
         tells = course.0.tells;
       },
       course.1,
-      course_answered turn.new turns course.2 (λ rose. none (rose_behind first second last (takes_kept start turn.new turn.line turn.did course.0).0 rose)),
+      course_answered turn.new turns course.2 (λ rose. none (rose_behind first second last (saving_kept start turn.new turn.line turn.did course.0).0 rose)),
     )
 
 -- ---- a session
@@ -124,7 +129,7 @@ pub communicate_answered : (owner : List ℕ) (settings : Settings) (old new : W
     → ¬ Rose old.stock.files.counts.faults new.stock.files.counts.faults → AnswersAll (begun (Communicate owner) (before_rounds (record old { stock = run.mid })) run.roots settings) old.links.io new.links.io
 communicate_answered owner settings old new outcome run done none =
     let start = begun (Communicate owner) (before_rounds (record old { stock = run.mid })) run.roots settings in
-    let served = was_served start run.left old.links.io run.links.io run.uses.0.ended 0 run.answer.last_code (sym run.uses.0.ended_is ∙ (at_save (Communicate owner) settings old new outcome run done).0) run.uses.0.served in
+    let served = was_served start run.left old.links.io run.links.io run.uses.0.ended 0 run.answer.last_code (sym run.uses.0.ended_is ∙ (at_save (Communicate owner) settings old new outcome run done).0) run.uses.0.served.by in
     with_links start old.links.io old.links.io run.links.io new.links.io refl refl (ap (λ (l : LinkState). l.talk) run.io_is) (ap (λ (l : LinkState). l.input) run.io_is)
     (all_answered start run.left old.links.io run.links.io run.answer.last_code served (tool_sound (Communicate owner) settings old new outcome run none))
 
@@ -136,9 +141,9 @@ module _ (owner : List ℕ) (frontend : Option Frontend) (priority : Option Prio
   abbrev start : SessionState
   start = begun Used (before_rounds (record old { stock = run.mid })) run.roots settings
 
-  started_answered : IsStarted command start old.links run.links 0 run.answer run.left → AnswersAll start old.links.child new.links.child
+  started_answered : IsStarted command start old.links run.links 0 run.answer run.left run.inner → AnswersAll start old.links.child new.links.child
   started_answered started =
-      let served = was_served start run.left started.mid run.links.child started.ended 0 run.answer.last_code (sym started.ended_is ∙ (at_save Used settings old new outcome run done).0) started.served in
+      let served = was_served start run.left started.mid run.links.child started.ended 0 run.answer.last_code (sym started.ended_is ∙ (at_save Used settings old new outcome run done).0) started.served.by in
       let same = waited_link run.answer.is_started run.links.child new.links.child run.how outcome.end run.answer.status run.status run.awaits in
       with_links start old.links.child started.mid run.links.child new.links.child (ap (λ (l : LinkState). l.talk) started.starts.state) (ap (λ (l : LinkState). l.input) started.starts.state) same.0 same.1
       (all_answered start run.left started.mid run.links.child run.answer.last_code served (tool_sound Used settings old new outcome run none))

@@ -34,8 +34,8 @@ use Rattle.dc_serve.specs.declared.machine.Response.{Response}
 use Rattle.dc_serve.specs.declared.outcome.LinkEnd.{LinkEnd}
 use Rattle.dc_serve.specs.declared.outcome.LinkEnd.TheVariants as link
 use Rattle.dc_session.specs.Asking.{finished, with_seen}
-use Rattle.dc_session.specs.Machine.{Aborts, BreaksHeard, BreaksIdle, BreaksOff, IsDoneInPart, Steps, StepsHeard, TakesLine}
-use Rattle.dc_session.specs.Serving.{IsFinished, Finishes as FinishesSession, IsServed, Resources}
+use Rattle.dc_session.specs.Machine.{Aborts, BreaksHeard, BreaksIdle, BreaksOff, IsDoneInPart, Steps, StepsHeard, TakesLine, asks_to_save}
+use Rattle.dc_session.specs.Serving.{IsFinished, Finishes as FinishesSession, IsServedBy, Resources}
 use Rattle.dc_session.specs.SessionState.{SessionState}
 use Rattle.dc_session.specs.declared.stepped.StepError.{StepError}
 use Rattle.dc_session.specs.declared.stepped.StepError.TheVariants as step
@@ -46,6 +46,7 @@ use Rattle.dc_run.specs.Ends.{end_of, end_unwaited}
 use Rattle.dc_run.specs.Finishing.{Finishes}
 use Rattle.dc_run.specs.OneRound.{HasUsed}
 use Rattle.dc_run.specs.Running.{Awaits}
+use Rattle.dc_run.specs.SavingSession.{BreaksSaving, TakesSaving}
 use Rattle.dc_run.specs.Starting.{begun}
 use Rattle.dc_run.specs.World.{World, before_rounds}
 use Rattle.dc_run.specs.declared.outcome.End.{End}
@@ -53,10 +54,13 @@ use Rattle.dc_run.specs.declared.outcome.End.TheVariants as end
 use Rattle.dc_run.specs.declared.outcome.Outcome.{Outcome}
 use Rattle.dc_run.specs.declared.outcome.ToolEnd.{ToolEnd}
 use Rattle.dc_run.specs.declared.outcome.ToolEnd.TheVariants as tool
+use Rattle.dc_run.specs.declared.saving_session.SavingBreak.{SavingBreak}
+use Rattle.dc_run.specs.declared.saving_session.SavingBreak.TheVariants as saving
 use Rattle.dc_run.specs.declared.settings.Settings.{Settings}
 use Rattle.dc_run.proofs.CrashLemmas.{state_left}
 use Rattle.dc_theorem.proofs.CleanLaw.{waited_link}
-use Rattle.dc_theorem.specs.Completeness.{AreCutShort, IsBeforeLine, EndsEarly, KeepUp, LeavesHeard, NoneLeft}
+use Rattle.dc_theorem.proofs.SavingLines.{TakesBy, save_layers, taken}
+use Rattle.dc_theorem.specs.Completeness.{AreCutShort, IsBeforeLine, IsBehindSave, EndsEarly, KeepUp, LeavesHeard, NoneLeft}
 
 -- ---- a line without a reply
 
@@ -99,10 +103,33 @@ module _ (old new : SessionState) where
   line_left TooLong error idle = idle_left error idle
   line_left (Whole line) error aborts = heard_left (heard old.asking.escape line) error aborts
 
+  -- the layers stay
+  heard_stays : (said : Heard) → new.store.layers ≡ old.store.layers → LeavesHeard said old new.store.layers
+  heard_stays Nothing same = same
+  heard_stays (Known command) same = inl same
+  heard_stays (Refused reply) same = same
+
+  line_stays : (line : Line) → new.store.layers ≡ old.store.layers → IsBeforeLine old line new.store.layers
+  line_stays TooLong same = same
+  line_stays (Whole line) same = heard_stays (heard old.asking.escape line) same
+
+  -- it broke off, in it or in the save that it asks for
+  break_left : (line : Line) (error : SavingBreak) → BreaksSaving old line error new → IsBeforeLine old line new.store.layers
+  break_left line (saving.Step error) aborts = line_left line error aborts
+  break_left line (saving.Save error) fails = line_stays line (ap (λ (s : SessionState). s.store.layers) fails.new_is)
+
 -- what the layers told at it was told, which leaves the layers
 line_taken : (old new : SessionState) (line : Line) (did : Response) → TakesLine old line did new → IsBeforeLine old line new.store.layers
 line_taken old new line did takes =
     subst (λ (s : SessionState). IsBeforeLine old line s.store.layers) (sym takes.tells.new_is) (line_done old takes.mid line takes.handled.stepped takes.handled.steps)
+
+-- the same of a line that may ask for a save
+left_by : (asks : Bool) (old new : SessionState) (line : Line) (did : Response) → asks_to_save old.asking.escape line ≡ asks → TakesBy asks old line did new → IsBeforeLine old line new.store.layers ⊎ IsBehindSave old line new.store.layers
+left_by true old new line did asks save = inr (asks, save_layers old new did save)
+left_by false old new line did asks takes = inl (line_taken old new line did takes)
+
+saving_left : (old new : SessionState) (line : Line) (did : Response) → TakesSaving old line did new → IsBeforeLine old line new.store.layers ⊎ IsBehindSave old line new.store.layers
+saving_left old new line did takes = left_by (asks_to_save old.asking.escape line) old new line did refl (taken old new line did takes)
 
 -- ---- the questions that were asked
 
@@ -155,7 +182,7 @@ all_seen_same at all (name ∷ names) store among =
 finished_same : (state : SessionState) → AreSameButAll state.asking.asked state.store.layers (finished state).layers
 finished_same state = all_seen_same state.at state.asking.asked state.asking.asked state.store (λ n in'. in')
 
-finish_same : (state : SessionState) (served ended : LinkEnd StepError) (left : Resources) → IsFinished state served left ended → AreSameButAll state.asking.asked state.store.layers left.layers
+finish_same : (state : SessionState) (served ended : LinkEnd SavingBreak) (left : Resources) → IsFinished state served left ended → AreSameButAll state.asking.asked state.store.layers left.layers
 finish_same state served ended left (inl all) = subst (λ (l : List LayerState). AreSameButAll state.asking.asked state.store.layers l) (sym all.0) (finished_same state)
 finish_same state served ended left (inr none) = none.0
 
@@ -169,18 +196,18 @@ no_end : (gone : List (Transition SessionState)) (last : Transition SessionState
 no_end [] last is = cc
 no_end (turn ∷ gone) last is = cc
 
-course_before : (start : SessionState) (gone : List (Transition SessionState)) (last : Transition SessionState) → IsExecution TakesLine start (gone ++ last ∷ []) → IsExecution TakesLine start gone
+course_before : (start : SessionState) (gone : List (Transition SessionState)) (last : Transition SessionState) → IsExecution TakesSaving start (gone ++ last ∷ []) → IsExecution TakesSaving start gone
 course_before start [] last course = tt
 course_before start (turn ∷ gone) last course = (course.0, (λ stop. absurd (no_end gone last (course.1 stop))), course_before turn.new gone last course.2)
 
-last_handled : (start : SessionState) (gone : List (Transition SessionState)) (last : Transition SessionState) → IsExecution TakesLine start (gone ++ last ∷ []) → TakesLine (state_after start gone) last.line last.did last.new
+last_handled : (start : SessionState) (gone : List (Transition SessionState)) (last : Transition SessionState) → IsExecution TakesSaving start (gone ++ last ∷ []) → TakesSaving (state_after start gone) last.line last.did last.new
 last_handled start [] last course = course.0
 last_handled start (turn ∷ gone) last course = last_handled turn.new gone last course.2
 
 -- ---- a session
 
 module _ (start : SessionState) (old new : LinkState) (before code : ℕ) where
-  module _ (ended : LinkEnd StepError) (state : SessionState) (ran : IsLinkRun TakesLine Aborts old.talk new.talk old.input new.input start ended state before code) where
+  module _ (ended : LinkEnd SavingBreak) (state : SessionState) (ran : IsLinkRun TakesSaving BreaksSaving old.talk new.talk old.input new.input start ended state before code) where
     -- the layers are those behind all turns, but for the questions that were asked where no line was left
     behind_all : (layers : List LayerState) → state ≡ state_after start ran.transitions → (said ran.pieces ≡ replies ran.transitions) ⊎ AreCutShort ran.transitions ran.pieces
         → (layers ≡ state.store.layers) ⊎ (NoneLeft ran.transitions ran.pieces old.input × AreSameButAll state.asking.asked state.store.layers layers) → KeepUp start old new layers
@@ -201,7 +228,7 @@ module _ (start : SessionState) (old new : LinkState) (before code : ℕ) where
     -- of the last line nothing is said
     before_last : (gone : List (Transition SessionState)) (last : Transition SessionState) → ran.transitions ≡ gone ++ last ∷ [] → stops gone ≡ false → said ran.pieces ≡ replies gone → KeepUp start old new last.new.store.layers
     before_last gone last are on replied =
-        let course : IsExecution TakesLine start (gone ++ last ∷ []) = subst (λ (ts : List (Transition SessionState)). IsExecution TakesLine start ts) are ran.course in
+        let course : IsExecution TakesSaving start (gone ++ last ∷ []) = subst (λ (ts : List (Transition SessionState)). IsExecution TakesSaving start ts) are ran.course in
         let handled = last_handled start gone last course in
         record {
           pieces = ran.pieces;
@@ -215,7 +242,7 @@ module _ (start : SessionState) (old new : LinkState) (before code : ℕ) where
             on = on;
             served = subst (AreServed ran.pieces old.input) (ap (λ (ts : List (Transition SessionState)). lines_of ts ++ ran.rest) are ∙ lines_before gone last ran.rest) ran.served;
             replied = replied;
-            layers_are = line_taken (state_after start gone) last.new last.line last.did handled;
+            layers_are = saving_left (state_after start gone) last.new last.line last.did handled;
           });
         }
 
@@ -226,7 +253,7 @@ module _ (start : SessionState) (old new : LinkState) (before code : ℕ) where
         subst (λ (s : SessionState). KeepUp start old new s.store.layers) (sym unsaid.state_is) (before_last unsaid.gone unsaid.last unsaid.turns_are unsaid.on unsaid.pieces_are)
 
     -- the machine broke at a line
-    at_broken : (error : StepError) (line : Line) (more : List Line) → stops ran.transitions ≡ false → ran.rest ≡ line ∷ more → Aborts (state_after start ran.transitions) line error state → said ran.pieces ≡ replies ran.transitions → KeepUp start old new state.store.layers
+    at_broken : (error : SavingBreak) (line : Line) (more : List Line) → stops ran.transitions ≡ false → ran.rest ≡ line ∷ more → BreaksSaving (state_after start ran.transitions) line error state → said ran.pieces ≡ replies ran.transitions → KeepUp start old new state.store.layers
     at_broken error line more on rest_is broke replied = record {
       pieces = ran.pieces;
       told_is = ran.told_is;
@@ -239,12 +266,12 @@ module _ (start : SessionState) (old new : LinkState) (before code : ℕ) where
         on = on;
         served = subst (λ (l : List Line). AreServed ran.pieces old.input (lines_of ran.transitions ++ l)) rest_is ran.served;
         replied = replied;
-        layers_are = line_left (state_after start ran.transitions) state line error broke;
+        layers_are = inl (break_left (state_after start ran.transitions) state line error broke);
       });
     }
 
   -- at each end
-  keeps_up : (served ended : LinkEnd StepError) (state : SessionState) (left : Resources) → IsLinkRun TakesLine Aborts old.talk new.talk old.input new.input start served state before code → FinishesSession served state left ended → KeepUp start old new left.layers
+  keeps_up : (served ended : LinkEnd SavingBreak) (state : SessionState) (left : Resources) → IsLinkRun TakesSaving BreaksSaving old.talk new.talk old.input new.input start served state before code → FinishesSession served state left ended → KeepUp start old new left.layers
   keeps_up link.Done ended state left ran finishes =
       behind_all link.Done state ran left.layers ran.answered.are_said.state_is (inl ran.answered.are_said.pieces_are) (inr (
         elim ran.answered.read [
@@ -271,7 +298,7 @@ module _ (start : SessionState) (old new : LinkState) (before code : ℕ) where
       let at = ran.answered in
       subst (λ (l : List LayerState). KeepUp start old new l) (sym finishes.0) (at_broken (link.Broken error) state ran error at.line at.more at.on at.rest_is at.broke at.pieces_are)
 
-served_up : (start : SessionState) (left : Resources) (old new : LinkState) (ended : LinkEnd StepError) (before code : ℕ) → IsServed start left old new ended before code → KeepUp start old new left.layers
+served_up : (start : SessionState) (left : Resources) (old new : LinkState) (ended : LinkEnd SavingBreak) (before code : ℕ) → IsServedBy TakesSaving BreaksSaving start left old new ended before code → KeepUp start old new left.layers
 served_up start left old new ended before code is = keeps_up start old new before code is.served ended is.state left is.ran is.finishes
 
 nothing_said : (talk : Option (List Piece)) → talk ≡ then_pieces talk []
@@ -355,7 +382,7 @@ communicate_up owner settings old new outcome run unsaved =
     let finish = awaited_unsaved run.answer.is_started run.links.child new.links.child run.how outcome.end run.answer.status run.status run.awaits unsaved in
     let used = used_stays run.left.layers new.stock.used run.left.files new.stock.files run.how finish run.answer.ended run.finishes in
     with_link start old.links.io run.links.io new.links.io new.stock.used (ap (λ (l : LinkState). l.talk) run.io_is) (ap (λ (l : LinkState). l.input) run.io_is)
-    (subst (λ (l : List LayerState). KeepUp start old.links.io run.links.io l) (sym used) (served_up start run.left old.links.io run.links.io run.uses.0.ended 0 run.answer.last_code run.uses.0.served))
+    (subst (λ (l : List LayerState). KeepUp start old.links.io run.links.io l) (sym used) (served_up start run.left old.links.io run.links.io run.uses.0.ended 0 run.answer.last_code run.uses.0.served.by))
 
 module _ (owner : List ℕ) (frontend : Option Frontend) (priority : Option Priority) (command : List (List ℕ)) (settings : Settings) (old new : World) (outcome : Outcome) (run : HasUsed (Run owner frontend priority command) settings old new outcome) where
   abbrev start : SessionState
@@ -369,7 +396,7 @@ module _ (owner : List ℕ) (frontend : Option Frontend) (priority : Option Prio
   program_up : KeepUp start old.links.child run.links.child run.left.layers
   program_up = elim run.uses.0 [
     | inl none ↦ subst (λ (l : Resources). KeepUp start old.links.child run.links.child l.layers) (sym none.left_is) (unstarted_up none.error none.starts)
-    | inr started ↦ with_program start old.links.child started.mid run.links.child run.left.layers started.starts.state (served_up start run.left started.mid run.links.child started.ended 0 run.answer.last_code started.served)
+    | inr started ↦ with_program start old.links.child started.mid run.links.child run.left.layers started.starts.state (served_up start run.left started.mid run.links.child started.ended 0 run.answer.last_code started.served.by)
   ]
 
   pub run_up : EndsEarly outcome.end → KeepUp start old.links.child new.links.child new.stock.used

@@ -15,7 +15,7 @@ use Rattle.dc_outside.specs.declared.files.FilesOp.TheVariants.{Read, List as Li
 use Rattle.dc_proto.specs.Commands.{heard}
 use Rattle.dc_proto.specs.Replies.{printed}
 use Rattle.dc_proto.specs.declared.command.Command.{Command}
-use Rattle.dc_proto.specs.declared.command.Command.TheVariants.{Version, Capb, SetTitle, Title, Input, BeginBlock, EndBlock, Go, Clear, Stop, Get, Set, Reset, Subst, Fget, Fset, Metaget, Register, Unregister, Purge, ProgressStart, ProgressSet, ProgressStep, ProgressInfo, ProgressStop, LoadTemplateFile}
+use Rattle.dc_proto.specs.declared.command.Command.TheVariants.{Version, Capb, SetTitle, Title, Input, BeginBlock, EndBlock, Go, Clear, Stop, Get, Set, Reset, Subst, Fget, Fset, Metaget, Register, Unregister, Purge, ProgressStart, ProgressSet, ProgressStep, ProgressInfo, ProgressStop, LoadTemplateFile, XSave}
 use Rattle.dc_proto.specs.declared.command.Heard.{Heard}
 use Rattle.dc_proto.specs.declared.command.Heard.TheVariants.{Nothing, Known, Refused}
 use Rattle.dc_conf.specs.declared.spec.LayerSort.{LayerSort}
@@ -32,6 +32,7 @@ use Rattle.dc_save.specs.declared.loading.Loaded.TheVariants.{Here, LeftOut}
 use Rattle.dc_save.specs.declared.loading.LoadError.{LoadError}
 use Rattle.dc_shelf.specs.Shelves.{GoesOn, LoadsAll}
 use Rattle.dc_serve.specs.Execution.{Transition, IsExecution, state_after}
+use Rattle.dc_serve.specs.declared.machine.Response.{Response}
 use Rattle.dc_session.specs.Answers.{CommandInputs, answer, loading}
 use Rattle.dc_session.specs.Machine.{TakesLine, Looks, Steps, StepsHeard, file_of, sent_in}
 use Rattle.dc_session.specs.Refusals.{read_fault}
@@ -45,6 +46,7 @@ use Rattle.dc_cli.specs.declared.tool.Tool.{Tool}
 use Rattle.dc_cli.specs.declared.tool.Tool.TheVariants.{Communicate, LoadTemplate, Run, Show, CopyDb, SetSelections, GetSelections, Drill}
 use Rattle.dc_run.specs.Finishing.{images_of}
 use Rattle.dc_run.specs.OneRound.{HasUsed}
+use Rattle.dc_run.specs.SavingSession.{TakesSaving}
 use Rattle.dc_run.specs.Starting.{begun, conf_read, has_files, keeps_changes, loaded_of}
 use Rattle.dc_run.specs.TemplateLoading.{FileTurn, IsFileCourse, EndsAt, state_after as file_state}
 use Rattle.dc_run.specs.World.{World, before_rounds}
@@ -55,6 +57,7 @@ use Rattle.dc_run.specs.declared.outcome.ToolEnd.TheVariants as tool
 use Rattle.dc_run.specs.declared.settings.Settings.{Settings}
 use Rattle.dc_theorem.specs.Completeness.{AddCalls, AreItsTurns, FailsAtMost, IsOfAny, IsOfOptional, IsReadBy, IsReadIn}
 use Rattle.dc_theorem.proofs.CountsLater.{copied_files}
+use Rattle.dc_theorem.proofs.SavingLines.{TakesSave, save_files, line_or_save}
 use Rattle.dc_theorem.proofs.EndLemmas.{HasKept, WasServed, kept_so, unstarted_other, waited, was_served}
 
 -- ---- calls, one after another
@@ -211,6 +214,7 @@ templates_only EndBlock path is = absurd (no_path path is)
 templates_only Go path is = absurd (no_path path is)
 templates_only Clear path is = absurd (no_path path is)
 templates_only Stop path is = absurd (no_path path is)
+templates_only XSave path is = absurd (no_path path is)
 templates_only (Get w) path is = absurd (no_path path is)
 templates_only (Set w t) path is = absurd (no_path path is)
 templates_only (Reset w) path is = absurd (no_path path is)
@@ -281,12 +285,23 @@ turn_add start turn takes =
     subst (λ (s : SessionState). AddCalls (IsReadBy start turn) start.files.view s.files.view) (sym takes.tells.new_is)
     (so_weaker (IsReadBy start at) (IsReadBy start turn) start.files.view takes.mid.files.view (λ call so. record { line = so.line; owner = so.owner; text = so.text; line_is = so.line_is; heard_is = so.heard_is; replied = so.replied }) adds)
 
-pub turns_add : (start : SessionState) (turns : List (Transition SessionState)) → IsExecution TakesLine start turns → AddCalls (IsReadIn start turns) start.files.view (state_after start turns).files.view
+-- a save that is done adds calls that were all answered
+save_add : (So : FilesCall → Type 0) (old new : SessionState) (did : Response) → TakesSave old did new → AddCalls So old.files.view new.files.view
+save_add So old new did takes =
+    subst (λ (f : FilesState). AddCalls So old.files.view f.view) (sym (save_files old new did takes)) (adds_images So old.files.view (images_of old.store.layers))
+
+saving_add : (start : SessionState) (turn : Transition SessionState) → TakesSaving start turn.line turn.did turn.new → AddCalls (IsReadBy start turn) start.files.view turn.new.files.view
+saving_add start turn takes = elim (line_or_save start turn.new turn.line turn.did takes) [
+  | inl by_itself ↦ turn_add start turn by_itself
+  | inr save ↦ save_add (IsReadBy start turn) start turn.new turn.did save
+]
+
+pub turns_add : (start : SessionState) (turns : List (Transition SessionState)) → IsExecution TakesSaving start turns → AddCalls (IsReadIn start turns) start.files.view (state_after start turns).files.view
 turns_add start [] course = adds_none (IsReadIn start []) start.files.view start.files.view refl
 turns_add start (turn ∷ turns) course =
     let So : FilesCall → Type 0 = IsReadIn start (turn ∷ turns) in
     adds_then So start.files.view turn.new.files.view (state_after turn.new turns).files.view
-    (so_weaker (IsReadBy start turn) So start.files.view turn.new.files.view (λ call so. inl so) (turn_add start turn course.0))
+    (so_weaker (IsReadBy start turn) So start.files.view turn.new.files.view (λ call so. inl so) (saving_add start turn course.0))
     (so_weaker (IsReadIn turn.new turns) So turn.new.files.view (state_after turn.new turns).files.view (λ call so. inr so) (turns_add turn.new turns course.2))
 
 -- ---- template files
@@ -359,7 +374,7 @@ pub fails_at_most : (used : Tool) (settings : Settings) (old new : World) (outco
 fails_at_most (Communicate owner) settings old new outcome run done =
     let Used : Tool = Communicate owner in
     let begins = begun Used (before_rounds (record old { stock = run.mid })) run.roots settings in
-    let served = was_served begins run.left old.links.io run.links.io run.uses.0.ended 0 run.answer.last_code (sym run.uses.0.ended_is ∙ (at_save Used settings old new outcome run done).0) run.uses.0.served in
+    let served = was_served begins run.left old.links.io run.links.io run.uses.0.ended 0 run.answer.last_code (sym run.uses.0.ended_is ∙ (at_save Used settings old new outcome run done).0) run.uses.0.served.by in
     let ran = served.ran in
     fails_by Used settings old new outcome run done ran.transitions
     (ran.course, record { pieces = ran.pieces; told_is = ap (λ (l : LinkState). l.talk) run.io_is ∙ ran.told_is; replied = ran.answered.are_said.pieces_are })
@@ -367,18 +382,18 @@ fails_at_most (Communicate owner) settings old new outcome run done =
 fails_at_most (LoadTemplate owner paths) settings old new outcome run done =
     let Used : Tool = LoadTemplate owner paths in
     let begins = begun Used (before_rounds (record old { stock = run.mid })) run.roots settings in
-    let loads = run.uses.loaded in
-    let ends : run.uses.state ≡ file_state begins loads.turns
-    = (subst (λ (e : ToolEnd). EndsAt e (file_state begins loads.turns) loads.rest run.uses.state) (at_save Used settings old new outcome run done).0 loads.ends).1 in
+    let loads = run.uses.0.loaded in
+    let ends : run.uses.0.state ≡ file_state begins loads.turns
+    = (subst (λ (e : ToolEnd). EndsAt e (file_state begins loads.turns) loads.rest run.uses.0.state) (at_save Used settings old new outcome run done).0 loads.ends).1 in
     fails_by Used settings old new outcome run done [] refl
-    (subst (λ (f : FilesState). AddCalls (IsReadIn begins []) run.mid.files.view f.view) (sym (ap (λ (l : Resources). l.files) run.uses.left_is ∙ ap (λ (s : SessionState). s.files) ends))
+    (subst (λ (f : FilesState). AddCalls (IsReadIn begins []) run.mid.files.view f.view) (sym (ap (λ (l : Resources). l.files) run.uses.0.left_is ∙ ap (λ (s : SessionState). s.files) ends))
     (files_add (IsReadIn begins []) begins loads.turns loads.course))
 fails_at_most (Run owner frontend priority command) settings old new outcome run done = elim run.uses.0 [
   | inl none ↦ absurd (unstarted_other none.error (sym none.ended_is ∙ (at_save (Run owner frontend priority command) settings old new outcome run done).0))
   | inr started ↦
       let Used : Tool = Run owner frontend priority command in
       let begins = begun Used (before_rounds (record old { stock = run.mid })) run.roots settings in
-      let served = was_served begins run.left started.mid run.links.child started.ended 0 run.answer.last_code (sym started.ended_is ∙ (at_save Used settings old new outcome run done).0) started.served in
+      let served = was_served begins run.left started.mid run.links.child started.ended 0 run.answer.last_code (sym started.ended_is ∙ (at_save Used settings old new outcome run done).0) started.served.by in
       let ran = served.ran in
       fails_by Used settings old new outcome run done ran.transitions (
         ran.course,
@@ -394,8 +409,8 @@ fails_at_most (Show database shown) settings old new outcome run done =
     fails_without (Show database shown) settings old new outcome run done refl (ap (λ (l : Resources). l.files) run.uses.0.left_is)
 fails_at_most (CopyDb copy) settings old new outcome run done =
     fails_without (CopyDb copy) settings old new outcome run done refl
-    (copied_files run.roots.copy (begun (CopyDb copy) (before_rounds (record old { stock = run.mid })) run.roots settings) old.links run.links 0 run.answer run.told run.left run.uses)
+    (copied_files run.roots.copy (begun (CopyDb copy) (before_rounds (record old { stock = run.mid })) run.roots settings) old.links run.links 0 run.answer run.told run.left run.uses.0)
 fails_at_most (SetSelections verbose check unseen) settings old new outcome run done =
     fails_without (SetSelections verbose check unseen) settings old new outcome run done refl (ap (λ (l : Resources). l.files) run.uses.0.left_is)
-fails_at_most GetSelections settings old new outcome run done = fails_without GetSelections settings old new outcome run done refl (ap (λ (l : Resources). l.files) run.uses.left_is)
+fails_at_most GetSelections settings old new outcome run done = fails_without GetSelections settings old new outcome run done refl (ap (λ (l : Resources). l.files) run.uses.0.left_is)
 fails_at_most (Drill count) settings old new outcome run done = fails_without (Drill count) settings old new outcome run done refl (ap (λ (l : Resources). l.files) run.uses.0.left_is)

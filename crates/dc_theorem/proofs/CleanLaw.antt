@@ -4,7 +4,7 @@ use Rattle.std.specs.Prelude.{◌≤◌, ◌<◌, ◌^◌, Option, Some, None, R
 use Rattle.std.specs.Io.KnownBytes.{prepend_known}
 use Rattle.std.specs.List.{AllByRecursion, list_all}
 use Rattle.dc_text.specs.declared.memory.OutOfMemory.{OutOfMemory as NoMemory}
-use Rattle.dc_outside.specs.Counts.{Counts, Rose}
+use Rattle.dc_outside.specs.Counts.{Counts, FaultRose, Rose}
 use Rattle.dc_outside.specs.Disk.{Disk}
 use Rattle.dc_outside.specs.State.{FilesState, FilesView, LinkState}
 use Rattle.dc_outside.specs.Steps.{after_look}
@@ -31,14 +31,14 @@ use Rattle.dc_save.specs.Loading.{IsTextAt, LoadCountsBy, LoadsLayer, LoadCounts
 use Rattle.dc_save.specs.declared.loading.Loaded.{Loaded}
 use Rattle.dc_save.specs.declared.loading.LoadError.{LoadError}
 use Rattle.dc_save.specs.declared.loading.LoadError.TheVariants as load
+use Rattle.dc_save.specs.declared.saving.SaveError.TheVariants as save
 use Rattle.dc_shelf.specs.Shelves.{AreRefusedFor, GoesOn, LoadsAll, all_set_up}
+use Rattle.dc_serve.specs.Execution.{state_after}
 use Rattle.dc_serve.specs.LinkRun.{Answered}
 use Rattle.dc_serve.specs.declared.outcome.LinkEnd.{LinkEnd}
 use Rattle.dc_serve.specs.declared.outcome.LinkEnd.TheVariants as link
-use Rattle.dc_session.specs.Machine.{Aborts}
-use Rattle.dc_session.specs.Serving.{IsServed, Resources}
+use Rattle.dc_session.specs.Serving.{IsServedBy, Resources}
 use Rattle.dc_session.specs.SessionState.{SessionState}
-use Rattle.dc_session.specs.declared.stepped.StepError.{StepError}
 use Rattle.dc_session.specs.declared.stepped.StepError.TheVariants as step
 use Rattle.dc_preseed.specs.Selecting.{SelectorState, FinishesLast, Finishes as FinishesSelections, LosesSelection, selections_over}
 use Rattle.dc_preseed.specs.declared.selected.Choices.{Choices}
@@ -54,6 +54,9 @@ use Rattle.dc_run.specs.Jobs.{Copies, CopiesBy, HasTaken, Prints, PrintsMade, Us
 use Rattle.dc_run.specs.OneRound.{HasUsed}
 use Rattle.dc_run.specs.Running.{Awaits, end_unstarted}
 use Rattle.dc_run.specs.Saves.{Save}
+use Rattle.dc_run.specs.SavingSession.{BreaksSaving, FailsToSave, TakesSaving}
+use Rattle.dc_run.specs.declared.saving_session.SavingBreak.{SavingBreak}
+use Rattle.dc_run.specs.declared.saving_session.SavingBreak.TheVariants as saving
 use Rattle.dc_run.specs.Starting.{EndsBefore, HasLoaded, IsConfiguration, IsRefusedFor, IsWrongWord, begun, conf_read, conf_text, databases_of, has_files, keeps_changes, loaded_of, pattern_words}
 use Rattle.dc_run.specs.TemplateLoading.{EndsAt, state_after as file_state}
 use Rattle.dc_run.specs.World.{Links, World, before_rounds}
@@ -72,7 +75,7 @@ use Rattle.dc_run.proofs.DatabaseLemmas.{right_not_wrong}
 use Rattle.dc_run.proofs.RunLemmas.{ends_so}
 use Rattle.dc_run.proofs.UsedLemmas.{as_used}
 use Rattle.dc_theorem.specs.Completeness.{IsUndisturbed, IsReadable, EndsWell, FewCame, FewServed}
-use Rattle.dc_theorem.proofs.CountsLater.{Later, rose_behind, rose_between, later_so, later_then, load_kept, turns_kept, tool_later, start_later, end_of_later}
+use Rattle.dc_theorem.proofs.CountsLater.{Later, course_kept, rose_behind, rose_between, later_so, later_then, load_kept, turns_kept, tool_later, start_later, end_of_later}
 
 -- ---- patterns
 
@@ -188,14 +191,19 @@ EndTells (tool.FilesFault path) long before now = Rose before.faults now.faults
 EndTells ended long before now = Unit {0}
 
 module _ (long : Type 0) (before now : Counts) where
-  served_tells : (served ended : LinkEnd StepError) → (ended ≡ served) ⊎ (ended ≡ link.OutOfMemory) → (served ≡ link.TooLong → long) → EndTells (tool_end_of ended) long before now
-  served_tells served link.Done so is = tt
-  served_tells served link.LinkFault so is = tt
-  served_tells served link.TooLong (inl same) is = is (sym same)
-  served_tells served link.TooLong (inr none) is = absurd (let no : ◌≡◌ {A = LinkEnd StepError} link.TooLong link.OutOfMemory = none in cc)
-  served_tells served link.OutOfMemory so is = tt
-  served_tells served (link.Broken step.Term) so is = tt
-  served_tells served (link.Broken step.OutOfMemory) so is = tt
+  served_tells : (served ended : LinkEnd SavingBreak) → (ended ≡ served) ⊎ (ended ≡ link.OutOfMemory) → (served ≡ link.TooLong → long)
+      → ((path : List ℕ) → served ≡ link.Broken (saving.Save (save.Failed path)) → Rose before.faults now.faults) → EndTells (tool_end_of ended) long before now
+  served_tells served link.Done so is failed = tt
+  served_tells served link.LinkFault so is failed = tt
+  served_tells served link.TooLong (inl same) is failed = is (sym same)
+  served_tells served link.TooLong (inr none) is failed = absurd (let no : ◌≡◌ {A = LinkEnd SavingBreak} link.TooLong link.OutOfMemory = none in cc)
+  served_tells served link.OutOfMemory so is failed = tt
+  served_tells served (link.Broken (saving.Step step.Term)) so is failed = tt
+  served_tells served (link.Broken (saving.Step step.OutOfMemory)) so is failed = tt
+  served_tells served (link.Broken (saving.Save save.OutOfMemory)) so is failed = tt
+  served_tells served (link.Broken (saving.Save (save.Failed path))) (inl same) is failed = failed path (sym same)
+  served_tells served (link.Broken (saving.Save (save.Failed path))) (inr none) is failed =
+      absurd (let no : ◌≡◌ {A = LinkEnd SavingBreak} (link.Broken (saving.Save (save.Failed path))) link.OutOfMemory = none in cc)
 
   last_tells : (state left : SelectorState) (ended : LinkEnd NoMemory) → FinishesLast state left ended → EndTells (selections_end ended) long before now
   last_tells state left ended (inl all) = rw all.1 tt
@@ -248,12 +256,28 @@ module _ (long : Type 0) (before now : Counts) where
   file_tells tool.TermFault state rest new later is none = absurd none
   file_tells tool.ChildFault state rest new later is none = absurd none
 
-session_long : (start : SessionState) (left : Resources) (old new : LinkState) (ended : LinkEnd StepError) (before code : ℕ) → (served : IsServed start left old new ended before code) → served.served ≡ link.TooLong → CameLong old new
-session_long start left old new ended before code is long =
-    let ran = is.ran in
-    let answered : Answered Aborts link.TooLong start ran.transitions ran.rest ran.pieces old.input before is.state code
-    = subst (λ (e : LinkEnd StepError). Answered Aborts e start ran.transitions ran.rest ran.pieces old.input before is.state code) long ran.answered in
-    (ran.pieces, ran.told_is, ran.took, answered.long)
+module _ (start : SessionState) (left : Resources) (old new : LinkState) (ended : LinkEnd SavingBreak) (before code : ℕ) (is : IsServedBy TakesSaving BreaksSaving start left old new ended before code) where
+  session_long : is.served ≡ link.TooLong → CameLong old new
+  session_long long =
+      let ran = is.ran in
+      let answered : Answered BreaksSaving link.TooLong start ran.transitions ran.rest ran.pieces old.input before is.state code
+      = subst (λ (e : LinkEnd SavingBreak). Answered BreaksSaving e start ran.transitions ran.rest ran.pieces old.input before is.state code) long ran.answered in
+      (ran.pieces, ran.told_is, ran.took, answered.long)
+
+  -- a save in its middle failed
+  session_failed : (path : List ℕ) → is.served ≡ link.Broken (saving.Save (save.Failed path)) → Rose start.files.counts.faults left.files.counts.faults
+  session_failed path broken =
+      let ran = is.ran in
+      let after : SessionState = state_after start ran.transitions in
+      let answered : Answered BreaksSaving (link.Broken (saving.Save (save.Failed path))) start ran.transitions ran.rest ran.pieces old.input before is.state code
+      = subst (λ (e : LinkEnd SavingBreak). Answered BreaksSaving e start ran.transitions ran.rest ran.pieces old.input before is.state code) broken ran.answered in
+      let fails : FailsToSave after answered.line (save.Failed path) is.state = answered.broke in
+      let rose : FaultRose after.files.counts is.state.files.counts = fails.is.counts in
+      subst (λ (f : FilesState). Rose start.files.counts.faults f.counts.faults) (sym is.files_are)
+      (rose_behind start.files.counts.faults after.files.counts.faults is.state.files.counts.faults (course_kept start ran.transitions ran.course).0 rose.faults)
+
+  session_tells : EndTells (tool_end_of ended) (CameLong old new) start.files.counts left.files.counts
+  session_tells = served_tells (CameLong old new) start.files.counts left.files.counts is.served ended (ends_so is.served is.state left ended is.finishes) session_long session_failed
 
 selections_long : (choices : Choices) (start : SessionState) (old new : LinkState) (before : ℕ) (answer : ToolAnswer) (left : Resources) → (taken : HasTaken choices start old new before answer left) → taken.selected.served ≡ link.TooLong → CameLong old new
 selections_long choices start old new before answer left taken long =
@@ -268,34 +292,30 @@ copy_tells : (found : Option CopyRoots) (start : SessionState) (old new : Links)
 copy_tells None start old new before answer said left long none = absurd none
 copy_tells (Some copy) start old new before answer said left long is = copied_tells long start.files.counts left.files.counts (copying start copy) start.store.layers left.layers answer.ended said answer.status is.copies
 
-tool_tells : (used : Tool) (roots : Roots) (start : SessionState) (old new : Links) (before : ℕ) (answer : ToolAnswer) (said : List ℕ) (left : Resources) → Uses used roots start old new before answer said left
+tool_tells : (used : Tool) (roots : Roots) (start : SessionState) (old new : Links) (before : ℕ) (answer : ToolAnswer) (said : List ℕ) (left : Resources) (saves : List Save) → Uses used roots start old new before answer said left saves
     → EndTells answer.ended (LongServed used old new) start.files.counts left.files.counts
-tool_tells (Communicate owner) roots start old new before answer said left uses =
-    let served = uses.0.served in
-    rw uses.0.ended_is
-    (served_tells (CameLong old.io new.io) start.files.counts left.files.counts served.served uses.0.ended (ends_so served.served served.state left uses.0.ended served.finishes)
-    (session_long start left old.io new.io uses.0.ended before answer.last_code served))
-tool_tells (LoadTemplate owner paths) roots start old new before answer said left uses =
-    let loads = uses.loaded in
-    file_tells ⊥ start.files.counts left.files.counts answer.ended (file_state start loads.turns) loads.rest uses.state (later_so start.files.counts (file_state start loads.turns).files.counts (turns_kept start loads.turns loads.course))
-    (ap (λ (l : Resources). l.files.counts) uses.left_is) loads.ends
-tool_tells (Run owner frontend priority command) roots start old new before answer said left uses = elim uses.0 [
+tool_tells (Communicate owner) roots start old new before answer said left saves uses =
+    rw uses.0.ended_is (session_tells start left old.io new.io uses.0.ended before answer.last_code uses.0.served.by)
+tool_tells (LoadTemplate owner paths) roots start old new before answer said left saves uses =
+    let loads = uses.0.loaded in
+    file_tells ⊥ start.files.counts left.files.counts answer.ended (file_state start loads.turns) loads.rest uses.0.state (later_so start.files.counts (file_state start loads.turns).files.counts (turns_kept start loads.turns loads.course))
+    (ap (λ (l : Resources). l.files.counts) uses.0.left_is) loads.ends
+tool_tells (Run owner frontend priority command) roots start old new before answer said left saves uses = elim uses.0 [
   | inl none ↦ rw none.ended_is (unstarted_tells (CameLong old.child new.child) start.files.counts left.files.counts none.error)
   | inr started ↦
-      let served = started.served in
       rw started.ended_is
-      (served_tells (CameLong old.child new.child) start.files.counts left.files.counts served.served started.ended (ends_so served.served served.state left started.ended served.finishes)
-      (λ long. subst (λ (l : LinkState). CameLong l new.child) started.starts.state (session_long start left started.mid new.child started.ended before answer.last_code served long)))
+      (subst (λ (l : LinkState). EndTells (tool_end_of started.ended) (CameLong l new.child) start.files.counts left.files.counts) started.starts.state
+      (session_tells start left started.mid new.child started.ended before answer.last_code started.served.by))
 ]
-tool_tells (Show database shown) roots start old new before answer said left uses = printed_tells ⊥ start.files.counts left.files.counts _ answer.ended old.io new.io uses.0.prints
-tool_tells (CopyDb copy) roots start old new before answer said left uses = copy_tells roots.copy start old new before answer said left ⊥ uses
-tool_tells (SetSelections verbose check unseen) roots start old new before answer said left uses =
+tool_tells (Show database shown) roots start old new before answer said left saves uses = printed_tells ⊥ start.files.counts left.files.counts _ answer.ended old.io new.io uses.0.prints
+tool_tells (CopyDb copy) roots start old new before answer said left saves uses = copy_tells roots.copy start old new before answer said left ⊥ uses.0
+tool_tells (SetSelections verbose check unseen) roots start old new before answer said left saves uses =
     let selected = uses.0.selected in
     rw uses.0.ended_is
     (selected_tells (CameLong old.io new.io) start.files.counts left.files.counts selected.state uses.0.state selected.served uses.0.ended selected.finishes
     (selections_long (record { verbose = verbose; check = check; unseen = unseen }) start old.io new.io before answer left uses.0))
-tool_tells GetSelections roots start old new before answer said left uses = printed_tells ⊥ start.files.counts left.files.counts _ answer.ended old.io new.io uses.prints
-tool_tells (Drill count) roots start old new before answer said left uses = made_tells ⊥ start.files.counts left.files.counts uses.0.result answer.ended old.io new.io uses.0.prints
+tool_tells GetSelections roots start old new before answer said left saves uses = printed_tells ⊥ start.files.counts left.files.counts _ answer.ended old.io new.io uses.0.prints
+tool_tells (Drill count) roots start old new before answer said left saves uses = made_tells ⊥ start.files.counts left.files.counts uses.0.result answer.ended old.io new.io uses.0.prints
 
 -- ---- the end of a run whose tool was used
 
@@ -451,7 +471,7 @@ module _ (words : List (List ℕ)) (used : Tool) (conf : Configuration) (setting
     start = begun used (before_rounds (record old { stock = run.mid })) run.roots settings
 
     tells : EndTells run.answer.ended (LongServed used old.links run.links) run.mid.files.counts run.left.files.counts
-    tells = tool_tells used run.roots start old.links run.links 0 run.answer run.told run.left run.uses
+    tells = tool_tells used run.roots start old.links run.links 0 run.answer run.told run.left run.inner run.uses
 
     never_long : LongServed used old.links run.links → ⊥
     never_long long =
@@ -461,7 +481,7 @@ module _ (words : List (List ℕ)) (used : Tool) (conf : Configuration) (setting
     begins = start_later used settings.conf_path files run.mid run.roots run.started
 
     works : Later run.mid.files.counts run.left.files.counts
-    works = tool_later run.roots start old.links run.links 0 run.answer run.told run.left used run.uses
+    works = tool_later run.roots start old.links run.links 0 run.answer run.told run.left run.inner used run.uses
 
     ends : Later run.left.files.counts new.stock.files.counts
     ends = end_of_later run.left.layers new.stock.used run.left.files new.stock.files run.how (keeps_changes used) run.answer.ended run.finishes

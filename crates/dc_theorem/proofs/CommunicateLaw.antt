@@ -5,10 +5,10 @@ use Rattle.dc_outside.specs.State.{FilesState, LinkState}
 use Rattle.dc_serve.specs.LinkRun.{IsLinkRun}
 use Rattle.dc_serve.specs.declared.outcome.LinkEnd.TheVariants as link
 use Rattle.dc_session.specs.Asking.{finished}
-use Rattle.dc_session.specs.Machine.{TakesLine, Aborts}
 use Rattle.dc_session.specs.SessionState.{SessionState}
 use Rattle.dc_run.specs.Ends.{status_of}
 use Rattle.dc_run.specs.OneRound.{HasUsed}
+use Rattle.dc_run.specs.SavingSession.{BreaksSaving, TakesSaving}
 use Rattle.dc_run.specs.Starting.{begun}
 use Rattle.dc_run.specs.World.{World, before_rounds}
 use Rattle.dc_run.specs.declared.outcome.Outcome.{Outcome}
@@ -33,10 +33,10 @@ module _ (words : List (List ℕ)) (owner : List ℕ) (settings : Settings) (dis
   start = begun (Communicate owner) (before_rounds (record old { stock = has.mid })) has.roots settings
 
   served : WasServed start has.left old.links.io has.links.io 0 has.answer.last_code
-  served = was_served start has.left old.links.io has.links.io has.uses.0.ended 0 has.answer.last_code (sym has.uses.0.ended_is ∙ tool_done words (Communicate owner) settings disk calls old new outcome clean has) has.uses.0.served
+  served = was_served start has.left old.links.io has.links.io has.uses.0.ended 0 has.answer.last_code (sym has.uses.0.ended_is ∙ tool_done words (Communicate owner) settings disk calls old new outcome clean has) has.uses.0.served.by
 
-  ran : IsLinkRun TakesLine Aborts old.links.io.talk has.links.io.talk (Some input) has.links.io.input start link.Done served.state 0 has.answer.last_code
-  ran = subst (λ (k : Option (List ℕ)). IsLinkRun TakesLine Aborts old.links.io.talk has.links.io.talk k has.links.io.input start link.Done served.state 0 has.answer.last_code) input_is served.ran
+  ran : IsLinkRun TakesSaving BreaksSaving old.links.io.talk has.links.io.talk (Some input) has.links.io.input start link.Done served.state 0 has.answer.last_code
+  ran = subst (λ (k : Option (List ℕ)). IsLinkRun TakesSaving BreaksSaving old.links.io.talk has.links.io.talk k has.links.io.input start link.Done served.state 0 has.answer.last_code) input_is served.ran
 
   high : served.state.files.counts.faults ≤ old.stock.files.counts.faults
   high = subst (λ (f : FilesState). f.counts.faults ≤ old.stock.files.counts.faults) served.files_are (left_sound words (Communicate owner) settings disk calls old new outcome clean has)
@@ -78,8 +78,8 @@ module _ (words : List (List ℕ)) (owner : List ℕ) (settings : Settings) (dis
       (ran words owner settings disk calls other last again input other_clean other_has other_input_is) in
       let begin : with_counts counts other_begins ≡ there
       = λ i. begun (Communicate owner) (before_rounds (record other { stock = record { files = record { view = sym starts.told i; counts = counts }; used = sym starts.used i } })) (sym starts.roots_are i) settings in
-      let other_ran : IsLinkRun TakesLine Aborts other.links.io.talk other_has.links.io.talk (Some input) other_has.links.io.input there link.Done (with_counts counts second.state) 0 other_has.answer.last_code
-      = subst (λ (s : SessionState). IsLinkRun TakesLine Aborts other.links.io.talk other_has.links.io.talk (Some input) other_has.links.io.input s link.Done (with_counts counts second.state) 0 other_has.answer.last_code) begin recounted in
+      let other_ran : IsLinkRun TakesSaving BreaksSaving other.links.io.talk other_has.links.io.talk (Some input) other_has.links.io.input there link.Done (with_counts counts second.state) 0 other_has.answer.last_code
+      = subst (λ (s : SessionState). IsLinkRun TakesSaving BreaksSaving other.links.io.talk other_has.links.io.talk (Some input) other_has.links.io.input s link.Done (with_counts counts second.state) 0 other_has.answer.last_code) begin recounted in
       let disk_told = starts_told words (Communicate owner) settings disk calls one new outcome clean has in
       let same = run_same one.stock.files.counts.faults clean.none_failed.room disk disk_told.0 input one.links.io.talk has.links.io.talk other.links.io.talk other_has.links.io.talk has.links.io.input other_has.links.io.input
       begins there first.state (with_counts counts second.state) 0 has.answer.last_code other_has.answer.last_code disk_told.1 refl refl (starts_low words (Communicate owner) settings disk calls one new outcome clean has)

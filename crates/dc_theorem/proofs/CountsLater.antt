@@ -18,6 +18,7 @@ use Rattle.dc_save.specs.Loading.{LoadCountsBy, LoadCounts}
 use Rattle.dc_save.specs.declared.loading.Loaded.{Loaded}
 use Rattle.dc_save.specs.declared.loading.Loaded.TheVariants.{Here, LeftOut}
 use Rattle.dc_save.specs.declared.loading.LoadError.{LoadError}
+use Rattle.dc_save.specs.declared.saving.SaveError.TheVariants as save
 use Rattle.dc_shelf.specs.Shelves.{GoesOn, LoadsAll}
 use Rattle.dc_serve.specs.Execution.{Transition, state_after, IsExecution}
 use Rattle.dc_serve.specs.LinkRun.{Answered}
@@ -25,10 +26,9 @@ use Rattle.dc_serve.specs.declared.machine.Response.{Response}
 use Rattle.dc_serve.specs.declared.outcome.LinkEnd.{LinkEnd}
 use Rattle.dc_serve.specs.declared.outcome.LinkEnd.TheVariants as link
 use Rattle.dc_session.specs.Machine.{TakesLine, Steps, StepsHeard, Aborts, BreaksHeard, BreaksOff, GivesInPart, IsDoneInPart, Looks, LooksInVain, file_of}
-use Rattle.dc_session.specs.Serving.{IsServed, Resources}
+use Rattle.dc_session.specs.Serving.{IsServedBy, Resources}
 use Rattle.dc_session.specs.SessionState.{SessionState}
 use Rattle.dc_session.specs.TemplateFiles.{Finds, FindsNoMemory}
-use Rattle.dc_session.specs.declared.stepped.StepError.{StepError}
 use Rattle.dc_session.specs.declared.stepped.StepError.TheVariants as step
 use Rattle.dc_session.specs.declared.stepped.Stepped.{Stepped}
 use Rattle.dc_session.specs.declared.template_files.Found.{Found}
@@ -37,7 +37,11 @@ use Rattle.dc_cli.specs.declared.tool.Tool.{Tool}
 use Rattle.dc_cli.specs.declared.tool.Tool.TheVariants.{Communicate, LoadTemplate, Run, Show, CopyDb, SetSelections, GetSelections, Drill}
 use Rattle.dc_run.specs.Finishing.{Finishes, FinishesWhere, IsBrokenOff, IsSaved, IsUnsaved, IsWithoutMemory}
 use Rattle.dc_run.specs.Jobs.{CopiesBy, Uses}
+use Rattle.dc_run.specs.Saves.{Save}
+use Rattle.dc_run.specs.SavingSession.{BreaksSaving, FailsToSave, TakesSaving}
 use Rattle.dc_run.specs.Starting.{conf_read, HasStarted}
+use Rattle.dc_run.specs.declared.saving_session.SavingBreak.{SavingBreak}
+use Rattle.dc_run.specs.declared.saving_session.SavingBreak.TheVariants as saving
 use Rattle.dc_run.specs.TemplateLoading.{FileTurn, IsFileCourse, EndsAt, state_after as file_state}
 use Rattle.dc_run.specs.World.{Links, Stock}
 use Rattle.dc_run.specs.Ends.{tool_end_of}
@@ -49,6 +53,7 @@ use Rattle.dc_run.specs.declared.outcome.ToolEnd.TheVariants as tool
 use Rattle.dc_run.specs.Roots.{CopyRoots, Roots}
 use Rattle.dc_run.proofs.CrashLemmas.{broken_off, state_left}
 use Rattle.dc_run.proofs.RunLemmas.{ends_so}
+use Rattle.dc_theorem.proofs.SavingLines.{save_counts, line_or_save}
 
 -- ---- counts
 
@@ -174,35 +179,101 @@ pub takes_kept : (old new : SessionState) (line : Line) (did : Response) → Tak
 takes_kept old new line did takes =
     subst (λ (s : SessionState). Kept old.files.counts s.files.counts) (sym takes.tells.new_is) (steps_kept old takes.mid line takes.handled.stepped takes.handled.steps)
 
-pub course_kept : (start : SessionState) (turns : List (Transition SessionState)) → IsExecution TakesLine start turns → Kept start.files.counts (state_after start turns).files.counts
+-- a save that is done counts nothing
+pub saving_kept : (old new : SessionState) (line : Line) (did : Response) → TakesSaving old line did new → Kept old.files.counts new.files.counts
+saving_kept old new line did takes = elim (line_or_save old new line did takes) [
+  | inl by_itself ↦ takes_kept old new line did by_itself
+  | inr save ↦ unmoved old.files.counts new.files.counts (save_counts old new did save)
+]
+
+pub course_kept : (start : SessionState) (turns : List (Transition SessionState)) → IsExecution TakesSaving start turns → Kept start.files.counts (state_after start turns).files.counts
 course_kept start [] course = unmoved start.files.counts start.files.counts refl
 course_kept start (turn ∷ turns) course =
-    kept_then start.files.counts turn.new.files.counts (state_after turn.new turns).files.counts (takes_kept start turn.new turn.line turn.did course.0) (course_kept turn.new turns course.2)
+    kept_then start.files.counts turn.new.files.counts (state_after turn.new turns).files.counts (saving_kept start turn.new turn.line turn.did course.0) (course_kept turn.new turns course.2)
 
-module _ (start new : SessionState) (turns : List (Transition SessionState)) (rest : List Line) (talk : List Piece) (input : Option (List ℕ)) (before code : ℕ) (course : IsExecution TakesLine start turns) where
+-- a line wasn't heeded to its end for want of memory
+abbrev IsForMemory : SavingBreak → Type 0
+IsForMemory (saving.Step step.OutOfMemory) = Unit {0}
+IsForMemory (saving.Step step.Term) = ⊥
+IsForMemory (saving.Save save.OutOfMemory) = Unit {0}
+IsForMemory (saving.Save (save.Failed path)) = ⊥
+
+for_memory : (error : SavingBreak) → IsForMemory error ⊎ (IsForMemory error → ⊥)
+for_memory (saving.Step step.OutOfMemory) = inl tt
+for_memory (saving.Step step.Term) = inr (λ none. none)
+for_memory (saving.Save save.OutOfMemory) = inl tt
+for_memory (saving.Save (save.Failed path)) = inr (λ none. none)
+
+-- that ended the session at such a line
+abbrev BreaksForMemory : LinkEnd SavingBreak → Type 0
+BreaksForMemory link.Done = ⊥
+BreaksForMemory link.LinkFault = ⊥
+BreaksForMemory link.TooLong = ⊥
+BreaksForMemory link.OutOfMemory = ⊥
+BreaksForMemory (link.Broken error) = IsForMemory error
+
+broken_tool : (error : SavingBreak) → IsForMemory error → tool_end_of (link.Broken error) ≡ tool.OutOfMemory
+broken_tool (saving.Step step.OutOfMemory) memory = refl
+broken_tool (saving.Step step.Term) none = absurd none
+broken_tool (saving.Save save.OutOfMemory) memory = refl
+broken_tool (saving.Save (save.Failed path)) none = absurd none
+
+memory_tool : (ended : LinkEnd SavingBreak) → BreaksForMemory ended → tool_end_of ended ≡ tool.OutOfMemory
+memory_tool link.Done none = absurd none
+memory_tool link.LinkFault none = absurd none
+memory_tool link.TooLong none = absurd none
+memory_tool link.OutOfMemory none = absurd none
+memory_tool (link.Broken error) memory = broken_tool error memory
+
+-- one that isn't done counts a failure, or at most a refusal
+module _ (old new : SessionState) (line : Line) where
+  unsaved_later : FailsToSave old line save.OutOfMemory new → Later old.files.counts new.files.counts
+  unsaved_later fails = elim fails.is.counts [
+    | inl rose ↦ refused old.files.counts new.files.counts rose
+    | inr same ↦ later_so old.files.counts new.files.counts (unmoved old.files.counts new.files.counts same.0)
+  ]
+
+  -- memory ran out at a line, in it or in the save that it asks for
+  breaks_later : (error : SavingBreak) → IsForMemory error → BreaksSaving old line error new → Later old.files.counts new.files.counts
+  breaks_later (saving.Step step.OutOfMemory) memory aborts = line_later old new line aborts
+  breaks_later (saving.Step step.Term) memory aborts = absurd memory
+  breaks_later (saving.Save save.OutOfMemory) memory fails = unsaved_later fails
+  breaks_later (saving.Save (save.Failed path)) memory fails = absurd memory
+
+  -- at another break
+  breaks_kept : (error : SavingBreak) → (IsForMemory error → ⊥) → BreaksSaving old line error new → Kept old.files.counts new.files.counts
+  breaks_kept (saving.Step step.OutOfMemory) other aborts = absurd (other tt)
+  breaks_kept (saving.Step step.Term) other aborts = line_shown old new line aborts
+  breaks_kept (saving.Save save.OutOfMemory) other fails = absurd (other tt)
+  breaks_kept (saving.Save (save.Failed path)) other fails = failed old.files.counts new.files.counts fails.is.counts
+
+module _ (start new : SessionState) (turns : List (Transition SessionState)) (rest : List Line) (talk : List Piece) (input : Option (List ℕ)) (before code : ℕ) (course : IsExecution TakesSaving start turns) where
   left_by : new ≡ state_after start turns → Kept start.files.counts new.files.counts
   left_by is = subst (λ (s : SessionState). Kept start.files.counts s.files.counts) (sym is) (course_kept start turns course)
 
-  session_kept : (ended : LinkEnd StepError) → (ended ≡ link.Broken step.OutOfMemory → ⊥) → Answered Aborts ended start turns rest talk input before new code → Kept start.files.counts new.files.counts
+  session_kept : (ended : LinkEnd SavingBreak) → (BreaksForMemory ended → ⊥) → Answered BreaksSaving ended start turns rest talk input before new code → Kept start.files.counts new.files.counts
   session_kept link.Done other answered = left_by (state_left start new turns rest talk input before code link.Done tt answered)
   session_kept link.LinkFault other answered = left_by (state_left start new turns rest talk input before code link.LinkFault tt answered)
   session_kept link.TooLong other answered = left_by (state_left start new turns rest talk input before code link.TooLong tt answered)
   session_kept link.OutOfMemory other answered = left_by (broken_off start new turns rest talk input before code answered)
-  session_kept (link.Broken step.OutOfMemory) other answered = absurd (other refl)
-  session_kept (link.Broken step.Term) other answered =
-      kept_then start.files.counts (state_after start turns).files.counts new.files.counts (course_kept start turns course) (line_shown (state_after start turns) new answered.line answered.broke)
+  session_kept (link.Broken error) other answered =
+      let after : SessionState = state_after start turns in
+      kept_then start.files.counts after.files.counts new.files.counts (course_kept start turns course) (breaks_kept after new answered.line error other answered.broke)
 
-  session_later : (ended : LinkEnd StepError) → Answered Aborts ended start turns rest talk input before new code → Later start.files.counts new.files.counts
-  session_later link.Done answered = later_so start.files.counts new.files.counts (session_kept link.Done (λ is. cc) answered)
-  session_later link.LinkFault answered = later_so start.files.counts new.files.counts (session_kept link.LinkFault (λ is. cc) answered)
-  session_later link.TooLong answered = later_so start.files.counts new.files.counts (session_kept link.TooLong (λ is. cc) answered)
-  session_later link.OutOfMemory answered = later_so start.files.counts new.files.counts (session_kept link.OutOfMemory (λ is. cc) answered)
-  session_later (link.Broken step.Term) answered = later_so start.files.counts new.files.counts (session_kept (link.Broken step.Term) (λ is. cc) answered)
-  session_later (link.Broken step.OutOfMemory) answered =
-      later_then start.files.counts (state_after start turns).files.counts new.files.counts (later_so start.files.counts (state_after start turns).files.counts (course_kept start turns course))
-      (line_later (state_after start turns) new answered.line answered.broke)
+  session_later : (ended : LinkEnd SavingBreak) → Answered BreaksSaving ended start turns rest talk input before new code → Later start.files.counts new.files.counts
+  session_later link.Done answered = later_so start.files.counts new.files.counts (session_kept link.Done (λ is. is) answered)
+  session_later link.LinkFault answered = later_so start.files.counts new.files.counts (session_kept link.LinkFault (λ is. is) answered)
+  session_later link.TooLong answered = later_so start.files.counts new.files.counts (session_kept link.TooLong (λ is. is) answered)
+  session_later link.OutOfMemory answered = later_so start.files.counts new.files.counts (session_kept link.OutOfMemory (λ is. is) answered)
+  session_later (link.Broken error) answered =
+      let after : SessionState = state_after start turns in
+      later_then start.files.counts after.files.counts new.files.counts (later_so start.files.counts after.files.counts (course_kept start turns course))
+      (elim (for_memory error) [
+        | inl memory ↦ breaks_later after new answered.line error memory answered.broke
+        | inr other ↦ later_so after.files.counts new.files.counts (breaks_kept after new answered.line error other answered.broke)
+      ])
 
-module _ (start : SessionState) (left : Resources) (old new : LinkState) (ended : LinkEnd StepError) (before code : ℕ) (is : IsServed start left old new ended before code) where
+module _ (start : SessionState) (left : Resources) (old new : LinkState) (ended : LinkEnd SavingBreak) (before code : ℕ) (is : IsServedBy TakesSaving BreaksSaving start left old new ended before code) where
   served_later : Later start.files.counts left.files.counts
   served_later =
       let ran = is.ran in
@@ -215,9 +286,9 @@ module _ (start : SessionState) (left : Resources) (old new : LinkState) (ended 
       let ran = is.ran in
       subst (λ (f : FilesState). Kept start.files.counts f.counts) (sym is.files_are)
       (session_kept start is.state ran.transitions ran.rest ran.pieces old.input before code ran.course is.served (no_break (ends_so is.served is.state left ended is.finishes)) ran.answered) where
-        no_break : (ended ≡ is.served) ⊎ (ended ≡ link.OutOfMemory) → is.served ≡ link.Broken step.OutOfMemory → ⊥
-        no_break (inl same) broken = other (ap (λ (e : LinkEnd StepError). tool_end_of e) (same ∙ broken))
-        no_break (inr none) broken = other (ap (λ (e : LinkEnd StepError). tool_end_of e) none)
+        no_break : (ended ≡ is.served) ⊎ (ended ≡ link.OutOfMemory) → BreaksForMemory is.served → ⊥
+        no_break (inl same) memory = other (ap (λ (e : LinkEnd SavingBreak). tool_end_of e) same ∙ memory_tool is.served memory)
+        no_break (inr none) memory = other (ap (λ (e : LinkEnd SavingBreak). tool_end_of e) none)
 
 -- ---- template files
 
@@ -261,41 +332,41 @@ pub copied_files : (found : Option CopyRoots) (start : SessionState) (old new : 
 copied_files None start old new before answer told left none = absurd none
 copied_files (Some copy) start old new before answer told left is = ap (λ (l : Resources). l.files) is.left_is
 
-module _ (roots : Roots) (start : SessionState) (old new : Links) (before : ℕ) (answer : ToolAnswer) (told : List ℕ) (left : Resources) where
-  pub tool_later : (used : Tool) → Uses used roots start old new before answer told left → Later start.files.counts left.files.counts
-  tool_later (Communicate owner) uses = served_later start left old.io new.io uses.0.ended before answer.last_code uses.0.served
+module _ (roots : Roots) (start : SessionState) (old new : Links) (before : ℕ) (answer : ToolAnswer) (told : List ℕ) (left : Resources) (saves : List Save) where
+  pub tool_later : (used : Tool) → Uses used roots start old new before answer told left saves → Later start.files.counts left.files.counts
+  tool_later (Communicate owner) uses = served_later start left old.io new.io uses.0.ended before answer.last_code uses.0.served.by
   tool_later (LoadTemplate owner paths) uses =
-      let loads = uses.loaded in
+      let loads = uses.0.loaded in
       let after = file_state start loads.turns in
-      subst (λ (l : Resources). Later start.files.counts l.files.counts) (sym uses.left_is)
-      (later_then start.files.counts after.files.counts uses.state.files.counts (later_so start.files.counts after.files.counts (turns_kept start loads.turns loads.course))
-      (end_later answer.ended after loads.rest uses.state loads.ends))
+      subst (λ (l : Resources). Later start.files.counts l.files.counts) (sym uses.0.left_is)
+      (later_then start.files.counts after.files.counts uses.0.state.files.counts (later_so start.files.counts after.files.counts (turns_kept start loads.turns loads.course))
+      (end_later answer.ended after loads.rest uses.0.state loads.ends))
   tool_later (Run owner frontend priority command) uses = elim uses.0 [
     | inl none ↦ left_later start left (ap (λ (l : Resources). l.files) none.left_is)
-    | inr started ↦ served_later start left started.mid new.child started.ended before answer.last_code started.served
+    | inr started ↦ served_later start left started.mid new.child started.ended before answer.last_code started.served.by
   ]
   tool_later (Show database shown) uses = left_later start left (ap (λ (l : Resources). l.files) uses.0.left_is)
-  tool_later (CopyDb copy) uses = left_later start left (copied_files roots.copy start old new before answer told left uses)
+  tool_later (CopyDb copy) uses = left_later start left (copied_files roots.copy start old new before answer told left uses.0)
   tool_later (SetSelections verbose check unseen) uses = left_later start left (ap (λ (l : Resources). l.files) uses.0.left_is)
-  tool_later GetSelections uses = left_later start left (ap (λ (l : Resources). l.files) uses.left_is)
+  tool_later GetSelections uses = left_later start left (ap (λ (l : Resources). l.files) uses.0.left_is)
   tool_later (Drill count) uses = left_later start left (ap (λ (l : Resources). l.files) uses.0.left_is)
 
   -- at another end than for want of memory
-  pub tool_kept : (used : Tool) → (answer.ended ≡ tool.OutOfMemory → ⊥) → Uses used roots start old new before answer told left → Kept start.files.counts left.files.counts
-  tool_kept (Communicate owner) other uses = served_kept start left old.io new.io uses.0.ended before answer.last_code uses.0.served (λ is. other (uses.0.ended_is ∙ is))
+  pub tool_kept : (used : Tool) → (answer.ended ≡ tool.OutOfMemory → ⊥) → Uses used roots start old new before answer told left saves → Kept start.files.counts left.files.counts
+  tool_kept (Communicate owner) other uses = served_kept start left old.io new.io uses.0.ended before answer.last_code uses.0.served.by (λ is. other (uses.0.ended_is ∙ is))
   tool_kept (LoadTemplate owner paths) other uses =
-      let loads = uses.loaded in
+      let loads = uses.0.loaded in
       let after = file_state start loads.turns in
-      subst (λ (l : Resources). Kept start.files.counts l.files.counts) (sym uses.left_is)
-      (kept_then start.files.counts after.files.counts uses.state.files.counts (turns_kept start loads.turns loads.course) (end_kept answer.ended after loads.rest uses.state other loads.ends))
+      subst (λ (l : Resources). Kept start.files.counts l.files.counts) (sym uses.0.left_is)
+      (kept_then start.files.counts after.files.counts uses.0.state.files.counts (turns_kept start loads.turns loads.course) (end_kept answer.ended after loads.rest uses.0.state other loads.ends))
   tool_kept (Run owner frontend priority command) other uses = elim uses.0 [
     | inl none ↦ left_kept start left (ap (λ (l : Resources). l.files) none.left_is)
-    | inr started ↦ served_kept start left started.mid new.child started.ended before answer.last_code started.served (λ is. other (started.ended_is ∙ is))
+    | inr started ↦ served_kept start left started.mid new.child started.ended before answer.last_code started.served.by (λ is. other (started.ended_is ∙ is))
   ]
   tool_kept (Show database shown) other uses = left_kept start left (ap (λ (l : Resources). l.files) uses.0.left_is)
-  tool_kept (CopyDb copy) other uses = left_kept start left (copied_files roots.copy start old new before answer told left uses)
+  tool_kept (CopyDb copy) other uses = left_kept start left (copied_files roots.copy start old new before answer told left uses.0)
   tool_kept (SetSelections verbose check unseen) other uses = left_kept start left (ap (λ (l : Resources). l.files) uses.0.left_is)
-  tool_kept GetSelections other uses = left_kept start left (ap (λ (l : Resources). l.files) uses.left_is)
+  tool_kept GetSelections other uses = left_kept start left (ap (λ (l : Resources). l.files) uses.0.left_is)
   tool_kept (Drill count) other uses = left_kept start left (ap (λ (l : Resources). l.files) uses.0.left_is)
 
 -- ---- loads

@@ -9,15 +9,14 @@ use Rattle.dc_layer.specs.declared.pattern.PatternError.{PatternError}
 use Rattle.dc_layer.specs.declared.pattern.PatternError.TheVariants as pattern
 use Rattle.dc_save.specs.Saving.{after_images}
 use Rattle.dc_save.specs.declared.loading.LoadError.{LoadError}
+use Rattle.dc_save.specs.declared.saving.SaveError.TheVariants as save
 use Rattle.dc_save.specs.declared.loading.LoadError.TheVariants as load
 use Rattle.dc_serve.specs.LinkRun.{IsLinkRun}
 use Rattle.dc_serve.specs.declared.outcome.LinkEnd.{LinkEnd}
 use Rattle.dc_serve.specs.declared.outcome.LinkEnd.TheVariants as link
 use Rattle.dc_session.specs.Asking.{finished}
-use Rattle.dc_session.specs.Machine.{TakesLine, Aborts}
-use Rattle.dc_session.specs.Serving.{IsFinished, Finishes as FinishesSession, IsServed, Resources, end_broken}
+use Rattle.dc_session.specs.Serving.{IsFinished, Finishes as FinishesSession, IsServedBy, Resources}
 use Rattle.dc_session.specs.SessionState.{SessionState}
-use Rattle.dc_session.specs.declared.stepped.StepError.{StepError}
 use Rattle.dc_session.specs.declared.stepped.StepError.TheVariants as step
 use Rattle.dc_run.specs.Ends.{end_of, end_of_conf, end_of_pattern, end_of_load, tool_end_of, end_unwaited}
 use Rattle.dc_run.specs.Finishing.{images_of, IsSaved, Finishes, FinishesWhere}
@@ -26,6 +25,9 @@ use Rattle.dc_run.specs.declared.outcome.PatternAt.{PatternAt}
 use Rattle.dc_run.specs.declared.outcome.PatternAt.TheVariants.{Database, Word}
 use Rattle.dc_run.specs.OneRound.{HasUsed}
 use Rattle.dc_run.specs.Saves.{Save}
+use Rattle.dc_run.specs.SavingSession.{BreaksSaving, TakesSaving}
+use Rattle.dc_run.specs.declared.saving_session.SavingBreak.{SavingBreak}
+use Rattle.dc_run.specs.declared.saving_session.SavingBreak.TheVariants as saving
 use Rattle.dc_run.proofs.UsedLemmas.{as_used}
 use Rattle.dc_run.specs.Running.{Awaits, end_unstarted}
 use Rattle.dc_run.specs.Starting.{EndsBefore}
@@ -48,19 +50,34 @@ use Rattle.dc_theorem.specs.Runs.{IsClean}
 
 -- ---- an end before the tool is another
 
-conf_other : (error : ConfError) → end_of_conf error ≡ end.Done → ⊥
-conf_other (conf.Refused line kind) is = cc
-conf_other conf.OutOfMemory is = cc
+-- ends that a run has only where its tool was used
+abbrev pub IsOfTool : End → Type 0
+IsOfTool end.Done = Unit {0}
+IsOfTool end.TermFault = Unit {0}
+IsOfTool how = ⊥
 
-pattern_other : (place : PatternAt) (error : PatternError) → end_of_pattern place error ≡ end.Done → ⊥
-pattern_other place pattern.Bad is = cc
-pattern_other place pattern.TooLarge is = cc
-pattern_other place pattern.OutOfMemory is = cc
+conf_other : (error : ConfError) → IsOfTool (end_of_conf error) → ⊥
+conf_other (conf.Refused line kind) is = is
+conf_other conf.OutOfMemory is = is
 
-load_other : (error : LoadError) → end_of_load error ≡ end.Done → ⊥
-load_other (load.Failed path) is = cc
-load_other (load.Damaged path line) is = cc
-load_other load.OutOfMemory is = cc
+pattern_other : (place : PatternAt) (error : PatternError) → IsOfTool (end_of_pattern place error) → ⊥
+pattern_other place pattern.Bad is = is
+pattern_other place pattern.TooLarge is = is
+pattern_other place pattern.OutOfMemory is = is
+
+load_other : (error : LoadError) → IsOfTool (end_of_load error) → ⊥
+load_other (load.Failed path) is = is
+load_other (load.Damaged path line) is = is
+load_other load.OutOfMemory is = is
+
+pub not_before : (used : Tool) (path : List ℕ) (old : FilesState) (new : Stock) (how : End) → IsOfTool how → EndsBefore used path old new how → ⊥
+not_before used path old new how is (inl none) = subst IsOfTool none.end_is is
+not_before used path old new how is (inr (inl unread)) = subst IsOfTool unread.end_is is
+not_before used path old new how is (inr (inr (inl refused))) = conf_other refused.error (subst IsOfTool refused.end_is is)
+not_before used path old new how is (inr (inr (inr (inl wrong)))) = subst IsOfTool wrong.end_is is
+not_before used path old new how is (inr (inr (inr (inr (inl unbuilt))))) = pattern_other (Word unbuilt.word.place) unbuilt.error (subst IsOfTool unbuilt.end_is is)
+not_before used path old new how is (inr (inr (inr (inr (inr (inl patterns)))))) = pattern_other (Database patterns.refused.place) patterns.refused.error (subst IsOfTool patterns.end_is is)
+not_before used path old new how is (inr (inr (inr (inr (inr (inr loads)))))) = load_other loads.error (subst IsOfTool loads.end_is is)
 
 no_memory : end.OutOfMemory ≡ end.Done → ⊥
 no_memory is = cc
@@ -71,21 +88,12 @@ no_fault path is = cc
 no_usage : (word : ℕ) → end.Usage word ≡ end.Done → ⊥
 no_usage word is = cc
 
-not_before : (used : Tool) (path : List ℕ) (old : FilesState) (new : Stock) (how : End) → how ≡ end.Done → EndsBefore used path old new how → ⊥
-not_before used path old new how done (inl none) = no_memory (sym none.end_is ∙ done)
-not_before used path old new how done (inr (inl unread)) = no_fault path (sym unread.end_is ∙ done)
-not_before used path old new how done (inr (inr (inl refused))) = conf_other refused.error (sym refused.end_is ∙ done)
-not_before used path old new how done (inr (inr (inr (inl wrong)))) = no_usage wrong.word (sym wrong.end_is ∙ done)
-not_before used path old new how done (inr (inr (inr (inr (inl unbuilt))))) = pattern_other (Word unbuilt.word.place) unbuilt.error (sym unbuilt.end_is ∙ done)
-not_before used path old new how done (inr (inr (inr (inr (inr (inl patterns)))))) = pattern_other (Database patterns.refused.place) patterns.refused.error (sym patterns.end_is ∙ done)
-not_before used path old new how done (inr (inr (inr (inr (inr (inr loads)))))) = load_other loads.error (sym loads.end_is ∙ done)
-
 -- ---- the tool was used
 
 used_tool : (words : List (List ℕ)) (settings : Settings) (old new : World) (outcome : Outcome) (saves : List Save) (used : Tool) → outcome.end ≡ end.Done → Names words used → HasRunWords words settings old new outcome saves → HasUsed used settings old new outcome
 used_tool words settings old new outcome saves used done named (inl refused) = absurd (no_usage refused.0.word (sym refused.0.end_is ∙ done))
 used_tool words settings old new outcome saves used done named (inr ran) = elim (subst (λ (t : Tool). HasRunTool t settings old new outcome saves) (one_tool words ran.0 used ran.1 named) ran.2) [
-  | inl before ↦ absurd (not_before used settings.conf_path old.stock.files new.stock outcome.end done before.0)
+  | inl before ↦ absurd (not_before used settings.conf_path old.stock.files new.stock outcome.end (subst IsOfTool (sym done) tt) before.0)
   | inr worked ↦ as_used used settings old new outcome saves worked
 ]
 
@@ -178,52 +186,56 @@ pub unstarted_other : (error : LinkError) → end_unstarted error ≡ tool.Done 
 unstarted_other Failed is = cc
 unstarted_other OutOfMemory is = cc
 
-link_done : (ended : LinkEnd StepError) → tool_end_of ended ≡ tool.Done → ended ≡ link.Done
+broke_other : (error : SavingBreak) → tool_end_of (link.Broken error) ≡ tool.Done → ⊥
+broke_other (saving.Step step.Term) is = cc
+broke_other (saving.Step step.OutOfMemory) is = cc
+broke_other (saving.Save (save.Failed path)) is = cc
+broke_other (saving.Save save.OutOfMemory) is = cc
+
+link_done : (ended : LinkEnd SavingBreak) → tool_end_of ended ≡ tool.Done → ended ≡ link.Done
 link_done link.Done is = refl
 link_done link.LinkFault is = absurd (cc)
 link_done link.TooLong is = absurd (cc)
 link_done link.OutOfMemory is = absurd (cc)
-link_done (link.Broken step.Term) is = absurd (cc)
-link_done (link.Broken step.OutOfMemory) is = absurd (cc)
+link_done (link.Broken error) is = absurd (broke_other error is)
 
-no_link_memory : ◌≡◌ {A = LinkEnd StepError} link.OutOfMemory link.Done → ⊥
+no_link_memory : ◌≡◌ {A = LinkEnd SavingBreak} link.OutOfMemory link.Done → ⊥
 no_link_memory is = cc
 
-broken_other : (error : StepError) → end_broken error ≡ link.Done → ⊥
-broken_other step.Term is = cc
-broken_other step.OutOfMemory is = cc
+no_broken : (error : SavingBreak) → ◌≡◌ {A = LinkEnd SavingBreak} (link.Broken error) link.Done → ⊥
+no_broken error is = cc
 
 -- it was finished, and what the layers told at that was told
 pub record HasFinished (state : SessionState) (left : Resources) : Type 0 where
   pub layers_are : left.layers ≡ (finished state).layers
   pub tells : Tells (finished state).told state.err left.err
 
-finished_by : (state : SessionState) (left : Resources) (served ended : LinkEnd StepError) → ended ≡ link.Done → IsFinished state served left ended → (served ≡ link.Done) × HasFinished state left
+finished_by : (state : SessionState) (left : Resources) (served ended : LinkEnd SavingBreak) → ended ≡ link.Done → IsFinished state served left ended → (served ≡ link.Done) × HasFinished state left
 finished_by state left served ended done (inl is) = (sym is.2 ∙ done, record { layers_are = is.0; tells = is.1 })
 finished_by state left served ended done (inr none) = absurd (no_link_memory (sym none.2 ∙ done))
 
-finished_so : (state : SessionState) (left : Resources) (served ended : LinkEnd StepError) → ended ≡ link.Done → FinishesSession served state left ended → (served ≡ link.Done) × HasFinished state left
+finished_so : (state : SessionState) (left : Resources) (served ended : LinkEnd SavingBreak) → ended ≡ link.Done → FinishesSession served state left ended → (served ≡ link.Done) × HasFinished state left
 finished_so state left link.Done ended done finishes = finished_by state left link.Done ended done finishes
 finished_so state left link.LinkFault ended done finishes = finished_by state left link.LinkFault ended done finishes
 finished_so state left link.TooLong ended done finishes = finished_by state left link.TooLong ended done finishes
 finished_so state left link.OutOfMemory ended done finishes = absurd (no_link_memory (sym finishes.2 ∙ done))
-finished_so state left (link.Broken error) ended done finishes = absurd (broken_other error (sym finishes.2 ∙ done))
+finished_so state left (link.Broken error) ended done finishes = absurd (no_broken error (sym finishes.2 ∙ done))
 
 -- it was served to its end, and finished
 pub record WasServed (start : SessionState) (left : Resources) (old new : LinkState) (before code : ℕ) : Type 0 where
   pub state : SessionState
-  pub ran : IsLinkRun TakesLine Aborts old.talk new.talk old.input new.input start link.Done state before code
+  pub ran : IsLinkRun TakesSaving BreaksSaving old.talk new.talk old.input new.input start link.Done state before code
   pub files_are : left.files ≡ state.files
   pub terminal_is : left.terminal ≡ state.terminal
   pub layers_are : left.layers ≡ (finished state).layers
   pub tells : Tells (finished state).told state.err left.err
 
-pub was_served : (start : SessionState) (left : Resources) (old new : LinkState) (ended : LinkEnd StepError) (before code : ℕ) → tool_end_of ended ≡ tool.Done → IsServed start left old new ended before code → WasServed start left old new before code
+pub was_served : (start : SessionState) (left : Resources) (old new : LinkState) (ended : LinkEnd SavingBreak) (before code : ℕ) → tool_end_of ended ≡ tool.Done → IsServedBy TakesSaving BreaksSaving start left old new ended before code → WasServed start left old new before code
 was_served start left old new ended before code done is =
     let so = finished_so is.state left is.served ended (link_done ended done) is.finishes in
     record {
       state = is.state;
-      ran = subst (λ (e : LinkEnd StepError). IsLinkRun TakesLine Aborts old.talk new.talk old.input new.input start e is.state before code) so.0 is.ran;
+      ran = subst (λ (e : LinkEnd SavingBreak). IsLinkRun TakesSaving BreaksSaving old.talk new.talk old.input new.input start e is.state before code) so.0 is.ran;
       files_are = is.files_are;
       terminal_is = is.terminal_is;
       layers_are = so.1.layers_are;

@@ -17,6 +17,7 @@ pub mod RunLaw
 pub mod SameAnswers
 pub mod SameRuns
 pub mod SavedLayers
+pub mod SavingLines
 pub mod SelectLaw
 pub mod StartLaws
 pub mod TellLaws

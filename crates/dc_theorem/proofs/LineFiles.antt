@@ -1,5 +1,5 @@
 -- What a line leaves of the files, where no failure of theirs is counted.
-use Rattle.std.proofs.Common.{◌≡◌, ℕ, Bool, true, List, [], ◌∷◌, Option, None, Some, refl, ap, subst, ◌∙◌, sym, arith}
+use Rattle.std.proofs.Common.{◌≡◌, inl, inr, ℕ, Bool, true, false, List, [], ◌∷◌, Option, None, Some, refl, ap, subst, ◌∙◌, sym, arith}
 use Rattle.std.specs.Prelude.{◌-◌, ◌^◌, ◌<◌, ◌≤◌}
 use Rattle.dc_outside.specs.State.{FilesState}
 use Rattle.dc_outside.specs.Steps.{after_look}
@@ -11,13 +11,16 @@ use Rattle.dc_proto.specs.declared.command.Heard.{Heard}
 use Rattle.dc_proto.specs.declared.command.Heard.TheVariants.{Nothing, Known, Refused}
 use Rattle.dc_serve.specs.declared.machine.Response.{Response}
 use Rattle.dc_serve.specs.Execution.{Transition, state_after, IsExecution}
-use Rattle.dc_session.specs.Machine.{TakesLine, Steps, StepsHeard, Looks, file_of}
+use Rattle.dc_layer.specs.State.{LayerState}
+use Rattle.dc_session.specs.Machine.{TakesLine, Steps, StepsHeard, Looks, asks_to_save, file_of}
 use Rattle.dc_session.specs.SessionState.{SessionState}
 use Rattle.dc_session.specs.TemplateFiles.{Finds, HasRead}
 use Rattle.dc_session.specs.declared.stepped.Stepped.{Stepped}
 use Rattle.dc_session.specs.declared.template_files.Found.{Found}
 use Rattle.dc_session.specs.declared.template_files.Found.TheVariants.{Unreadable, Missing, Faulty, Templates}
+use Rattle.dc_run.specs.SavingSession.{TakesSaving}
 use Rattle.dc_theorem.proofs.CountLemmas.{no_rise, still}
+use Rattle.dc_theorem.proofs.SavingLines.{TakesBy, save_counts, save_files, saved_files, taken, line_or_save}
 
 -- the files after a read that was answered
 abbrev pub files_read : List ℕ → FilesState → FilesState
@@ -102,11 +105,36 @@ module _ (old new : SessionState) (line : Line) (did : Response) (takes : TakesL
   takes_so n room low high =
       told_files ∙ steps_so old takes.mid takes.handled.stepped n room low (subst (λ (f : FilesState). f.counts.faults ≤ n) told_files high) line takes.handled.steps
 
+-- ---- a line that may ask for a save
+
+-- the files that it leaves
+abbrev files_by : Bool → Line → Bool → FilesState → List LayerState → FilesState
+files_by true line escape old layers = saved_files old layers
+files_by false line escape old layers = line_files line escape old
+
+abbrev pub session_files : Line → Bool → FilesState → List LayerState → FilesState
+session_files line escape old layers = files_by (asks_to_save escape line) line escape old layers
+
+module _ (old new : SessionState) (line : Line) (did : Response) (takes : TakesSaving old line did new) where
+  pub saving_later : old.files.counts.faults ≤ new.files.counts.faults
+  saving_later = elim (line_or_save old new line did takes) [
+    | inl by_itself ↦ takes_later old new line did by_itself
+    | inr save ↦ still old.files.counts new.files.counts (save_counts old new did save)
+  ]
+
+  module _ (n : ℕ) (room : n < 2 ^ 64 - 1) (low : n ≤ old.files.counts.faults) (high : new.files.counts.faults ≤ n) where
+    so_by : (asks : Bool) → TakesBy asks old line did new → new.files ≡ files_by asks line old.asking.escape old.files old.store.layers
+    so_by true save = save_files old new did save
+    so_by false by_itself = takes_so old new line did by_itself n room low high
+
+    pub saving_so : new.files ≡ session_files line old.asking.escape old.files old.store.layers
+    saving_so = so_by (asks_to_save old.asking.escape line) (taken old new line did takes)
+
 -- ---- lines
 
-pub course_later : (start : SessionState) (transitions : List (Transition SessionState)) → IsExecution TakesLine start transitions → start.files.counts.faults ≤ (state_after start transitions).files.counts.faults
+pub course_later : (start : SessionState) (transitions : List (Transition SessionState)) → IsExecution TakesSaving start transitions → start.files.counts.faults ≤ (state_after start transitions).files.counts.faults
 course_later start [] course = still start.files.counts start.files.counts refl
 course_later start (transition ∷ transitions) course =
-    let here : start.files.counts.faults ≤ transition.new.files.counts.faults = takes_later start transition.new transition.line transition.did course.0 in
+    let here : start.files.counts.faults ≤ transition.new.files.counts.faults = saving_later start transition.new transition.line transition.did course.0 in
     let rest : transition.new.files.counts.faults ≤ (state_after transition.new transitions).files.counts.faults = course_later transition.new transitions course.2 in
     omega arith

@@ -61,25 +61,25 @@ module _ (words : List (List ℕ)) (owner : List ℕ) (paths : List (List ℕ)) 
     abbrev start : SessionState
     start = begun (LoadTemplate owner paths) (before_rounds (record old { stock = has.mid })) has.roots settings
 
-    loads : LoadsEach start paths has.told has.answer.status has.uses.state
+    loads : LoadsEach start paths has.told has.answer.status has.uses.0.state
     loads =
-        loads_each start paths has.told has.answer.status has.uses.state
-        (subst (λ (e : ToolEnd). HasLoadedFiles start paths e has.told has.answer.status has.uses.state) (tool_done words (LoadTemplate owner paths) settings disk calls old new outcome clean has) has.uses.loaded)
+        loads_each start paths has.told has.answer.status has.uses.0.state
+        (subst (λ (e : ToolEnd). HasLoadedFiles start paths e has.told has.answer.status has.uses.0.state) (tool_done words (LoadTemplate owner paths) settings disk calls old new outcome clean has) has.uses.0.loaded)
 
     err_is : has.left.err ≡ old.err
-    err_is = ap (λ (l : Resources). l.err) has.uses.left_is ∙ ap (λ (s : SessionState). s.err) loads.new_is ∙ files_silent start loads.transitions loads.course
+    err_is = ap (λ (l : Resources). l.err) has.uses.0.left_is ∙ ap (λ (s : SessionState). s.err) loads.new_is ∙ files_silent start loads.transitions loads.course
 
     mid_high : has.mid.files.counts.faults ≤ old.stock.files.counts.faults
     mid_high =
         let later : has.mid.files.counts.faults ≤ (state_after start loads.transitions).files.counts.faults = loads_later start loads.transitions loads.course in
         let high : (state_after start loads.transitions).files.counts.faults ≤ old.stock.files.counts.faults
-        = subst (λ (f : FilesState). f.counts.faults ≤ old.stock.files.counts.faults) (ap (λ (l : Resources). l.files) has.uses.left_is ∙ ap (λ (s : SessionState). s.files) loads.new_is) (left_sound words (LoadTemplate owner paths) settings disk calls old new outcome clean has) in
+        = subst (λ (f : FilesState). f.counts.faults ≤ old.stock.files.counts.faults) (ap (λ (l : Resources). l.files) has.uses.0.left_is ∙ ap (λ (s : SessionState). s.files) loads.new_is) (left_sound words (LoadTemplate owner paths) settings disk calls old new outcome clean has) in
         omega arith
 
     status_is : outcome.status ≡ has.answer.status
     status_is =
         has.status_is ∙ (λ i. status_of (clean.done i) has.status)
-        ∙ unwaited has.answer.is_started has.links.child new.links.child has.how outcome.end has.answer.status has.status has.uses.waits has.awaits
+        ∙ unwaited has.answer.is_started has.links.child new.links.child has.how outcome.end has.answer.status has.status has.uses.0.waits has.awaits
 
   -- ---- both
 
@@ -95,13 +95,13 @@ module _ (words : List (List ℕ)) (owner : List ℕ) (paths : List (List ℕ)) 
         let begin : with_outside counts err other_begins ≡ begins
         = λ i. begun (LoadTemplate owner paths) (before_rounds (record one { stock = record { files = record { view = sym starts.told i; counts = counts }; used = sym starts.used i } })) (sym starts.roots_are i) settings in
         let first = loads one new outcome clean has in
-        let second : LoadsEach begins paths other_has.told other_has.answer.status (with_outside counts err other_has.uses.state)
-        = subst (λ (s : SessionState). LoadsEach s paths other_has.told other_has.answer.status (with_outside counts err other_has.uses.state)) begin
-        (loads_with counts err other_begins paths other_has.told other_has.answer.status other_has.uses.state (loads other last again other_clean other_has)) in
+        let second : LoadsEach begins paths other_has.told other_has.answer.status (with_outside counts err other_has.uses.0.state)
+        = subst (λ (s : SessionState). LoadsEach s paths other_has.told other_has.answer.status (with_outside counts err other_has.uses.0.state)) begin
+        (loads_with counts err other_begins paths other_has.told other_has.answer.status other_has.uses.0.state (loads other last again other_clean other_has)) in
         let disk_told = starts_told words (LoadTemplate owner paths) settings disk calls one new outcome clean has in
         let transitions : first.transitions ≡ second.transitions
         = one_course disk begins first.transitions second.transitions disk_told first.course second.course (sym first.paths_are ∙ second.paths_are) in
-        let state : has.uses.state ≡ with_outside counts err other_has.uses.state
+        let state : has.uses.0.state ≡ with_outside counts err other_has.uses.0.state
         = first.new_is ∙ ap (λ (ts : List FileTurn). state_after begins ts) transitions ∙ sym second.new_is in
         let said : has.told ≡ other_has.told
         = first.said_is ∙ ap (λ (ts : List FileTurn). lines_of begins ts) transitions ∙ sym second.said_is in
@@ -109,9 +109,9 @@ module _ (words : List (List ℕ)) (owner : List ℕ) (paths : List (List ℕ)) 
         = first.status_is ∙ ap (λ (ts : List FileTurn). load_status begins ts) transitions ∙ sym second.status_is in
         record {
           leave = leave_alike words (LoadTemplate owner paths) settings disk calls one new other last outcome again clean other_clean has other_has
-              (ap (λ (l : Resources). l.layers) has.uses.left_is ∙ ap (λ (s : SessionState). s.store.layers) state ∙ sym (ap (λ (l : Resources). l.layers) other_has.uses.left_is)) (ap (λ (l : Resources). l.files.view) has.uses.left_is ∙ ap (λ (s : SessionState). s.files.view) state ∙ sym (ap (λ (l : Resources). l.files.view) other_has.uses.left_is))
+              (ap (λ (l : Resources). l.layers) has.uses.0.left_is ∙ ap (λ (s : SessionState). s.store.layers) state ∙ sym (ap (λ (l : Resources). l.layers) other_has.uses.0.left_is)) (ap (λ (l : Resources). l.files.view) has.uses.0.left_is ∙ ap (λ (s : SessionState). s.files.view) state ∙ sym (ap (λ (l : Resources). l.files.view) other_has.uses.0.left_is))
               (tell_nothing one.err has.left.err other.err other_has.left.err (err_is one new outcome clean has) (err_is other last again other_clean other_has)) said
-              (has.uses.last_code_is ∙ sym other_has.uses.last_code_is);
+              (has.uses.0.last_code_is ∙ sym other_has.uses.0.last_code_is);
           status = status_is other last again other_clean other_has ∙ sym status ∙ sym (status_is one new outcome clean has);
         }
 

@@ -126,7 +126,7 @@ module _ (settings other_settings : Settings) (old new other last : World) (outc
 
   module _ (done : outcome.end ≡ end.Done) (again_done : again.end ≡ end.Done) (clean : again.status ≡ 0) (over : IsHandedOver old.links.io new.links.io other.links.io) (are_new : AreNewTo (loaded says) (loaded sets)) where
     comes : other.links.io.input ≡ Some text
-    comes = handed text old.links.io new.links.io other.links.io says.answer.ended (kept says done).0 (subst (λ (l : LinkState). Prints text old.links.io l says.answer.ended) (sym says.io_is) says.uses.prints) over
+    comes = handed text old.links.io new.links.io other.links.io says.answer.ended (kept says done).0 (subst (λ (l : LinkState). Prints text old.links.io l says.answer.ended) (sym says.io_is) says.uses.0.prints) over
 
     selected : IsSelected start left other.links.io sets.links.io link.Done 0 sets.answer.last_code
     selected = subst (λ (e : LinkEnd NoMemory). IsSelected start left other.links.io sets.links.io e 0 sets.answer.last_code)

@@ -1,5 +1,5 @@
 -- A session goes on in the same way whatever its files had counted before it, where no failure of theirs is counted in it.
-use Rattle.std.proofs.Common.{◌≡◌, ℕ, Bool, List, [], ◌∷◌, ◌++◌, Option, None, Some, inl, inr, refl, ap, sym, subst, ◌∙◌, arith}
+use Rattle.std.proofs.Common.{◌≡◌, ℕ, Bool, true, false, List, [], ◌∷◌, ◌++◌, Option, None, Some, inl, inr, refl, ap, sym, subst, ◌∙◌, arith}
 use Rattle.std.specs.Prelude.{◌-◌, ◌^◌, ◌<◌, ◌≤◌, ◌||◌, Ok, map as each}
 use Rattle.dc_outside.specs.Counts.{Counts}
 use Rattle.dc_outside.specs.State.{FilesState, LinkState}
@@ -17,14 +17,15 @@ use Rattle.dc_serve.specs.declared.machine.Response.{Response}
 use Rattle.dc_serve.specs.declared.outcome.LinkEnd.TheVariants.{Done}
 use Rattle.dc_session.specs.Answers.{answer}
 use Rattle.dc_session.specs.Displays.{Display, Shows}
-use Rattle.dc_session.specs.Machine.{Handles, TakesLine, Aborts, Steps, StepsHeard, HasDone, Looks, file_of}
+use Rattle.dc_session.specs.Machine.{Handles, Steps, StepsHeard, HasDone, Looks, asks_to_save, file_of}
 use Rattle.dc_session.specs.SessionState.{SessionState}
 use Rattle.dc_session.specs.TemplateFiles.{Finds, HasRead}
 use Rattle.dc_session.specs.declared.stepped.Stepped.{Stepped}
 use Rattle.dc_session.specs.declared.template_files.Found.{Found}
 use Rattle.dc_session.specs.declared.template_files.Found.TheVariants.{Unreadable, Missing, Faulty, Templates}
+use Rattle.dc_run.specs.SavingSession.{BreaksSaving, HandlesBy, SavesAll, TakesSaving}
 use Rattle.dc_theorem.proofs.CountLemmas.{no_rise}
-use Rattle.dc_theorem.proofs.LineFiles.{takes_later, course_later}
+use Rattle.dc_theorem.proofs.LineFiles.{saving_later, course_later}
 use Rattle.dc_theorem.proofs.SameAnswers.{same_answer, same_display}
 
 -- the files, with these counts
@@ -87,21 +88,29 @@ module _ (counts : Counts) (n : ℕ) (room : n < 2 ^ 64 - 1) where
     heeds_with : (line : Line) (did : Response) → Handles old line did new → Handles (with_counts counts old) line did (with_counts counts new)
     heeds_with line did steps = record { stepped = steps.stepped; steps = steps_with line steps.stepped steps.steps; did_is = steps.did_is }
 
+    -- all layers are saved
+    saves_with : (did : Response) → SavesAll old did new → SavesAll (with_counts counts old) did (with_counts counts new)
+    saves_with did saves = record { is = record { saves = saves.is.saves; counts = refl }; did_is = saves.did_is; new_is = ap (with_counts counts) saves.new_is }
+
+    handled_with : (asks : Bool) (line : Line) (did : Response) → HandlesBy asks old line did new → HandlesBy asks (with_counts counts old) line did (with_counts counts new)
+    handled_with true line did saves = saves_with did saves
+    handled_with false line did handles = heeds_with line did handles
+
   -- and what the layers told is told behind it
-  takes_with : (old new : SessionState) → n ≤ old.files.counts.faults → new.files.counts.faults ≤ n → (line : Line) (did : Response) → TakesLine old line did new → TakesLine (with_counts counts old) line did (with_counts counts new)
+  takes_with : (old new : SessionState) → n ≤ old.files.counts.faults → new.files.counts.faults ≤ n → (line : Line) (did : Response) → TakesSaving old line did new → TakesSaving (with_counts counts old) line did (with_counts counts new)
   takes_with old new low high line did takes = record {
     mid = with_counts counts takes.mid;
-    handled = heeds_with old takes.mid low (subst (λ (s : SessionState). s.files.counts.faults ≤ n) takes.tells.new_is high) line did takes.handled;
+    handled = handled_with old takes.mid low (subst (λ (s : SessionState). s.files.counts.faults ≤ n) takes.tells.new_is high) (asks_to_save old.asking.escape line) line did takes.handled;
     tells = record { told = takes.tells.told; new_is = ap (with_counts counts) takes.tells.new_is };
   }
 
   -- ---- turns
 
-  course_with : (start : SessionState) (transitions : List (Transition SessionState)) → n ≤ start.files.counts.faults → (state_after start transitions).files.counts.faults ≤ n → IsExecution TakesLine start transitions
-      → IsExecution TakesLine (with_counts counts start) (turns_with counts transitions)
+  course_with : (start : SessionState) (transitions : List (Transition SessionState)) → n ≤ start.files.counts.faults → (state_after start transitions).files.counts.faults ≤ n → IsExecution TakesSaving start transitions
+      → IsExecution TakesSaving (with_counts counts start) (turns_with counts transitions)
   course_with start [] low high course = tt
   course_with start (transition ∷ transitions) low high course =
-      let here : start.files.counts.faults ≤ transition.new.files.counts.faults = takes_later start transition.new transition.line transition.did course.0 in
+      let here : start.files.counts.faults ≤ transition.new.files.counts.faults = saving_later start transition.new transition.line transition.did course.0 in
       let rest : transition.new.files.counts.faults ≤ (state_after transition.new transitions).files.counts.faults = course_later transition.new transitions course.2 in (
         takes_with start transition.new low (omega arith) transition.line transition.did course.0,
         (λ stop. ap (turns_with counts) (course.1 stop)),
@@ -145,7 +154,7 @@ module _ (counts : Counts) (n : ℕ) (room : n < 2 ^ 64 - 1) where
   -- ---- a run
 
   pub run_with : (talk new_talk : Option (List Piece)) (input left : Option (List ℕ)) (start new : SessionState) (before code : ℕ) → n ≤ start.files.counts.faults → new.files.counts.faults ≤ n
-      → IsLinkRun TakesLine Aborts talk new_talk input left start Done new before code → IsLinkRun TakesLine Aborts talk new_talk input left (with_counts counts start) Done (with_counts counts new) before code
+      → IsLinkRun TakesSaving BreaksSaving talk new_talk input left start Done new before code → IsLinkRun TakesSaving BreaksSaving talk new_talk input left (with_counts counts start) Done (with_counts counts new) before code
   run_with talk new_talk input left start new before code low high run =
       let are_said = run.answered.are_said in
       record {

@@ -8,10 +8,10 @@ use Rattle.dc_serve.specs.LinkRun.{IsLinkRun}
 use Rattle.dc_serve.specs.declared.outcome.LinkEnd.TheVariants as link
 use Rattle.dc_session.specs.Alike.{AreAlike}
 use Rattle.dc_session.specs.Asking.{finished}
-use Rattle.dc_session.specs.Machine.{TakesLine, Aborts}
 use Rattle.dc_session.specs.SessionState.{SessionState, TerminalState, nothing_typed}
 use Rattle.dc_run.specs.OneRound.{HasUsed}
 use Rattle.dc_run.specs.Running.{IsStarted}
+use Rattle.dc_run.specs.SavingSession.{BreaksSaving, TakesSaving}
 use Rattle.dc_run.specs.Starting.{begun}
 use Rattle.dc_run.specs.World.{World, before_rounds}
 use Rattle.dc_run.specs.declared.outcome.Outcome.{Outcome}
@@ -36,7 +36,7 @@ module _ (words : List (List ℕ)) (owner : List ℕ) (frontend : Option Fronten
     start = begun (Run owner frontend priority command) (before_rounds (record old { stock = has.mid })) has.roots settings
 
     -- its program was started
-    started : IsStarted command start old.links has.links 0 has.answer has.left
+    started : IsStarted command start old.links has.links 0 has.answer has.left has.inner
     started = elim has.uses.0 [
       | inl none ↦ absurd (unstarted_other none.error (sym none.ended_is ∙ tool_done words (Run owner frontend priority command) settings disk calls old new outcome clean has))
       | inr is ↦ is
@@ -45,10 +45,10 @@ module _ (words : List (List ℕ)) (owner : List ℕ) (frontend : Option Fronten
     served : WasServed start has.left (record old.links.child { program = started.mid.program }) has.links.child 0 has.answer.last_code
     served = subst (λ (l : LinkState). WasServed start has.left l has.links.child 0 has.answer.last_code) started.starts.state
         (was_served start has.left started.mid has.links.child started.ended 0 has.answer.last_code
-        (sym started.ended_is ∙ tool_done words (Run owner frontend priority command) settings disk calls old new outcome clean has) started.served)
+        (sym started.ended_is ∙ tool_done words (Run owner frontend priority command) settings disk calls old new outcome clean has) started.served.by)
 
-    ran : IsLinkRun TakesLine Aborts old.links.child.talk has.links.child.talk (Some input) has.links.child.input start link.Done served.state 0 has.answer.last_code
-    ran = subst (λ (k : Option (List ℕ)). IsLinkRun TakesLine Aborts old.links.child.talk has.links.child.talk k has.links.child.input start link.Done served.state 0 has.answer.last_code) input_is served.ran
+    ran : IsLinkRun TakesSaving BreaksSaving old.links.child.talk has.links.child.talk (Some input) has.links.child.input start link.Done served.state 0 has.answer.last_code
+    ran = subst (λ (k : Option (List ℕ)). IsLinkRun TakesSaving BreaksSaving old.links.child.talk has.links.child.talk k has.links.child.input start link.Done served.state 0 has.answer.last_code) input_is served.ran
 
     high : served.state.files.counts.faults ≤ old.stock.files.counts.faults
     high = subst (λ (f : FilesState). f.counts.faults ≤ old.stock.files.counts.faults) served.files_are (left_sound words (Run owner frontend priority command) settings disk calls old new outcome clean has)
@@ -103,8 +103,8 @@ module _ (words : List (List ℕ)) (owner : List ℕ) (frontend : Option Fronten
         (starts_low words (Run owner frontend priority command) settings disk calls other last again other_clean other_has) (high other last again input other_clean other_has other_input_is) (ran other last again input other_clean other_has other_input_is) in
         let begin : with_counts counts other_begins ≡ begins
         = λ i. begun (Run owner frontend priority command) (before_rounds (record other { stock = record { files = record { view = sym starts.told i; counts = counts }; used = sym starts.used i } })) (sym starts.roots_are i) settings in
-        let other_ran : IsLinkRun TakesLine Aborts other.links.child.talk other_has.links.child.talk (Some input) other_has.links.child.input begins link.Done (with_counts counts second.state) 0 other_has.answer.last_code
-        = subst (λ (s : SessionState). IsLinkRun TakesLine Aborts other.links.child.talk other_has.links.child.talk (Some input) other_has.links.child.input s link.Done (with_counts counts second.state) 0 other_has.answer.last_code) begin recounted in
+        let other_ran : IsLinkRun TakesSaving BreaksSaving other.links.child.talk other_has.links.child.talk (Some input) other_has.links.child.input begins link.Done (with_counts counts second.state) 0 other_has.answer.last_code
+        = subst (λ (s : SessionState). IsLinkRun TakesSaving BreaksSaving other.links.child.talk other_has.links.child.talk (Some input) other_has.links.child.input s link.Done (with_counts counts second.state) 0 other_has.answer.last_code) begin recounted in
         let disk_told = starts_told words (Run owner frontend priority command) settings disk calls one new outcome clean has in
         let same = run_alike one.stock.files.counts.faults clean.none_failed.room disk disk_told.0 input one.links.child.talk has.links.child.talk other.links.child.talk other_has.links.child.talk has.links.child.input other_has.links.child.input
         (begun (Run owner frontend priority command) (before_rounds (record one { stock = has.mid })) has.roots settings) begins first.state (with_counts counts second.state) 0 has.answer.last_code other_has.answer.last_code

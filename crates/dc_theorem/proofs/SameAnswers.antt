@@ -10,7 +10,7 @@ use Rattle.dc_frontend.specs.declared.frontend.Frontend.TheVariants.{Noninteract
 use Rattle.dc_proto.specs.Replies.{reply}
 use Rattle.dc_proto.specs.declared.priority.Priority.{Priority}
 use Rattle.dc_proto.specs.declared.command.Command.{Command}
-use Rattle.dc_proto.specs.declared.command.Command.TheVariants.{Version, Capb, SetTitle, Title, Input, BeginBlock, EndBlock, Go, Clear, Stop, Get, Set, Reset, Subst, Fget, Fset, Metaget, Register, Unregister, Purge, ProgressStart, ProgressSet, ProgressStep, ProgressInfo, ProgressStop, LoadTemplateFile}
+use Rattle.dc_proto.specs.declared.command.Command.TheVariants.{Version, Capb, SetTitle, Title, Input, BeginBlock, EndBlock, Go, Clear, Stop, Get, Set, Reset, Subst, Fget, Fset, Metaget, Register, Unregister, Purge, ProgressStart, ProgressSet, ProgressStep, ProgressInfo, ProgressStop, LoadTemplateFile, XSave}
 use Rattle.dc_proto.specs.declared.reply.Reply.{Reply}
 use Rattle.dc_question.specs.Changes.{values_set, value_set, flag_set, variable_set, value_reset}
 use Rattle.dc_question.specs.Ownership.{registered, unregistered, purged, loaded}
@@ -106,6 +106,7 @@ module _ (state : SessionState) (files : FilesState) (err : LinkState) where
   same_answer Go given = going_same state.policy.frontend given.asked
   same_answer Clear given = refl
   same_answer Stop given = refl
+  same_answer XSave given = refl
   same_answer (Get word) given = says_same [] (text_reply state) (for_question word (value state.store.layers state.at))
   same_answer (Set word text) given = does_same (reply 0 (codes "value set")) (for_question word (λ name. value_set state.store state.at name text))
   same_answer (Reset word) given = does_same (reply 0 []) (for_question word (value_reset state.store state.at))

@@ -90,20 +90,20 @@ module _ (words : List (List ℕ)) (settings : Settings) (disk : Disk) (calls : 
     answers_printed : new.links.io.talk ≡ then_pieces old.links.io.talk (Sent (answers has.mid.used has.roots).text ∷ [])
     answers_printed =
         ap (λ (l : LinkState). l.talk) (has.io_is ∙ subst (λ (e : ToolEnd). Prints (answers has.mid.used has.roots).text old.links.io has.links.io e)
-        (tool_done words GetSelections settings disk calls old new outcome clean has) has.uses.prints)
+        (tool_done words GetSelections settings disk calls old new outcome clean has) has.uses.0.prints)
 
     unsaid_told : (has.told ≡ unsaid_lines (answers has.mid.used has.roots).left_out) × (has.answer.status ≡ told_status (answers has.mid.used has.roots).left_out)
     unsaid_told = subst (λ (e : ToolEnd). TellsUnsaid (answers has.mid.used has.roots).left_out e has.told has.answer.status)
-        (tool_done words GetSelections settings disk calls old new outcome clean has) has.uses.tells
+        (tool_done words GetSelections settings disk calls old new outcome clean has) has.uses.0.tells
 
     answers_high : has.mid.files.counts.faults ≤ old.stock.files.counts.faults
-    answers_high = subst (λ (f : FilesState). f.counts.faults ≤ old.stock.files.counts.faults) (ap (λ (l : Resources). l.files) has.uses.left_is)
+    answers_high = subst (λ (f : FilesState). f.counts.faults ≤ old.stock.files.counts.faults) (ap (λ (l : Resources). l.files) has.uses.0.left_is)
         (left_sound words GetSelections settings disk calls old new outcome clean has)
 
     answers_status : outcome.status ≡ told_status (answers has.mid.used has.roots).left_out
     answers_status =
         has.status_is ∙ (λ i. status_of (clean.done i) has.status)
-        ∙ unwaited has.answer.is_started has.links.child new.links.child has.how outcome.end has.answer.status has.status has.uses.waits has.awaits ∙ unsaid_told.1
+        ∙ unwaited has.answer.is_started has.links.child new.links.child has.how outcome.end has.answer.status has.status has.uses.0.waits has.awaits ∙ unsaid_told.1
 
   pub answers_alike : (one new other last : World) (outcome again : Outcome) → Names words GetSelections
       → IsClean words settings disk calls one new outcome → IsClean words settings disk calls other last again → ShowAlike one new outcome other last again
@@ -114,11 +114,11 @@ module _ (words : List (List ℕ)) (settings : Settings) (disk : Disk) (calls : 
       let same : answers has.mid.used has.roots ≡ answers other_has.mid.used other_has.roots = λ i. answers (starts.used i) (starts.roots_are i) in
       record {
         leave = leave_alike words GetSelections settings disk calls one new other last outcome again clean other_clean has other_has
-            (ap (λ (l : Resources). l.layers) has.uses.left_is ∙ starts.used ∙ sym (ap (λ (l : Resources). l.layers) other_has.uses.left_is))
-            (ap (λ (l : Resources). l.files.view) has.uses.left_is ∙ starts.told ∙ sym (ap (λ (l : Resources). l.files.view) other_has.uses.left_is))
-            (tell_nothing one.err has.left.err other.err other_has.left.err (ap (λ (l : Resources). l.err) has.uses.left_is) (ap (λ (l : Resources). l.err) other_has.uses.left_is))
+            (ap (λ (l : Resources). l.layers) has.uses.0.left_is ∙ starts.used ∙ sym (ap (λ (l : Resources). l.layers) other_has.uses.0.left_is))
+            (ap (λ (l : Resources). l.files.view) has.uses.0.left_is ∙ starts.told ∙ sym (ap (λ (l : Resources). l.files.view) other_has.uses.0.left_is))
+            (tell_nothing one.err has.left.err other.err other_has.left.err (ap (λ (l : Resources). l.err) has.uses.0.left_is) (ap (λ (l : Resources). l.err) other_has.uses.0.left_is))
             ((unsaid_told one new outcome clean has).0 ∙ ap (λ (s : Said). unsaid_lines s.left_out) same ∙ sym (unsaid_told other last again other_clean other_has).0)
-            (has.uses.code_is ∙ sym other_has.uses.code_is);
+            (has.uses.0.code_is ∙ sym other_has.uses.0.code_is);
         printed = record {
           pieces = Sent (answers has.mid.used has.roots).text ∷ [];
           other_pieces = Sent (answers other_has.mid.used other_has.roots).text ∷ [];
@@ -167,7 +167,7 @@ module _ (words : List (List ℕ)) (copy : CopyWords) (settings : Settings) (dis
     start = begun (CopyDb copy) (before_rounds (record old { stock = has.mid })) has.roots settings
 
     copied : HasMade has.roots.copy start old.links has.links has.answer has.told has.left
-    copied = made_by has.roots.copy start old.links has.links has.answer has.told has.left has.uses
+    copied = made_by has.roots.copy start old.links has.links has.answer has.told has.left has.uses.0
 
     whole : IsWhole (copying start copied.roots) has.mid.used has.left.layers has.told has.answer.status
     whole = whole_copy (copying start copied.roots) has.mid.used has.left.layers has.told has.answer.status

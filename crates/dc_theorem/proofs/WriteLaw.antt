@@ -1,126 +1,306 @@
 -- What a run leaves on the disk where memory ran out or no save was begun, and what it counted where it did all.
-use Rattle.std.proofs.Common.{◌≡◌, ◌&&◌, inl, inr, ℕ, Bool, true, false, List, [], ◌∷◌, ◌++◌, refl, ap, sym, subst, ◌∙◌}
-use Rattle.std.specs.Prelude.{◌≢◌, Result, Ok, Err}
+use Rattle.std.proofs.Common.{◌≡◌, ◌⊎◌, ◌&&◌, inl, inr, ℕ, Bool, true, false, List, [], ◌∷◌, ◌++◌, refl, ap, sym, subst, ◌∙◌, append-nil}
+use Rattle.std.specs.Prelude.{◌≢◌, Option, Result, Ok, Err}
+use Rattle.std.specs.List.{AllByRecursion}
 use Rattle.dc_outside.specs.Counts.{Counts, Rose, RefusalRose}
+use Rattle.dc_outside.specs.Disk.{Disk}
 use Rattle.dc_outside.specs.State.{FilesState, FilesView, LinkState}
 use Rattle.dc_conf.specs.declared.spec.LayerSort.{LayerSort}
 use Rattle.dc_conf.specs.declared.spec.LayerSort.TheVariants.{File, Tree, Pack}
 use Rattle.dc_conf.specs.declared.spec.LayerSpec.{LayerSpec}
 use Rattle.dc_layer.specs.State.{LayerState}
 use Rattle.dc_save.specs.Loading.{LoadCountsBy, LoadCounts}
+use Rattle.dc_save.specs.Saving.{SaveCounts}
 use Rattle.dc_save.specs.declared.loading.Loaded.{Loaded}
 use Rattle.dc_save.specs.declared.loading.LoadError.{LoadError}
 use Rattle.dc_save.specs.declared.loading.LoadError.TheVariants as load
 use Rattle.dc_shelf.specs.Shelves.{GoesOn, LoadsAll}
 use Rattle.dc_save.specs.declared.saving.SaveError.{SaveError}
 use Rattle.dc_save.specs.declared.saving.SaveError.TheVariants as save
+use Rattle.dc_serve.specs.Execution.{state_after}
+use Rattle.dc_serve.specs.LinkRun.{Answered}
+use Rattle.dc_serve.specs.declared.outcome.LinkEnd.{LinkEnd}
+use Rattle.dc_serve.specs.declared.outcome.LinkEnd.TheVariants as link
+use Rattle.dc_session.specs.Serving.{Finishes as FinishesSession, Resources}
+use Rattle.dc_session.specs.SessionState.{SessionState}
 use Rattle.dc_cli.specs.declared.tool.Tool.{Tool}
-use Rattle.dc_run.specs.Ends.{LinksCount, ProgramCounts, comes_to_save, end_by, end_of, end_of_load, end_unwaited}
-use Rattle.dc_run.specs.Finishing.{Finishes, FinishesWhere, IsWithoutMemory}
+use Rattle.dc_cli.specs.declared.tool.Tool.TheVariants.{Communicate, LoadTemplate, Run, Show, CopyDb, SetSelections, GetSelections, Drill}
+use Rattle.dc_run.specs.Ends.{LinksCount, ProgramCounts, comes_to_save, end_by, end_of, end_of_load, end_unsaved, end_unwaited, tool_end_of}
+use Rattle.dc_run.specs.Finishing.{Finishes, FinishesWhere}
 use Rattle.dc_run.specs.Headline.{HasRunTool, HasRunWords, HasWorked}
+use Rattle.dc_run.specs.Jobs.{Uses}
+use Rattle.dc_run.specs.Kills.{AllDone}
 use Rattle.dc_run.specs.OneRound.{HasUsed}
+use Rattle.dc_run.specs.Roots.{Roots}
 use Rattle.dc_run.specs.Rounds.{Job, Whole, HasDone, IsOneRound, Works, is_saved_at}
 use Rattle.dc_run.specs.Running.{Awaits}
-use Rattle.dc_run.specs.Saves.{Save, Commits}
+use Rattle.dc_run.specs.Saves.{AreSaves, Commits, IsSave, Save}
+use Rattle.dc_run.specs.SavingSession.{BreaksSaving, FailsToSave, IsServedSaving, broken_save, save_of, saves_in}
 use Rattle.dc_run.specs.Starting.{EndsBefore, begun, conf_read, keeps_changes}
-use Rattle.dc_run.specs.World.{Stock, World, RunState, before_rounds}
+use Rattle.dc_run.specs.World.{Links, RunState, Stock, World, before_rounds, stock_of}
 use Rattle.dc_run.specs.declared.outcome.End.{End}
 use Rattle.dc_run.specs.declared.outcome.End.TheVariants as end
 use Rattle.dc_run.specs.declared.outcome.Outcome.{Outcome}
+use Rattle.dc_run.specs.declared.outcome.ToolAnswer.{ToolAnswer}
 use Rattle.dc_run.specs.declared.outcome.ToolEnd.{ToolEnd}
 use Rattle.dc_run.specs.declared.outcome.ToolEnd.TheVariants as tool
+use Rattle.dc_run.specs.declared.saving_session.SavingBreak.{SavingBreak}
+use Rattle.dc_run.specs.declared.saving_session.SavingBreak.TheVariants as saving
 use Rattle.dc_run.specs.declared.settings.Settings.{Settings}
-use Rattle.dc_run.proofs.CrashLemmas.{before_reads, loads_read, tool_keeps}
 use Rattle.dc_run.proofs.ProgramLemmas.{is_run}
 use Rattle.dc_run.proofs.RoundLemmas.{jobs_had, one_round}
 use Rattle.dc_run.proofs.RunSaves.{words_keep}
+use Rattle.dc_run.proofs.SavingLemmas.{saves_done}
 use Rattle.dc_run.proofs.UsedLemmas.{as_used}
-use Rattle.dc_theorem.specs.Completeness.{IsBeforeSaves, MetNoFault}
-use Rattle.dc_theorem.proofs.CountsLater.{Kept, Later, failed, rose_behind, later_then, kept_then, unmoved, load_kept, tool_later, tool_kept, start_later, start_kept, finished_kept}
+use Rattle.dc_theorem.specs.Completeness.{AreAsked, IsBeforeSaves, MetNoFault, StandsBehindDone}
+use Rattle.dc_theorem.proofs.CountsLater.{Kept, Later, course_kept, failed, refused, rose_behind, rose_between, later_so, later_then, kept_then, unmoved, load_kept, tool_later, tool_kept, start_later, start_kept, finished_kept}
+use Rattle.dc_theorem.proofs.EndLemmas.{IsOfTool, not_before}
+
+-- ---- a wait that failed
+
+-- it leaves each end but that of a run that did all
+unwaited_so : (goal : End) → (end.ChildFault ≡ goal → ⊥) → (how : End) → end_unwaited how ≡ goal → how ≡ goal
+unwaited_so goal other end.Done is = absurd (other is)
+unwaited_so goal other (end.Usage word) is = is
+unwaited_so goal other (end.ConfRefused line kind) is = is
+unwaited_so goal other (end.BadPattern at) is = is
+unwaited_so goal other (end.PatternTooLarge at) is = is
+unwaited_so goal other (end.Damaged path line) is = is
+unwaited_so goal other end.OutOfMemory is = is
+unwaited_so goal other (end.FilesFault path) is = is
+unwaited_so goal other end.LinkFault is = is
+unwaited_so goal other end.TermFault is = is
+unwaited_so goal other end.ChildFault is = is
+unwaited_so goal other end.TooLong is = is
+
+awaited_so : (goal : End) → (end.ChildFault ≡ goal → ⊥) → (started : Bool) (old new : LinkState) (how ended : End) (status left : ℕ) → Awaits started old new how ended status left → ended ≡ goal → how ≡ goal
+awaited_so goal other true old new how ended status left (inl has) is = sym has.end_is ∙ is
+awaited_so goal other true old new how ended status left (inr failed) is = unwaited_so goal other how (sym failed.end_is ∙ is)
+awaited_so goal other false old new how ended status left none is = sym none.end_is ∙ is
+
+-- ---- the tool's one round
+
+module _ (used : Tool) (settings : Settings) (old new : World) (outcome : Outcome) (saves : List Save) (worked : HasWorked used settings old new outcome saves) where
+  abbrev ready : RunState
+  ready = before_rounds worked.mid
+
+  -- the session that it begins with, where it has one
+  abbrev begins : SessionState
+  begins = begun used ready worked.roots settings
+
+  one : IsOneRound worked.roots settings (Whole used) ready worked.left outcome.end worked.status saves
+  one = one_round worked.roots settings (Whole used) ready worked.left outcome.end worked.status saves (jobs_had used worked.roots settings ready worked.left outcome.end worked.status saves worked.does)
+
+  works : HasDone used worked.roots settings ready one.round.left one.round.answer one.round.inner
+  works = subst (λ (j : Job). Works j worked.roots settings ready one.round.left one.round.answer one.round.inner) one.job_is one.is.works
+
+  abbrev ended : ToolEnd
+  ended = one.round.answer.ended
+
+  -- whether it comes to its save
+  abbrev saved_last : Bool
+  saved_last = keeps_changes used && comes_to_save ended
+
+  stock_is : new.stock ≡ one.round.new.world.stock
+  stock_is = ap (λ (w : World). w.stock) (worked.rest_is ∙ ap (λ (s : RunState). record s.world { err = new.err }) one.new_is)
+
+  commits : Commits saved_last ended (stock_of works.left.files works.left.layers) new.stock one.round.last one.round.finish
+  commits = subst (λ (s : Stock). Commits saved_last ended (stock_of works.left.files works.left.layers) s one.round.last one.round.finish) (sym stock_is)
+      (subst (λ (s : Stock). Commits saved_last ended s one.round.new.world.stock one.round.last one.round.finish) works.stock_is
+      (subst (λ (j : Job). Commits (is_saved_at j ended) ended one.round.left.world.stock one.round.new.world.stock one.round.last one.round.finish) one.job_is one.is.commits))
+
+  -- how it ended before the wait
+  finish_so : (goal : End) → (end.ChildFault ≡ goal → ⊥) → outcome.end ≡ goal → one.round.finish ≡ goal
+  finish_so goal other is =
+      awaited_so goal other one.round.answer.is_started one.round.left.world.links.child one.round.new.world.links.child one.round.finish one.round.how one.round.answer.status one.round.status one.is.awaits (sym one.how_is ∙ is)
+
+both_so : (a b : Bool) → a && b ≡ true → b ≡ true
+both_so true b is = is
+both_so false b is = cc
 
 -- ---- memory ran out
 
--- a wait that failed leaves the want of memory
-unwaited_memory : (how : End) → end_unwaited how ≡ end.OutOfMemory → how ≡ end.OutOfMemory
-unwaited_memory end.Done is = absurd (cc)
-unwaited_memory (end.Usage word) is = is
-unwaited_memory (end.ConfRefused line kind) is = is
-unwaited_memory (end.BadPattern at) is = is
-unwaited_memory (end.PatternTooLarge at) is = is
-unwaited_memory (end.Damaged path line) is = is
-unwaited_memory end.OutOfMemory is = is
-unwaited_memory (end.FilesFault path) is = is
-unwaited_memory end.LinkFault is = is
-unwaited_memory end.TermFault is = is
-unwaited_memory end.ChildFault is = is
-unwaited_memory end.TooLong is = is
+-- a save was done, or it has changed nothing on the disk
+abbrev IsDoneOrNot : Save → Type 0
+IsDoneOrNot save = (save.answer ≡ Ok tt) ⊎ (save.after.view.disk ≡ save.before.view.disk)
 
-awaited_memory : (started : Bool) (old new : LinkState) (how ended : End) (status left : ℕ) → Awaits started old new how ended status left → ended ≡ end.OutOfMemory → how ≡ end.OutOfMemory
-awaited_memory true old new how ended status left (inl has) is = sym has.end_is ∙ is
-awaited_memory true old new how ended status left (inr failed) is = unwaited_memory how (sym failed.end_is ∙ is)
-awaited_memory false old new how ended status left none is = sym none.end_is ∙ is
+or_done : (answer : Result (Unit {0}) SaveError) → (answer ≡ Ok tt) ⊎ (answer ≢ Ok tt)
+or_done (Ok done) = inl refl
+or_done (Err error) = inr (λ is. cc)
 
-no_done : end.Done ≡ end.OutOfMemory → ⊥
-no_done is = cc
+stands : (old : Option Disk) (saves : List Save) (new : Option Disk) → AllByRecursion IsDoneOrNot saves → AreSaves old saves new → StandsBehindDone saves old new
+stands old [] new all are = record { over = []; later = []; saves_are = refl; done = tt; disk_is = are }
+stands old (save ∷ saves) new all are = elim (or_done save.answer) [
+  | inl done ↦
+      let rest = stands save.after.view.disk saves new all.1 are.3 in
+      record { over = save ∷ rest.over; later = rest.later; saves_are = ap (λ (l : List Save). save ∷ l) rest.saves_are; done = (done, rest.done); disk_is = rest.disk_is }
+  | inr other ↦ unchanged save saves old new other all.0 are
+] where
+  unchanged : (save : Save) (saves : List Save) (old new : Option Disk) → save.answer ≢ Ok tt → IsDoneOrNot save → AreSaves old (save ∷ saves) new → StandsBehindDone (save ∷ saves) old new
+  unchanged save saves old new other (inl done) are = absurd (other done)
+  unchanged save saves old new other (inr same) are = record {
+    over = [];
+    later = save ∷ saves;
+    saves_are = refl;
+    done = tt;
+    disk_is = subst (λ (l : List Save). AreSaves save.after.view.disk l new) (are.2 other) are.3 ∙ same ∙ are.0;
+  }
 
-no_link : end.LinkFault ≡ end.OutOfMemory → ⊥
-no_link is = cc
+all_both : (first second : List Save) → AllByRecursion IsDoneOrNot first → AllByRecursion IsDoneOrNot second → AllByRecursion IsDoneOrNot (first ++ second)
+all_both [] second a b = b
+all_both (save ∷ first) second a b = (a.0, all_both first second a.1 b)
 
-no_long : end.TooLong ≡ end.OutOfMemory → ⊥
-no_long is = cc
+each_done : (saves : List Save) → AllDone saves → AllByRecursion IsDoneOrNot saves
+each_done [] done = tt
+each_done (save ∷ saves) done = (inl done.0, each_done saves done.1)
+
+-- one for which there was no memory changed nothing, unless the files refused a call
+module _ (begun_at : Save) (is : IsSave begun_at) (none_refused : ¬ RefusalRose begun_at.before.counts begun_at.after.counts) where
+  without_memory : begun_at.answer ≡ Err save.OutOfMemory → begun_at.after.view.disk ≡ begun_at.before.view.disk
+  without_memory answer =
+      elim (subst (λ (a : Result (Unit {0}) SaveError). SaveCounts begun_at.before.view begun_at.after.view a begun_at.before.counts begun_at.after.counts) answer is.counts) [
+        | inl rose ↦ absurd (none_refused rose)
+        | inr same ↦ ap (λ (v : FilesView). v.disk) same.1
+      ]
+
+module _ (start : SessionState) (left : Resources) (old new : LinkState) (link_end : LinkEnd SavingBreak) (before code : ℕ) (saves : List Save) (is : IsServedSaving start left old new link_end before code saves) where
+  abbrev after : SessionState
+  after = state_after start is.by.ran.transitions
+
+  broken_done : (served : LinkEnd SavingBreak) → ((path : List ℕ) → served ≡ link.Broken (saving.Save (save.Failed path)) → ⊥)
+      → Answered BreaksSaving served start is.by.ran.transitions is.by.ran.rest is.by.ran.pieces old.input before is.by.state code
+      → ¬ Rose start.files.counts.refusals is.by.state.files.counts.refusals → AllByRecursion IsDoneOrNot (broken_save served after is.by.state)
+  broken_done link.Done never answered none = tt
+  broken_done link.LinkFault never answered none = tt
+  broken_done link.TooLong never answered none = tt
+  broken_done link.OutOfMemory never answered none = tt
+  broken_done (link.Broken (saving.Step error)) never answered none = tt
+  broken_done (link.Broken (saving.Save (save.Failed path))) never answered none = absurd (never path refl)
+  broken_done (link.Broken (saving.Save save.OutOfMemory)) never answered none =
+      let fails : FailsToSave after answered.line save.OutOfMemory is.by.state = answered.broke in
+      let kept : Kept start.files.counts after.files.counts = course_kept start is.by.ran.transitions is.by.ran.course in (
+        inr (without_memory (save_of after is.by.state.files (Err save.OutOfMemory)) fails.is
+            (λ rose. none (rose_behind start.files.counts.refusals after.files.counts.refusals is.by.state.files.counts.refusals (later_so start.files.counts after.files.counts kept).1 rose.refusals)) refl),
+        tt,
+      )
+
+  -- the tool ends so where a save failed
+  ends_failed : (path : List ℕ) → is.by.served ≡ link.Broken (saving.Save (save.Failed path)) → tool_end_of link_end ≡ tool.FilesFault path
+  ends_failed path broken =
+      let finishes : FinishesSession (link.Broken (saving.Save (save.Failed path))) is.by.state left link_end
+      = subst (λ (e : LinkEnd SavingBreak). FinishesSession e is.by.state left link_end) broken is.by.finishes in
+      ap (λ (e : LinkEnd SavingBreak). tool_end_of e) finishes.2
+
+  served_done : ((path : List ℕ) → tool_end_of link_end ≡ tool.FilesFault path → ⊥) → ¬ Rose start.files.counts.refusals left.files.counts.refusals → AllByRecursion IsDoneOrNot saves
+  served_done never none = subst (AllByRecursion IsDoneOrNot) (sym is.saves_are)
+      (all_both (saves_in start is.by.ran.transitions) (broken_save is.by.served after is.by.state) (each_done (saves_in start is.by.ran.transitions) (saves_done start is.by.ran.transitions))
+      (broken_done is.by.served (λ path broken. never path (ends_failed path broken)) is.by.ran.answered
+      (subst (λ (f : FilesState). ¬ Rose start.files.counts.refusals f.counts.refusals) is.by.files_are none)))
+
+no_saves : (saves : List Save) → saves ≡ [] → AllByRecursion IsDoneOrNot saves
+no_saves saves none = subst (AllByRecursion IsDoneOrNot) (sym none) tt
+
+module _ (roots : Roots) (start : SessionState) (old new : Links) (before : ℕ) (answer : ToolAnswer) (told : List ℕ) (left : Resources) (saves : List Save)
+    (never : (path : List ℕ) → answer.ended ≡ tool.FilesFault path → ⊥) (none : ¬ Rose start.files.counts.refusals left.files.counts.refusals) where
+  inner_done : (used : Tool) → Uses used roots start old new before answer told left saves → AllByRecursion IsDoneOrNot saves
+  inner_done (Communicate owner) uses = served_done start left old.io new.io uses.0.ended before answer.last_code saves uses.0.served (λ path is. never path (uses.0.ended_is ∙ is)) none
+  inner_done (LoadTemplate owner paths) uses = no_saves saves uses.1
+  inner_done (Run owner frontend priority command) uses = elim uses.0 [
+    | inl not ↦ no_saves saves not.saves_are
+    | inr started ↦ served_done start left started.mid new.child started.ended before answer.last_code saves started.served (λ path is. never path (started.ended_is ∙ is)) none
+  ]
+  inner_done (Show database shown) uses = no_saves saves uses.2
+  inner_done (CopyDb copy) uses = no_saves saves uses.1
+  inner_done (SetSelections verbose check unseen) uses = no_saves saves uses.3
+  inner_done GetSelections uses = no_saves saves uses.1
+  inner_done (Drill count) uses = no_saves saves uses.2
 
 no_files : (path : List ℕ) → end.FilesFault path ≡ end.OutOfMemory → ⊥
 no_files path is = cc
 
-module _ (layers used : List LayerState) (files new : FilesState) (how : End) (memory : how ≡ end.OutOfMemory) (none_refused : ¬ RefusalRose files.counts new.counts) where
-  stopped : IsWithoutMemory layers used files new how → new.view.disk ≡ files.view.disk
-  stopped none = elim none.counts [
-    | inl rose ↦ absurd (none_refused rose)
-    | inr same ↦ ap (λ (v : FilesView). v.disk) same.1
+no_child : end.ChildFault ≡ end.OutOfMemory → ⊥
+no_child is = cc
+
+not_saved : (path : List ℕ) → comes_to_save (tool.FilesFault path) ≡ true → ⊥
+not_saved path is = cc
+
+failed_otherwise : (ended : ToolEnd) (path : List ℕ) → comes_to_save ended ≡ true → end_unsaved ended (save.Failed path) ≡ end.OutOfMemory → ⊥
+failed_otherwise tool.Done path comes is = cc
+failed_otherwise tool.LinkFault path comes is = cc
+failed_otherwise tool.TooLong path comes is = cc
+failed_otherwise tool.PrintFault path comes is = cc
+failed_otherwise tool.TermFault path comes is = cc
+failed_otherwise tool.ChildFault path comes is = cc
+failed_otherwise tool.OutOfMemory path comes is = cc
+failed_otherwise (tool.FilesFault fault) path comes is = cc
+
+module _ (left new : Stock) (last : List Save) (how : End) (ended : ToolEnd) where
+  -- the tool didn't fail to save where the run ends for want of memory
+  never_failed : (keeps saves : Bool) → saves ≡ keeps && comes_to_save ended → Commits saves ended left new last how → how ≡ end.OutOfMemory → (path : List ℕ) → ended ≡ tool.FilesFault path → ⊥
+  never_failed keeps true is commits memory path failed = not_saved path (subst (λ (e : ToolEnd). comes_to_save e ≡ true) failed (both_so keeps (comes_to_save ended) (sym is)))
+  never_failed keeps false is commits memory path failed = no_files path (sym (commits.end_is ∙ ap (λ (e : ToolEnd). end_of e) failed) ∙ memory)
+
+  abbrev made : Result (Unit {0}) SaveError → Save
+  made answer = record { layers = left.used; before = left.files; after = new.files; answer = answer }
+
+  by_answer : (answer : Result (Unit {0}) SaveError) → comes_to_save ended ≡ true → end_by ended answer ≡ end.OutOfMemory → ¬ RefusalRose left.files.counts new.files.counts → IsSave (made answer) → IsDoneOrNot (made answer)
+  by_answer (Ok done) comes memory none is = inl refl
+  by_answer (Err (save.Failed path)) comes memory none is = absurd (failed_otherwise ended path comes memory)
+  by_answer (Err save.OutOfMemory) comes memory none is = inr (without_memory (made (Err save.OutOfMemory)) is none refl)
+
+  last_done : (keeps saves : Bool) → saves ≡ keeps && comes_to_save ended → Commits saves ended left new last how → how ≡ end.OutOfMemory → ¬ RefusalRose left.files.counts new.files.counts → AllByRecursion IsDoneOrNot last
+  last_done keeps true is commits memory none = subst (AllByRecursion IsDoneOrNot) (sym commits.saves_are)
+      (by_answer commits.answer (both_so keeps (comes_to_save ended) (sym is)) (sym commits.end_is ∙ memory) none commits.is, tt)
+  last_done keeps false is commits memory none = no_saves last commits.saves_are
+
+  answer_later : (answer : Result (Unit {0}) SaveError) → IsSave (made answer) → Later left.files.counts new.files.counts
+  answer_later (Ok done) is = later_so left.files.counts new.files.counts (unmoved left.files.counts new.files.counts is.counts)
+  answer_later (Err (save.Failed path)) is = later_so left.files.counts new.files.counts (failed left.files.counts new.files.counts is.counts)
+  answer_later (Err save.OutOfMemory) is = elim is.counts [
+    | inl rose ↦ refused left.files.counts new.files.counts rose
+    | inr same ↦ later_so left.files.counts new.files.counts (unmoved left.files.counts new.files.counts same.0)
   ]
 
-  unwritten : (ended : ToolEnd) → Finishes layers used ended files new how → new.view.disk ≡ files.view.disk
-  unwritten tool.Done (inl saved) = absurd (no_done (sym saved.end_is ∙ memory))
-  unwritten tool.Done (inr (inl unsaved)) = absurd (no_files unsaved.path (sym unsaved.end_is ∙ memory))
-  unwritten tool.Done (inr (inr none)) = stopped none
-  unwritten tool.LinkFault (inl saved) = absurd (no_link (sym saved.end_is ∙ memory))
-  unwritten tool.LinkFault (inr (inl unsaved)) = absurd (no_link (sym unsaved.end_is ∙ memory))
-  unwritten tool.LinkFault (inr (inr none)) = stopped none
-  unwritten tool.TooLong (inl saved) = absurd (no_long (sym saved.end_is ∙ memory))
-  unwritten tool.TooLong (inr (inl unsaved)) = absurd (no_long (sym unsaved.end_is ∙ memory))
-  unwritten tool.TooLong (inr (inr none)) = stopped none
-  unwritten tool.PrintFault broken = ap (λ (f : FilesState). f.view.disk) broken.files_are
-  unwritten tool.TermFault broken = ap (λ (f : FilesState). f.view.disk) broken.files_are
-  unwritten tool.ChildFault broken = ap (λ (f : FilesState). f.view.disk) broken.files_are
-  unwritten tool.OutOfMemory broken = ap (λ (f : FilesState). f.view.disk) broken.files_are
-  unwritten (tool.FilesFault path) broken = ap (λ (f : FilesState). f.view.disk) broken.files_are
+  commit_later : (saves : Bool) → Commits saves ended left new last how → Later left.files.counts new.files.counts
+  commit_later true commits = answer_later commits.answer commits.is
+  commit_later false commits = later_so left.files.counts new.files.counts (unmoved left.files.counts new.files.counts (ap (λ (s : Stock). s.files.counts) commits.stays))
 
-  unwritten_where : (keeps : Bool) (ended : ToolEnd) → FinishesWhere keeps layers used ended files new how → new.view.disk ≡ files.view.disk
-  unwritten_where true ended finishes = unwritten ended finishes
-  unwritten_where false ended broken = ap (λ (f : FilesState). f.view.disk) broken.files_are
+module _ (used : Tool) (settings : Settings) (old new : World) (outcome : Outcome) (saves : List Save) (memory : outcome.end ≡ end.OutOfMemory) (none_refused : ¬ Rose old.stock.files.counts.refusals new.stock.files.counts.refusals) where
+  worked_done : HasWorked used settings old new outcome saves → AllByRecursion IsDoneOrNot saves
+  worked_done worked =
+      let r = (one used settings old new outcome saves worked).round in
+      let has = works used settings old new outcome saves worked in
+      let start : SessionState = begins used settings old new outcome saves worked in
+      let commit = commits used settings old new outcome saves worked in
+      let saved_last : Bool = keeps_changes used && comes_to_save r.answer.ended in
+      let left : Stock = stock_of has.left.files has.left.layers in
+      let finish : r.finish ≡ end.OutOfMemory = finish_so used settings old new outcome saves worked end.OutOfMemory no_child memory in
+      let first : Later old.stock.files.counts worked.mid.stock.files.counts = start_later used settings.conf_path old.stock.files worked.mid.stock worked.roots worked.started in
+      let second : Later worked.mid.stock.files.counts has.left.files.counts
+      = tool_later worked.roots start worked.mid.links r.left.world.links 0 r.answer has.told has.left r.inner used has.uses in
+      let third : Later has.left.files.counts new.stock.files.counts = commit_later left new.stock r.last r.finish r.answer.ended saved_last commit in
+      let to_left : Later old.stock.files.counts has.left.files.counts = later_then old.stock.files.counts worked.mid.stock.files.counts has.left.files.counts first second in
+      subst (AllByRecursion IsDoneOrNot) (sym (one used settings old new outcome saves worked).saves_are)
+      (all_both r.inner r.last
+      (inner_done worked.roots start worked.mid.links r.left.world.links 0 r.answer has.told has.left r.inner
+      (never_failed left new.stock r.last r.finish r.answer.ended (keeps_changes used) saved_last refl commit finish)
+      (λ rose. none_refused (rose_between old.stock.files.counts.refusals worked.mid.stock.files.counts.refusals has.left.files.counts.refusals new.stock.files.counts.refusals first.1 rose third.1)) used has.uses)
+      (last_done left new.stock r.last r.finish r.answer.ended (keeps_changes used) saved_last refl commit finish
+      (λ rose. none_refused (rose_behind old.stock.files.counts.refusals has.left.files.counts.refusals new.stock.files.counts.refusals to_left.1 rose.refusals))))
 
-module _ (used : Tool) (settings : Settings) (old new : World) (outcome : Outcome) (memory : outcome.end ≡ end.OutOfMemory) (none_refused : ¬ Rose old.stock.files.counts.refusals new.stock.files.counts.refusals) where
-  used_unwritten : HasUsed used settings old new outcome → new.stock.files.view.disk ≡ old.stock.files.view.disk
-  used_unwritten run =
-      let start = begun used (before_rounds (record old { stock = run.mid })) run.roots settings in
-      let later : Later old.stock.files.counts run.left.files.counts
-      = later_then old.stock.files.counts run.mid.files.counts run.left.files.counts (start_later used settings.conf_path old.stock.files run.mid run.roots run.started)
-      (tool_later run.roots start old.links run.links 0 run.answer run.told run.left used run.uses) in
-      unwritten_where run.left.layers new.stock.used run.left.files new.stock.files run.how
-      (awaited_memory run.answer.is_started run.links.child new.links.child run.how outcome.end run.answer.status run.status run.awaits memory)
-      (λ rose. none_refused (rose_behind old.stock.files.counts.refusals run.left.files.counts.refusals new.stock.files.counts.refusals later.1 rose.refusals))
-      (keeps_changes used) run.answer.ended run.finishes
-      ∙ (tool_keeps used run.roots start old.links run.links 0 run.answer run.told run.left run.uses).disk
-      ∙ loads_read used settings.conf_path run.roots.conf old.stock.files run.mid (Ok tt) run.started.loaded
+  tool_done : HasRunTool used settings old new outcome saves → AllByRecursion IsDoneOrNot saves
+  tool_done (inl before) = no_saves saves before.2
+  tool_done (inr worked) = worked_done worked
 
-  tool_unwritten : (saves : List Save) → HasRunTool used settings old new outcome saves → new.stock.files.view.disk ≡ old.stock.files.view.disk
-  tool_unwritten saves (inl before) = before_reads used settings.conf_path old.stock.files new.stock outcome.end before.0
-  tool_unwritten saves (inr worked) = used_unwritten (as_used used settings old new outcome saves worked)
+words_done : (words : List (List ℕ)) (settings : Settings) (old new : World) (outcome : Outcome) (saves : List Save) → HasRunWords words settings old new outcome saves → outcome.end ≡ end.OutOfMemory
+    → ¬ Rose old.stock.files.counts.refusals new.stock.files.counts.refusals → AllByRecursion IsDoneOrNot saves
+words_done words settings old new outcome saves (inl refused) memory none_refused = no_saves saves refused.1
+words_done words settings old new outcome saves (inr ran) memory none_refused = tool_done ran.0 settings old new outcome saves memory none_refused ran.2
 
-pub memory_unwritten : (words : List (List ℕ)) (settings : Settings) (old new : World) (outcome : Outcome) (saves : List Save) → HasRunWords words settings old new outcome saves → outcome.end ≡ end.OutOfMemory
-    → ¬ Rose old.stock.files.counts.refusals new.stock.files.counts.refusals → new.stock.files.view.disk ≡ old.stock.files.view.disk
-memory_unwritten words settings old new outcome saves (inl refused) memory none_refused = ap (λ (s : Stock). s.files.view.disk) refused.0.untouched
-memory_unwritten words settings old new outcome saves (inr ran) memory none_refused = tool_unwritten ran.0 settings old new outcome memory none_refused saves ran.2
+pub memory_stands : (words : List (List ℕ)) (settings : Settings) (old new : World) (outcome : Outcome) (saves : List Save) → HasRunWords words settings old new outcome saves → outcome.end ≡ end.OutOfMemory
+    → ¬ Rose old.stock.files.counts.refusals new.stock.files.counts.refusals → StandsBehindDone saves old.stock.files.view.disk new.stock.files.view.disk
+memory_stands words settings old new outcome saves ran memory none_refused =
+    stands old.stock.files.view.disk saves new.stock.files.view.disk (words_done words settings old new outcome saves ran memory none_refused) (words_keep words settings old new outcome saves ran).are_saves
 
 -- ---- no memory was refused by the files
 
@@ -185,7 +365,7 @@ module _ (used : Tool) (settings : Settings) (old new : World) (outcome : Outcom
       = λ is. other (memory_awaited run.answer.is_started run.links.child new.links.child run.how outcome.end run.answer.status run.status run.awaits is) in
       kept_then old.stock.files.counts run.mid.files.counts new.stock.files.counts (start_kept used settings.conf_path old.stock.files run.mid run.roots run.started)
       (kept_then run.mid.files.counts run.left.files.counts new.stock.files.counts
-      (tool_kept run.roots start old.links run.links 0 run.answer run.told run.left used
+      (tool_kept run.roots start old.links run.links 0 run.answer run.told run.left run.inner used
       (λ is. finish (tool_memory run.left.layers new.stock.used run.left.files new.stock.files run.how (keeps_changes used) run.answer.ended is run.finishes)) run.uses)
       (finished_kept run.left.layers new.stock.used run.left.files new.stock.files run.how (keeps_changes used) run.answer.ended finish run.finishes))
 
@@ -208,22 +388,32 @@ unsaved_unwritten words settings old new outcome ran = (words_keep words setting
 
 -- ---- the ends before a save
 
--- such an end isn't that of a save
-save_other : (ended : ToolEnd) (answer : Result (Unit {0}) SaveError) → comes_to_save ended ≡ true → IsBeforeSaves (end_by ended answer) → ⊥
-save_other tool.Done (Ok done) comes is = is
-save_other tool.Done (Err (save.Failed path)) comes is = is
-save_other tool.Done (Err save.OutOfMemory) comes is = is
-save_other tool.LinkFault (Ok done) comes is = is
-save_other tool.LinkFault (Err (save.Failed path)) comes is = is
-save_other tool.LinkFault (Err save.OutOfMemory) comes is = is
-save_other tool.TooLong (Ok done) comes is = is
-save_other tool.TooLong (Err (save.Failed path)) comes is = is
-save_other tool.TooLong (Err save.OutOfMemory) comes is = is
-save_other tool.PrintFault answer comes is = cc
-save_other tool.TermFault answer comes is = cc
-save_other tool.ChildFault answer comes is = cc
-save_other tool.OutOfMemory answer comes is = cc
-save_other (tool.FilesFault path) answer comes is = cc
+-- such an end isn't one of a tool
+tool_other : (ended : ToolEnd) → IsBeforeSaves (end_of ended) → ⊥
+tool_other tool.Done is = is
+tool_other tool.LinkFault is = is
+tool_other tool.TooLong is = is
+tool_other tool.PrintFault is = is
+tool_other tool.TermFault is = is
+tool_other tool.ChildFault is = is
+tool_other tool.OutOfMemory is = is
+tool_other (tool.FilesFault path) is = is
+
+-- nor of a save
+unsaved_other : (ended : ToolEnd) (path : List ℕ) → IsBeforeSaves (end_unsaved ended (save.Failed path)) → ⊥
+unsaved_other tool.Done path is = is
+unsaved_other tool.LinkFault path is = is
+unsaved_other tool.TooLong path is = is
+unsaved_other tool.PrintFault path is = is
+unsaved_other tool.TermFault path is = is
+unsaved_other tool.ChildFault path is = is
+unsaved_other tool.OutOfMemory path is = is
+unsaved_other (tool.FilesFault fault) path is = is
+
+save_other : (ended : ToolEnd) (answer : Result (Unit {0}) SaveError) → IsBeforeSaves (end_by ended answer) → ⊥
+save_other ended (Ok done) is = tool_other ended is
+save_other ended (Err (save.Failed path)) is = unsaved_other ended path is
+save_other ended (Err save.OutOfMemory) is = is
 
 unwaited_before : (how : End) → IsBeforeSaves (end_unwaited how) → IsBeforeSaves how
 unwaited_before end.Done is = is
@@ -244,36 +434,122 @@ awaited_before true old new how ended status left (inl has) is = subst IsBeforeS
 awaited_before true old new how ended status left (inr failed) is = unwaited_before how (subst IsBeforeSaves failed.end_is is)
 awaited_before false old new how ended status left none is = subst IsBeforeSaves none.end_is is
 
-both_so : (a b : Bool) → a && b ≡ true → b ≡ true
-both_so true b is = is
-both_so false b is = cc
-
-no_save : (keeps saves : Bool) (ended : ToolEnd) (left new : Stock) (last : List Save) (how : End) → saves ≡ keeps && comes_to_save ended → Commits saves ended left new last how → IsBeforeSaves how → last ≡ []
-no_save keeps false ended left new last how is commits before = commits.saves_are
-no_save keeps true ended left new last how is commits before = absurd (save_other ended commits.answer (both_so keeps (comes_to_save ended) (sym is)) (subst IsBeforeSaves commits.end_is before))
+committed_other : (saves : Bool) (ended : ToolEnd) (left new : Stock) (last : List Save) (how : End) → Commits saves ended left new last how → IsBeforeSaves how → ⊥
+committed_other true ended left new last how commits before = save_other ended commits.answer (subst IsBeforeSaves commits.end_is before)
+committed_other false ended left new last how commits before = tool_other ended (subst IsBeforeSaves commits.end_is before)
 
 module _ (used : Tool) (settings : Settings) (old new : World) (outcome : Outcome) (saves : List Save) where
-  worked_unsaved : HasWorked used settings old new outcome saves → IsBeforeSaves outcome.end → saves ≡ []
-  worked_unsaved worked before =
-      let start : RunState = before_rounds worked.mid in
-      let one : IsOneRound worked.roots settings (Whole used) start worked.left outcome.end worked.status saves
-      = one_round worked.roots settings (Whole used) start worked.left outcome.end worked.status saves (jobs_had used worked.roots settings start worked.left outcome.end worked.status saves worked.does) in
-      let r = one.round in
-      let works : HasDone used worked.roots settings start r.left r.answer r.inner = subst (λ (j : Job). Works j worked.roots settings start r.left r.answer r.inner) one.job_is one.is.works in
-      let commits : Commits (keeps_changes used && comes_to_save r.answer.ended) r.answer.ended r.left.world.stock r.new.world.stock r.last r.finish
-      = subst (λ (j : Job). Commits (is_saved_at j r.answer.ended) r.answer.ended r.left.world.stock r.new.world.stock r.last r.finish) one.job_is one.is.commits in
-      let finish : IsBeforeSaves r.finish
-      = awaited_before r.answer.is_started r.left.world.links.child r.new.world.links.child r.finish r.how r.answer.status r.status one.is.awaits (subst IsBeforeSaves one.how_is before) in
-      let none : r.last ≡ [] = no_save (keeps_changes used) (keeps_changes used && comes_to_save r.answer.ended) r.answer.ended r.left.world.stock r.new.world.stock r.last r.finish refl commits finish in
-      one.saves_are ∙ (λ i. works.saves_are i ++ none i)
+  worked_other : HasWorked used settings old new outcome saves → IsBeforeSaves outcome.end → ⊥
+  worked_other worked before =
+      let has_one = one used settings old new outcome saves worked in
+      let r = has_one.round in
+      let has = works used settings old new outcome saves worked in
+      committed_other (keeps_changes used && comes_to_save r.answer.ended) r.answer.ended (stock_of has.left.files has.left.layers) new.stock r.last r.finish (commits used settings old new outcome saves worked)
+      (awaited_before r.answer.is_started r.left.world.links.child r.new.world.links.child r.finish r.how r.answer.status r.status has_one.is.awaits (subst IsBeforeSaves has_one.how_is before))
 
   tool_unsaved : HasRunTool used settings old new outcome saves → IsBeforeSaves outcome.end → saves ≡ []
   tool_unsaved (inl ended) before = ended.2
-  tool_unsaved (inr worked) before = worked_unsaved worked before
+  tool_unsaved (inr worked) before = absurd (worked_other worked before)
 
 pub before_saves : (words : List (List ℕ)) (settings : Settings) (old new : World) (outcome : Outcome) (saves : List Save) → HasRunWords words settings old new outcome saves → IsBeforeSaves outcome.end → saves ≡ []
 before_saves words settings old new outcome saves (inl refused) before = refused.1
 before_saves words settings old new outcome saves (inr ran) before = tool_unsaved ran.0 settings old new outcome saves ran.2 before
+
+-- ---- the terminal failed
+
+no_child_term : end.ChildFault ≡ end.TermFault → ⊥
+no_child_term is = cc
+
+-- then no save is come to
+ended_term : (ended : ToolEnd) → end_of ended ≡ end.TermFault → ended ≡ tool.TermFault
+ended_term tool.Done is = absurd (cc)
+ended_term tool.LinkFault is = absurd (cc)
+ended_term tool.TooLong is = absurd (cc)
+ended_term tool.PrintFault is = absurd (cc)
+ended_term tool.TermFault is = refl
+ended_term tool.ChildFault is = absurd (cc)
+ended_term tool.OutOfMemory is = absurd (cc)
+ended_term (tool.FilesFault path) is = absurd (cc)
+
+unsaved_term : (ended : ToolEnd) (path : List ℕ) → comes_to_save ended ≡ true → end_unsaved ended (save.Failed path) ≡ end.TermFault → ⊥
+unsaved_term tool.Done path comes is = cc
+unsaved_term tool.LinkFault path comes is = cc
+unsaved_term tool.TooLong path comes is = cc
+unsaved_term tool.PrintFault path comes is = cc
+unsaved_term tool.TermFault path comes is = cc
+unsaved_term tool.ChildFault path comes is = cc
+unsaved_term tool.OutOfMemory path comes is = cc
+unsaved_term (tool.FilesFault fault) path comes is = cc
+
+saved_term : (ended : ToolEnd) (answer : Result (Unit {0}) SaveError) → comes_to_save ended ≡ true → end_by ended answer ≡ end.TermFault → ⊥
+saved_term ended (Ok done) comes is = let no : comes_to_save tool.TermFault ≡ true = subst (λ (e : ToolEnd). comes_to_save e ≡ true) (ended_term ended is) comes in cc
+saved_term ended (Err (save.Failed path)) comes is = unsaved_term ended path comes is
+saved_term ended (Err save.OutOfMemory) comes is = cc
+
+committed_term : (keeps saves : Bool) (ended : ToolEnd) (left new : Stock) (last : List Save) (how : End) → saves ≡ keeps && comes_to_save ended → Commits saves ended left new last how → how ≡ end.TermFault
+    → (ended ≡ tool.TermFault) × (last ≡ [])
+committed_term keeps true ended left new last how is commits term = absurd (saved_term ended commits.answer (both_so keeps (comes_to_save ended) (sym is)) (sym commits.end_is ∙ term))
+committed_term keeps false ended left new last how is commits term = (ended_term ended (sym commits.end_is ∙ term), commits.saves_are)
+
+broken_term : (error : SaveError) → tool_end_of (link.Broken (saving.Save error)) ≡ tool.TermFault → ⊥
+broken_term (save.Failed path) is = cc
+broken_term save.OutOfMemory is = cc
+
+-- nor did one break off
+none_broken : (served ended : LinkEnd SavingBreak) (state after : SessionState) (left : Resources) → FinishesSession served state left ended → tool_end_of ended ≡ tool.TermFault → broken_save served after state ≡ []
+none_broken link.Done ended state after left finishes term = refl
+none_broken link.LinkFault ended state after left finishes term = refl
+none_broken link.TooLong ended state after left finishes term = refl
+none_broken link.OutOfMemory ended state after left finishes term = refl
+none_broken (link.Broken (saving.Step error)) ended state after left finishes term = refl
+none_broken (link.Broken (saving.Save error)) ended state after left finishes term = absurd (broken_term error (ap (λ (e : LinkEnd SavingBreak). tool_end_of e) (sym finishes.2) ∙ term))
+
+served_asked : (start : SessionState) (left : Resources) (old new : LinkState) (ended : LinkEnd SavingBreak) (before code : ℕ) (saves : List Save) → IsServedSaving start left old new ended before code saves → tool_end_of ended ≡ tool.TermFault
+    → AreAsked saves
+served_asked start left old new ended before code saves is term =
+    let turns = is.by.ran.transitions in (
+      start,
+      turns,
+      is.by.ran.course,
+      is.saves_are ∙ ap (λ (l : List Save). saves_in start turns ++ l) (none_broken is.by.served ended is.by.state (state_after start turns) left is.by.finishes term) ∙ append-nil (saves_in start turns),
+    )
+
+none_asked : (start : SessionState) (saves : List Save) → saves ≡ [] → AreAsked saves
+none_asked start saves none = (start, [], tt, none)
+
+module _ (roots : Roots) (start : SessionState) (old new : Links) (before : ℕ) (answer : ToolAnswer) (told : List ℕ) (left : Resources) (saves : List Save) (term : answer.ended ≡ tool.TermFault) where
+  inner_asked : (used : Tool) → Uses used roots start old new before answer told left saves → AreAsked saves
+  inner_asked (Communicate owner) uses = served_asked start left old.io new.io uses.0.ended before answer.last_code saves uses.0.served (sym uses.0.ended_is ∙ term)
+  inner_asked (LoadTemplate owner paths) uses = none_asked start saves uses.1
+  inner_asked (Run owner frontend priority command) uses = elim uses.0 [
+    | inl none ↦ none_asked start saves none.saves_are
+    | inr started ↦ served_asked start left started.mid new.child started.ended before answer.last_code saves started.served (sym started.ended_is ∙ term)
+  ]
+  inner_asked (Show database shown) uses = none_asked start saves uses.2
+  inner_asked (CopyDb copy) uses = none_asked start saves uses.1
+  inner_asked (SetSelections verbose check unseen) uses = none_asked start saves uses.3
+  inner_asked GetSelections uses = none_asked start saves uses.1
+  inner_asked (Drill count) uses = none_asked start saves uses.2
+
+module _ (used : Tool) (settings : Settings) (old new : World) (outcome : Outcome) (saves : List Save) (term : outcome.end ≡ end.TermFault) where
+  worked_asked : HasWorked used settings old new outcome saves → AreAsked saves
+  worked_asked worked =
+      let has_one = one used settings old new outcome saves worked in
+      let r = has_one.round in
+      let has = works used settings old new outcome saves worked in
+      let start : SessionState = begins used settings old new outcome saves worked in
+      let so = committed_term (keeps_changes used) (keeps_changes used && comes_to_save r.answer.ended) r.answer.ended (stock_of has.left.files has.left.layers) new.stock r.last r.finish refl (commits used settings old new outcome saves worked)
+      (finish_so used settings old new outcome saves worked end.TermFault no_child_term term) in
+      subst AreAsked (sym (has_one.saves_are ∙ ap (λ (l : List Save). r.inner ++ l) so.1 ∙ append-nil r.inner))
+      (inner_asked worked.roots start worked.mid.links r.left.world.links 0 r.answer has.told has.left r.inner so.0 used has.uses)
+
+  tool_asked : HasRunTool used settings old new outcome saves → AreAsked saves
+  tool_asked (inl before) = absurd (not_before used settings.conf_path old.stock.files new.stock outcome.end (subst IsOfTool (sym term) tt) before.0)
+  tool_asked (inr worked) = worked_asked worked
+
+pub asked_saves : (words : List (List ℕ)) (settings : Settings) (old new : World) (outcome : Outcome) (saves : List Save) → HasRunWords words settings old new outcome saves → outcome.end ≡ end.TermFault → AreAsked saves
+asked_saves words settings old new outcome saves (inl refused) term = absurd (subst IsOfTool refused.0.end_is (subst IsOfTool (sym term) tt))
+asked_saves words settings old new outcome saves (inr ran) term = tool_asked ran.0 settings old new outcome saves term ran.2
 
 -- ---- a run that did all
 

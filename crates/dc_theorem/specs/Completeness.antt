@@ -1,5 +1,5 @@
 -- How a run ends at which nothing outside failed, and what it leaves where it didn't do all.
-use Rattle.std.specs.Prelude.{◌≡◌, ◌≢◌, ◌⊎◌, ℕ, ◌^◌, ◌<◌, true, false, List, [], ◌∷◌, ◌++◌, length, Option, Some, Err}
+use Rattle.std.specs.Prelude.{◌≡◌, ◌≢◌, ◌⊎◌, ℕ, ◌^◌, ◌<◌, Bool, true, false, List, [], ◌∷◌, ◌++◌, length, Option, Some, Err, map as each}
 use Rattle.std.specs.Io.KnownBytes.{prepend_known}
 use Rattle.std.specs.List.{AllByRecursion}
 use Rattle.dc_outside.specs.Counts.{Rose}
@@ -24,7 +24,7 @@ use Rattle.dc_serve.specs.Said.{CutsShort, said}
 use Rattle.dc_serve.specs.declared.machine.Response.{Response}
 use Rattle.dc_serve.specs.declared.machine.Response.TheVariants.{Replied}
 use Rattle.dc_session.specs.Answers.{CommandInputs, names_on}
-use Rattle.dc_session.specs.Machine.{Gives, HasDone, Steps, StepsHeard, TakesLine, TellsStore, sent_in}
+use Rattle.dc_session.specs.Machine.{Gives, HasDone, Steps, StepsHeard, TellsStore, asks_to_save, sent_in}
 use Rattle.dc_session.specs.SessionState.{SessionState, TerminalState}
 use Rattle.dc_session.specs.declared.stepped.Stepped.{Stepped}
 use Rattle.dc_session.specs.declared.template_files.Found.TheVariants.{Unreadable}
@@ -36,10 +36,13 @@ use Rattle.dc_conf.specs.Configuration.{Configuration}
 use Rattle.dc_conf.specs.declared.spec.LayerSpec.{LayerSpec}
 use Rattle.dc_layer.specs.Patterns.{is_plain}
 use Rattle.dc_layer.specs.Rules.{rules_of, are_plain}
-use Rattle.dc_layer.specs.State.{LayerState}
+use Rattle.dc_layer.specs.State.{LayerState, saved}
 use Rattle.dc_save.specs.FolderLoading.{path_at}
 use Rattle.dc_save.specs.Loading.{LoadsLayer}
 use Rattle.dc_save.specs.declared.loading.LoadError.TheVariants.{Damaged}
+use Rattle.dc_run.specs.Kills.{AllDone, disk_after}
+use Rattle.dc_run.specs.Saves.{Save}
+use Rattle.dc_run.specs.SavingSession.{SavesAll, TakesSaving, saves_in}
 use Rattle.dc_run.specs.Starting.{IsChosen, databases_of, loaded_of, pattern_words}
 use Rattle.dc_run.specs.World.{Links, World}
 use Rattle.dc_run.specs.declared.outcome.End.{End}
@@ -126,8 +129,19 @@ IsBeforeSaves (end.ConfRefused line kind) = Unit {0}
 IsBeforeSaves (end.BadPattern at) = Unit {0}
 IsBeforeSaves (end.PatternTooLarge at) = Unit {0}
 IsBeforeSaves (end.Damaged path line) = Unit {0}
-IsBeforeSaves end.TermFault = Unit {0}
 IsBeforeSaves how = ⊥
+
+-- these are saves that the lines of a session asked for, and each was done
+abbrev pub AreAsked : List Save → Type 0
+AreAsked saves = (start : SessionState) × (turns : List (Transition SessionState)) × IsExecution TakesSaving start turns × (saves ≡ saves_in start turns)
+
+-- the disk is as those first ones of the saves left it that were done
+pub record StandsBehindDone (saves : List Save) (old new : Option Disk) : Type 0 where
+  pub over : List Save
+  pub later : List Save
+  pub saves_are : saves ≡ over ++ later
+  pub done : AllDone over
+  pub disk_is : new ≡ disk_after old over
 
 -- ---- where all was done
 
@@ -177,8 +191,8 @@ pub record SendReplies (turns : List (Transition SessionState)) (old new : LinkS
 
 -- what a tool's session did, where it has one
 abbrev pub AreItsTurns : Tool → SessionState → List (Transition SessionState) → Links → Links → Type 0
-AreItsTurns (Communicate owner) start turns old new = IsExecution TakesLine start turns × SendReplies turns old.io new.io
-AreItsTurns (Run owner frontend priority command) start turns old new = IsExecution TakesLine start turns × SendReplies turns old.child new.child
+AreItsTurns (Communicate owner) start turns old new = IsExecution TakesSaving start turns × SendReplies turns old.io new.io
+AreItsTurns (Run owner frontend priority command) start turns old new = IsExecution TakesSaving start turns × SendReplies turns old.child new.child
 AreItsTurns used start turns old new = turns ≡ []
 
 -- Each call of the files that failed was one of a load of a database that isn't required, or the read of a command with code 100.
@@ -208,17 +222,21 @@ abbrev pub IsBeforeLine : SessionState → Line → List LayerState → Type 0
 IsBeforeLine old TooLong layers = layers ≡ old.store.layers
 IsBeforeLine old (Whole line) layers = LeavesHeard (heard old.asking.escape line) old layers
 
+-- a line asks for a save, and the layers are those that it leaves where that is done
+abbrev pub IsBehindSave : SessionState → Line → List LayerState → Type 0
+IsBehindSave old line layers = (asks_to_save old.asking.escape line ≡ true) × (layers ≡ each saved old.store.layers)
+
 -- The replies to the first of the lines that came were sent whole, and of the next one nothing was said: the layers are those before it, but for
--- the items on which its row writes.
+-- the items on which its row writes, or those behind the save that it asks for.
 pub record IsBeforeUnsaid (start : SessionState) (pieces : List Piece) (input : Option (List ℕ)) (layers : List LayerState) : Type 0 where
   pub turns : List (Transition SessionState)
   pub line : Line
   pub rest : List Line
-  pub course : IsExecution TakesLine start turns
+  pub course : IsExecution TakesSaving start turns
   pub on : stops turns ≡ false
   pub served : AreServed pieces input (lines_of turns ++ line ∷ rest)
   pub replied : said pieces ≡ replies turns
-  pub layers_are : IsBeforeLine (state_after start turns) line layers
+  pub layers_are : IsBeforeLine (state_after start turns) line layers ⊎ IsBehindSave (state_after start turns) line layers
 
 -- of the reply to the last of these turns a front was sent, and the others were sent whole
 abbrev pub AreCutShort : List (Transition SessionState) → List Piece → Type 0
@@ -233,7 +251,7 @@ NoneLeft turns pieces input = (stops turns ≡ true) ⊎ AreServed pieces input 
 pub record IsBehindAll (start : SessionState) (pieces : List Piece) (input : Option (List ℕ)) (layers : List LayerState) : Type 0 where
   pub turns : List (Transition SessionState)
   pub rest : List Line
-  pub course : IsExecution TakesLine start turns
+  pub course : IsExecution TakesSaving start turns
   pub served : AreServed pieces input (lines_of turns ++ rest)
   pub answered : (said pieces ≡ replies turns) ⊎ AreCutShort turns pieces
   pub layers_are : (layers ≡ (state_after start turns).store.layers)
@@ -246,10 +264,11 @@ pub record KeepUp (start : SessionState) (old new : LinkState) (layers : List La
   pub took : old.input ≡ prepend_known (got pieces) new.input
   pub stand : IsBeforeUnsaid start pieces old.input layers ⊎ IsBehindAll start pieces old.input layers
 
--- memory ran out, or the terminal failed
+-- memory ran out, or the terminal failed, or a save did
 abbrev pub EndsEarly : End → Type 0
 EndsEarly end.OutOfMemory = Unit {0}
 EndsEarly end.TermFault = Unit {0}
+EndsEarly (end.FilesFault path) = Unit {0}
 EndsEarly how = ⊥
 
 -- ---- the replies of a session at which no file was unreadable
@@ -264,12 +283,21 @@ abbrev pub AnswersLine : SessionState → Line → Stepped → SessionState → 
 AnswersLine old TooLong did new = Steps old TooLong did new
 AnswersLine old (Whole line) did new = AnswersHeard (heard old.asking.escape line) old did new
 
--- A line had its turn so, and the reply is sent in the mode that stands before it. What the layers told at it is told behind the reply.
+-- a line was answered so, and the reply is sent in the mode that stands before it
+pub record HandlesFound (old : SessionState) (line : Line) (did : Response) (new : SessionState) : Type 0 where
+  pub stepped : Stepped
+  pub steps : AnswersLine old line stepped new
+  pub did_is : did ≡ sent_in old.asking.escape stepped
+
+-- the same, where one that asks for a save is answered by that
+abbrev pub HandlesAll : Bool → SessionState → Line → Response → SessionState → Type 0
+HandlesAll true old line did new = SavesAll old did new
+HandlesAll false old line did new = HandlesFound old line did new
+
+-- A line had its turn so. What the layers told at it is told behind the reply.
 pub record Answers (old : SessionState) (line : Line) (did : Response) (new : SessionState) : Type 0 where
   pub mid : SessionState
-  pub stepped : Stepped
-  pub steps : AnswersLine old line stepped mid
-  pub did_is : did ≡ sent_in old.asking.escape stepped
+  pub handled : HandlesAll (asks_to_save old.asking.escape line) old line did mid
   pub tells : TellsStore mid new
 
 -- Each line that counts had its turn so, or one stopped the session, and the replies were sent on the link, whole and in order.

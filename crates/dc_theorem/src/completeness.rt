@@ -11,10 +11,10 @@ ghost use Rattle.dc_run.specs.OneRound.{HasUsed};
 ghost use Rattle.dc_run.specs.Saves.{Save};
 ghost use Rattle.dc_run.specs.Starting.{begun, loaded_of};
 ghost use Rattle.dc_run.specs.World.{World, before_rounds};
-ghost use Rattle.dc_run.specs.declared.outcome.End.TheVariants.{Done, OutOfMemory};
+ghost use Rattle.dc_run.specs.declared.outcome.End.TheVariants.{Done, OutOfMemory, TermFault};
 ghost use Rattle.dc_run.specs.declared.outcome.Outcome.{Outcome};
 ghost use Rattle.dc_run.specs.declared.settings.Settings.{Settings};
-ghost use Rattle.dc_theorem.specs.Completeness.{AnswersAll, IsUndisturbed, EndsWell, IsBeforeSaves, EndsEarly, FailsAtMost, KeepUp, MetNoFault};
+ghost use Rattle.dc_theorem.specs.Completeness.{AnswersAll, AreAsked, IsUndisturbed, EndsWell, IsBeforeSaves, EndsEarly, FailsAtMost, KeepUp, MetNoFault, StandsBehindDone};
 
 /// A run ends well at which nothing outside failed: its words name a tool, its configuration and the loaded databases can be read, no count of
 /// faults rose but that of standard error, and fewer than 2^40 bytes came. It did all that it was to do, or memory ran out; only a pattern that
@@ -39,17 +39,20 @@ pub fn each_line_has_its_reply()
         old.links.child new.links.child }
 {}
 
-/// A run that ends for want of memory leaves the disk as it was, unless the files themselves refused a call for that. So does each that began
-/// no save, and the ends that come before a save begin none.
-pub fn want_of_memory_writes_nothing()
+/// A run that ends for want of memory leaves the disk as it was, or as the saves left it that a program asked for and that were done before, unless the
+/// files themselves refused a call for that. One that began no save leaves it as it was. The ends that come before a save begin none, and where the
+/// terminal failed there were those alone that the program asked for.
+pub fn want_of_memory_breaks_no_save()
     ensures memory { (words : List (List ℕ)) (settings : Settings) (old new : World) (outcome : Outcome) (saves : List Save)
         → HasRunWords words settings old new outcome saves → outcome.end ≡ OutOfMemory
         → ¬ Rose old.stock.files.counts.refusals new.stock.files.counts.refusals
-        → new.stock.files.view.disk ≡ old.stock.files.view.disk }
+        → StandsBehindDone saves old.stock.files.view.disk new.stock.files.view.disk }
     ensures unsaved { (words : List (List ℕ)) (settings : Settings) (old new : World) (outcome : Outcome)
         → HasRunWords words settings old new outcome [] → new.stock.files.view.disk ≡ old.stock.files.view.disk }
     ensures before { (words : List (List ℕ)) (settings : Settings) (old new : World) (outcome : Outcome) (saves : List Save)
         → HasRunWords words settings old new outcome saves → IsBeforeSaves outcome.end → saves ≡ [] }
+    ensures asked { (words : List (List ℕ)) (settings : Settings) (old new : World) (outcome : Outcome) (saves : List Save)
+        → HasRunWords words settings old new outcome saves → outcome.end ≡ TermFault → AreAsked saves }
 {}
 
 /// Where the files refused a call for want of memory, the run ends for that.
@@ -69,9 +72,9 @@ pub fn a_run_that_did_all_met_no_fault()
         → HasRunWords words settings old new outcome saves → outcome.end ≡ Done → MetNoFault old.links new.links }
 {}
 
-/// The layers aren't behind the replies: where memory ran out or the terminal failed, they are the machine's before the first line that has no
-/// reply, but for the items on which that line's row writes. Where there is no such line, they are those behind all lines, but for the items of the
-/// questions that were asked.
+/// The layers aren't behind the replies: where memory ran out, the terminal failed or a save did, they are the machine's before the first line that has no
+/// reply, but for the items on which that line's row writes, or those behind the save that it asks for. Where there is no such line, they are those behind
+/// all lines, but for the items of the questions that were asked.
 pub fn tables_are_not_behind_the_replies()
     ensures communicate { (owner : List ℕ) (settings : Settings) (old new : World) (outcome : Outcome)
         → (run : HasUsed (Communicate owner) settings old new outcome) → EndsEarly outcome.end

@@ -5,13 +5,13 @@ ghost use Rattle.dc_outside.specs.Disk.{Disk};
 ghost use Rattle.dc_outside.specs.declared.files.FilesCall.{FilesCall};
 ghost use Rattle.dc_outside.specs.declared.link.Piece.{Piece};
 ghost use Rattle.dc_proto.specs.declared.priority.Priority.{Priority};
+ghost use Rattle.dc_run.specs.SavingSession.{TakesSaving, BreaksSaving};
 ghost use Rattle.dc_run.specs.World.{World};
 ghost use Rattle.dc_run.specs.declared.outcome.Outcome.{Outcome};
 ghost use Rattle.dc_run.specs.declared.settings.Settings.{Settings};
 ghost use Rattle.dc_serve.specs.LinkRun.{IsLinkRun};
 ghost use Rattle.dc_serve.specs.declared.outcome.LinkEnd.TheVariants.{Done};
 ghost use Rattle.dc_session.specs.Alike.{AreAlike, EndAlike, TellSame};
-ghost use Rattle.dc_session.specs.Machine.{TakesLine, Aborts};
 ghost use Rattle.dc_session.specs.SessionState.{SessionState};
 ghost use Rattle.dc_cli.specs.Tools.{Names};
 ghost use Rattle.dc_cli.specs.declared.tool.CopyWords.{CopyWords};
@@ -20,16 +20,16 @@ ghost use Rattle.dc_cli.specs.declared.tool.Shown.{Shown};
 ghost use Rattle.dc_cli.specs.declared.tool.Tool.TheVariants.{Communicate, CopyDb, GetSelections, LoadTemplate, Run, SetSelections, Show};
 ghost use Rattle.dc_theorem.specs.Runs.{NoneFailed, IsClean, AreTypedAlike, CommunicateAlike, RunAlike, LoadAlike, ShowAlike};
 
-/// The bytes of the link, the disk and what is typed determine a session in which no read of files failed: two from states that are alike
-/// and follow the same code, and both come to the end, send the same replies, leave what is alike and tell the same on standard error, as far as that takes it,
-/// however the links cut their bytes and the terminals what is typed.
+/// The bytes of the link, the disk and what is typed determine a session with its saves in which no call of the files failed: two from states that
+/// are alike and follow the same code, and both come to the end, send the same replies, leave what is alike and tell the same on standard error, as far as
+/// that takes it, however the links cut their bytes and the terminals what is typed.
 pub fn what_comes_in_determines_the_session()
     ensures { (start other new last : SessionState) (disk : Disk) (calls : List FilesCall) (input : List ℕ)
         (talk new_talk other_talk last_talk : Option (List Piece)) (left other_left : Option (List ℕ)) (before code number : ℕ)
         → start.files.view ≡ record { disk = Some disk; calls = Some calls } → AreAlike start other → NoneFailed start.files.counts new.files.counts
         → NoneFailed other.files.counts last.files.counts
-        → (one : IsLinkRun TakesLine Aborts talk new_talk (Some input) left start Done new before code)
-        → (two : IsLinkRun TakesLine Aborts other_talk last_talk (Some input) other_left other Done last before number)
+        → (one : IsLinkRun TakesSaving BreaksSaving talk new_talk (Some input) left start Done new before code)
+        → (two : IsLinkRun TakesSaving BreaksSaving other_talk last_talk (Some input) other_left other Done last before number)
         → EndAlike one.pieces two.pieces code number new last × TellSame start.err new.err other.err last.err }
 {}
 
