@@ -11,7 +11,7 @@ import sys
 LOW, MEDIUM, HIGH, CRITICAL = "low", "medium", "high", "critical"
 FRONTEND = "/usr/share/debconf/frontend"
 COMMANDS = """capb set reset title input beginblock endblock go get register unregister subst previous_module fset fget purge metaget exist version
-    settitle info progress data clear visible x_loadtemplatefile""".split()
+    settitle info progress data clear visible x_loadtemplatefile x_save""".split()
 TURNED = {"true": "false", "false": "true"}
 
 

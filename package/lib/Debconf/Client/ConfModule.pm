@@ -5,7 +5,7 @@ use base 'Exporter';
 use IO::Handle;
 
 my @COMMANDS = qw(version capb settitle title input beginblock endblock go clear get set reset subst fget fset metaget register unregister purge
-    progress x_loadtemplatefile info data exist visible previous_module);
+    progress x_loadtemplatefile x_save info data exist visible previous_module);
 our @EXPORT_OK = (@COMMANDS, 'stop');
 our %EXPORT_TAGS = (all => [@EXPORT_OK]);
 our $AUTOLOAD;
