@@ -5,13 +5,14 @@ use Rattle.std.specs.List.{AllByRecursion, filter, list_any}
 use Rattle.std.specs.Option.{option_map_or}
 use Rattle.std.proofs.lemmas.Bool.{not-false, not-true, and_parts}
 use Rattle.dc_conf.specs.declared.drivers.Driver.{Driver}
-use Rattle.dc_conf.specs.declared.drivers.Driver.TheVariants.{File, DirTree, PackageDir, Stack, Backup, Debug}
+use Rattle.dc_conf.specs.declared.drivers.Driver.TheVariants.{File, DirTree, PackageDir, Pipe, Stack, Backup, Debug}
 use Rattle.dc_conf.specs.declared.faults.ConfKind.TheVariants.{MissingField, SamePlace}
 use Rattle.dc_conf.specs.declared.fields.Field.{Field}
+use Rattle.dc_conf.specs.declared.spec.LayerSort.TheVariants as sort
 use Rattle.dc_conf.specs.declared.spec.LayerSpec.{LayerSpec}
 use Rattle.dc_conf.specs.Stanzas.{Stanza, field_at, first_line}
 use Rattle.dc_conf.specs.Values.{rules_of}
-use Rattle.dc_conf.specs.ConfFaults.{along, fault_if, is_there, is_made_by, is_made, lacks_field, driver_in, place_by, place_in, sort_in, place_of, paths_at, paths_in, meet, share_place, database_faults, head_faults, second_pass}
+use Rattle.dc_conf.specs.ConfFaults.{along, fault_if, is_there, is_made_by, is_made, lacks_field, driver_in, place_by, place_in, sort_by, sort_in, place_of, paths_at, paths_in, meet, share_place, database_faults, head_faults, second_pass}
 use Rattle.dc_conf.specs.Configuration.{spec_of, configuration, places_meet, are_apart}
 use Rattle.dc_conf.proofs.CleanLemmas.{IsClean, no_fault, clean_database, driver_is}
 use Rattle.dc_conf.proofs.TestLemmas.{nil-append, neither, list_any-append}
@@ -35,13 +36,15 @@ there (Some field) e = (field, refl)
 field_there : (key : List ℕ) (s : Stanza) → (not (is_there key s) || false) ≡ false → is_some (field_at key s) ≡ true
 field_there key s e = ap is_some (there (field_at key s) (not-false (is_there key s) (neither (not (is_there key s)) false e).0)).1
 
-place_there : (s : Stanza) (d : Driver) → is_made_by (Some d) ≡ false → lacks_field (rules_of (Some d)) s ≡ false → is_some (place_by (Some d) s) ≡ true
-place_there s File off lacks = field_there (codes "filename") s lacks
-place_there s DirTree off lacks = field_there (codes "directory") s lacks
-place_there s PackageDir off lacks = field_there (codes "directory") s lacks
-place_there s Stack off lacks = absurd (cc)
-place_there s Backup off lacks = absurd (cc)
-place_there s Debug off lacks = absurd (cc)
+paths_there : (s : Stanza) (place : List ℕ) (d : Driver) → is_made_by (Some d) ≡ false → lacks_field (rules_of (Some d)) s ≡ false
+    → cond (is_some (place_by (Some d) s)) (paths_at (sort_by (Some d)) place) [] ≡ paths_at (sort_by (Some d)) place
+paths_there s place File off lacks = ap (λ b. cond b (paths_at sort.File place) []) (field_there (codes "filename") s lacks)
+paths_there s place DirTree off lacks = ap (λ b. cond b (paths_at sort.Tree place) []) (field_there (codes "directory") s lacks)
+paths_there s place PackageDir off lacks = ap (λ b. cond b (paths_at sort.Pack place) []) (field_there (codes "directory") s lacks)
+paths_there s place Pipe off lacks = refl
+paths_there s place Stack off lacks = absurd (cc)
+paths_there s place Backup off lacks = absurd (cc)
+paths_there s place Debug off lacks = absurd (cc)
 
 -- the paths of a database that isn't made of others are those of its place
 abbrev HasPaths : Stanza → Type 0
@@ -52,9 +55,8 @@ has_paths before s clean off =
     let found = driver_is before s clean in
     let lacks : lacks_field (rules_of (Some found.0)) s ≡ false =
     subst (λ r. lacks_field (rules_of r) s ≡ false) found.1 (no_fault (lacks_field (rules_of (driver_in s)) s) (first_line s) MissingField clean.lacks) in
-    let placed : is_some (place_in s) ≡ true =
-    ap (λ r. is_some (place_by r s)) found.1 ∙ place_there s found.0 (sym (ap is_made_by found.1) ∙ off) lacks in
-    ap (λ b. cond b (paths_at (sort_in s) (place_of s)) []) placed
+    subst (λ r. cond (is_some (place_by r s)) (paths_at (sort_by r) (place_of s)) [] ≡ paths_at (sort_by r) (place_of s)) (sym found.1)
+    (paths_there s (place_of s) found.0 (sym (ap is_made_by found.1) ∙ off) lacks)
 
 any_none : {X : Type 0} (p : X → Bool) → ((x : X) → p x ≡ false) → (xs : List X) → list_any p xs ≡ false
 any_none p none [] = refl

@@ -7,7 +7,7 @@ use Rattle.std.specs.Str.{bytes_eq}
 use Rattle.std.proofs.lemmas.Bool.{not-false}
 use Rattle.std.proofs.lemmas.Slice.Eq.{bytes_eq-Decides}
 use Rattle.dc_conf.specs.declared.drivers.Driver.{Driver}
-use Rattle.dc_conf.specs.declared.drivers.Driver.TheVariants.{File, DirTree, PackageDir, Stack, Backup, Debug}
+use Rattle.dc_conf.specs.declared.drivers.Driver.TheVariants.{File, DirTree, PackageDir, Pipe, Stack, Backup, Debug}
 use Rattle.dc_conf.specs.declared.faults.Fault.{Fault}
 use Rattle.dc_conf.specs.declared.faults.ConfKind.{ConfKind}
 use Rattle.dc_conf.specs.declared.faults.ConfKind.TheVariants.{TooMany, NoName, NoDriver, UnknownDriver, MissingField, BadValue}
@@ -105,6 +105,7 @@ mode_of : (before : List Stanza) (s : Stanza) → IsClean before s → (d : Driv
 mode_of before s clean File is off = value_is before s clean File is (codes "mode") is_mode (λ value. alone_takes (is_mode value))
 mode_of before s clean DirTree is off = refl
 mode_of before s clean PackageDir is off = value_is before s clean PackageDir is (codes "mode") is_mode (λ value. alone_takes (is_mode value))
+mode_of before s clean Pipe is off = refl
 mode_of before s clean Stack is off = absurd (cc)
 mode_of before s clean Backup is off = absurd (cc)
 mode_of before s clean Debug is off = absurd (cc)
@@ -132,6 +133,7 @@ extension_of before s clean DirTree is =
 extension_of before s clean PackageDir is =
     value_or is_extension (codes ".dat") (field_at (codes "extension") s) refl
     (value_is before s clean PackageDir is (codes "extension") is_extension (λ value. alone_takes (is_extension value)))
+extension_of before s clean Pipe is = refl
 extension_of before s clean Stack is = refl
 extension_of before s clean Backup is = refl
 extension_of before s clean Debug is = refl
@@ -140,6 +142,7 @@ mode_fits : (sort : LayerSort) (s : Stanza) → takes_mode sort (mode_by sort s)
 mode_fits sort.File s = refl
 mode_fits sort.Tree s = refl
 mode_fits sort.Pack s = refl
+mode_fits sort.Pipe s = refl
 
 pub sort_fits : (before : List Stanza) (s : Stanza) → IsClean before s → fits_sort (spec_of s) ≡ true
 sort_fits before s clean =

@@ -13,4 +13,5 @@ pub mod ResolvedLemmas
 pub mod Ways
 pub mod NodeLemmas
 pub mod RowLemmas
+pub mod PlaceLemmas
 pub mod PlanLemmas

@@ -6,9 +6,7 @@ use Rattle.std.specs.Ordering.{eq_by_cmp}
 use Rattle.std.specs.Str.{bytes_eq}
 use Rattle.std.specs.FinMap as map
 use Rattle.std.proofs.lemmas.List.{map-append}
-use Rattle.std.proofs.lemmas.Bool.{both_ways}
 use Rattle.std.proofs.lemmas.Map.Text.{is_eq-slice_cmp}
-use Rattle.std.proofs.lemmas.Slice.Eq.{bytes_eq-Decides}
 use Rattle.dc_text.specs.Bytes.{is_blank}
 use Rattle.dc_text.specs.Lines.{lines_of}
 use Rattle.dc_text.specs.Maps.{text_cmp, set_of}
@@ -22,20 +20,13 @@ use Rattle.dc_conf.specs.ConfFaults.{fault, fault_if, line_faults, first_pass}
 use Rattle.dc_conf.specs.Machine.{kept, at_start, finished, ended, with_field, goes_on, run, stanzas_read, least_of, Rise}
 use Rattle.dc_conf.proofs.GatherLemmas.{fields-each, kept_lines, gather, rest_faults, stanzas-gather, first_pass-rest, rest_above, rise-gather}
 use Rattle.dc_conf.proofs.LeastLemmas.{least_keeps}
-use Rattle.dc_conf.proofs.TestLemmas.{all_each, all-append, false_unless}
+use Rattle.dc_conf.proofs.TestLemmas.{all_each, all-append, bytes_eq-sym, false_unless}
 
 -- ---- the keys of a stanza
 
 is_some-cond : {X : Type 0} (b : Bool) (x : X) → is_some (cond b (Some x) None) ≡ b
 is_some-cond true x = refl
 is_some-cond false x = refl
-
-bytes_eq-sym : (xs ys : List ℕ) → bytes_eq xs ys ≡ bytes_eq ys xs
-bytes_eq-sym xs ys =
-    elim (bytes_eq xs ys) as (λ t. bytes_eq xs ys ≡ t → t ≡ bytes_eq ys xs) [
-      | true ↦ λ e. sym ((bytes_eq-Decides ys xs).1 (sym ((bytes_eq-Decides xs ys).0 e)))
-      | false ↦ λ e. sym (false_unless (bytes_eq ys xs) (λ f. (let here : bytes_eq xs ys ≡ true = (bytes_eq-Decides xs ys).1 (sym ((bytes_eq-Decides ys xs).0 f)) in both_ways (bytes_eq xs ys) e here)))
-    ] refl
 
 same_any : (q : List ℕ) (fields : Stanza) → list_any (eq_by_cmp text_cmp q) (each (λ field. field.key) fields) ≡ list_any (λ field. bytes_eq field.key q) fields
 same_any q [] = refl

@@ -1,6 +1,6 @@
 -- What the databases and plans that names reach are like.
 use Rattle.std.proofs.Common.{◌≡◌, ℕ, ◌+◌, ◌<◌, Bool, true, false, cond, not, ◌&&◌, List, [], ◌∷◌, ◌++◌, length, map as each, Some, None, refl, sym, ap, ◌∙◌, subst, append_assoc, arith, nat_eq}
-use Rattle.std.specs.Prelude.{◌||◌, option_map}
+use Rattle.std.specs.Prelude.{◌||◌, is_some, option_map}
 use Rattle.std.specs.List.{AllByRecursion, filter, find, list_all, list_any}
 use Rattle.std.specs.Str.{bytes_eq}
 use Rattle.std.proofs.lemmas.Bool.{and_parts, not-true, eqb-true}
@@ -11,7 +11,7 @@ use Rattle.dc_conf.specs.declared.nodes.Node.{Node}
 use Rattle.dc_conf.specs.declared.plans.Plan.{Plan}
 use Rattle.dc_conf.specs.declared.spec.LayerSpec.{LayerSpec}
 use Rattle.dc_conf.specs.Configuration.{Configuration, AreDisjoint, IsOnce, IsPlan, ArePlans, HavePlans, are_apart, have_names_apart, fits_sort, is_held, is_sound, is_spec_of, is_well_made, place_in, reached}
-use Rattle.dc_conf.specs.Nodes.{is_among, is_node, names_of, names_it, named_in, leads_to, reaches, names_meet, two_meet, form_at, repeats}
+use Rattle.dc_conf.specs.Nodes.{is_among, is_node, names_of, names_it, named_in, leads_to, reaches, names_meet, two_meet, driver_line_of, form_at, repeats}
 use Rattle.dc_conf.specs.Plans.{IsOver, Everywhere, AllEverywhere, all_places, all_places_of, are_apart_from, stand_once}
 use Rattle.dc_conf.specs.Reaching.{by_way}
 use Rattle.dc_conf.specs.Trees.{Tree, Trees, Leaf, Stack, Backup, Debug, End, More, shape}
@@ -29,6 +29,8 @@ record IsKept (conf : Configuration) : Type 0 where
   known : list_all (is_node conf.nodes) conf.databases ≡ true
   made : list_all (is_well_made conf.nodes) conf.nodes ≡ true
   held : list_all (λ node. is_held conf.specs node.name node.form) conf.nodes ≡ true
+  listed : list_all (is_among conf.databases) (names_of conf.nodes) ≡ true
+  kept_listed : list_all (λ spec. is_among conf.databases spec.name) conf.specs ≡ true
   alone : names_meet conf.nodes conf.config conf.templates ≡ false
 
 kept : (conf : Configuration) → is_sound conf ≡ true → IsKept conf
@@ -38,15 +40,30 @@ kept conf sound =
     let known : Bool = list_all (is_node conf.nodes) conf.databases in
     let made : Bool = list_all (is_well_made conf.nodes) conf.nodes in
     let held : Bool = list_all (λ node. is_held conf.specs node.name node.form) conf.nodes in
+    let listed : Bool = list_all (is_among conf.databases) (names_of conf.nodes) in
+    let specs : Bool = list_all (λ spec. is_among conf.databases spec.name) conf.specs in
     let meet : Bool = names_meet conf.nodes conf.config conf.templates in
-    let one = and_parts (are_apart conf.specs) (have_names_apart conf.specs && (sorts && (single && (known && (made && (held && not meet)))))) sound in
-    let two = and_parts (have_names_apart conf.specs) (sorts && (single && (known && (made && (held && not meet))))) one.1 in
-    let three = and_parts sorts (single && (known && (made && (held && not meet)))) two.1 in
-    let four = and_parts single (known && (made && (held && not meet))) three.1 in
-    let five = and_parts known (made && (held && not meet)) four.1 in
-    let six = and_parts made (held && not meet) five.1 in
-    let last = and_parts held (not meet) six.1 in
-    record { places = one.0; names = two.0; sorts = three.0; known = five.0; made = six.0; held = last.0; alone = not-true meet last.1 }
+    let rest : Bool = held && (listed && (specs && not meet)) in
+    let one = and_parts (are_apart conf.specs) (have_names_apart conf.specs && (sorts && (single && (known && (made && rest))))) sound in
+    let two = and_parts (have_names_apart conf.specs) (sorts && (single && (known && (made && rest)))) one.1 in
+    let three = and_parts sorts (single && (known && (made && rest))) two.1 in
+    let four = and_parts single (known && (made && rest)) three.1 in
+    let five = and_parts known (made && rest) four.1 in
+    let six = and_parts made rest five.1 in
+    let seven = and_parts held (listed && (specs && not meet)) six.1 in
+    let eight = and_parts listed (specs && not meet) seven.1 in
+    let last = and_parts specs (not meet) eight.1 in
+    record {
+      places = one.0;
+      names = two.0;
+      sorts = three.0;
+      known = five.0;
+      made = six.0;
+      held = seven.0;
+      listed = eight.0;
+      kept_listed = last.0;
+      alone = not-true meet last.1;
+    }
 
 -- ---- some of the databases
 
@@ -455,6 +472,41 @@ names_apart conf roots sound =
 
 pub sorts_fit : (conf : Configuration) (roots : List (List ℕ)) → is_sound conf ≡ true → list_all fits_sort (reached conf roots) ≡ true
 sorts_fit conf roots sound = all_kept fits_sort (λ spec. list_any (λ root. leads_to conf.nodes root spec.name) roots) conf.specs (kept conf sound).sorts
+
+-- ---- the lines of the drivers
+
+-- the line is known of each name that is there
+line_known : (nodes : List Node) (n : List ℕ) → is_some (driver_line_of nodes n) ≡ is_node nodes n
+line_known [] n = refl
+line_known (node ∷ nodes) n =
+    (elim (bytes_eq node.name n) as (λ t.
+    is_some (option_map (λ (other : Node). other.line) (cond t (Some node) (find (λ (other : Node). bytes_eq other.name n) nodes))) ≡ (t || is_node nodes n)) [
+      | true ↦ refl
+      | false ↦ line_known nodes n
+    ])
+    ∙ ap (λ b. b || is_node nodes n) (same_either node.name n)
+
+among_names : (nodes : List Node) (n : List ℕ) → is_among (names_of nodes) n ≡ is_node nodes n
+among_names [] n = refl
+among_names (node ∷ nodes) n = ap (λ b. bytes_eq n node.name || b) (among_names nodes n)
+
+both_ways : (a b : Bool) → (a ≡ true → b ≡ true) → (b ≡ true → a ≡ true) → a ≡ b
+both_ways true b f g = sym (f refl)
+both_ways false true f g = g refl
+both_ways false false f g = refl
+
+pub line_there : (conf : Configuration) (n : List ℕ) → is_sound conf ≡ true → is_some (driver_line_of conf.nodes n) ≡ is_among conf.databases n
+line_there conf n sound =
+    line_known conf.nodes n
+    ∙ both_ways (is_node conf.nodes n) (is_among conf.databases n)
+    (λ e. one_of (is_among conf.databases) (names_of conf.nodes) n (among_names conf.nodes n ∙ e) (kept conf sound).listed)
+    (λ e. one_of (is_node conf.nodes) conf.databases n e (kept conf sound).known)
+
+pub lines_there : (conf : Configuration) (roots : List (List ℕ)) → is_sound conf ≡ true
+    → list_all (λ spec. is_some (driver_line_of conf.nodes spec.name)) (reached conf roots) ≡ true
+lines_there conf roots sound =
+    all_kept (λ spec. is_some (driver_line_of conf.nodes spec.name)) (λ spec. list_any (λ root. leads_to conf.nodes root spec.name) roots) conf.specs
+    ((λ i. list_all (λ (spec : LayerSpec). line_there conf spec.name sound i) conf.specs) ∙ (kept conf sound).kept_listed)
 
 pub are_made : (conf : Configuration) → is_sound conf ≡ true → list_all (is_well_made conf.nodes) conf.nodes ≡ true
 are_made conf sound = (kept conf sound).made

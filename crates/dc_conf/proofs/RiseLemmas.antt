@@ -3,7 +3,7 @@ use Rattle.std.proofs.Common.{◌≡◌, ℕ, ◌≤◌, Bool, true, false, List
 use Rattle.std.specs.List.{AllByRecursion, flat_map, list_any}
 use Rattle.std.specs.Option.{option_map_or}
 use Rattle.std.specs.Prelude.{codes, not}
-use Rattle.dc_conf.specs.declared.drivers.Driver.TheVariants.{File, DirTree, PackageDir, Stack, Backup, Debug}
+use Rattle.dc_conf.specs.declared.drivers.Driver.TheVariants.{File, DirTree, PackageDir, Pipe, Stack, Backup, Debug}
 use Rattle.dc_conf.specs.declared.faults.Fault.{Fault}
 use Rattle.dc_conf.specs.declared.faults.ConfKind.{ConfKind}
 use Rattle.dc_conf.specs.declared.faults.ConfKind.TheVariants.{TooMany, NoConfig, NoTemplates, NoName, NoDriver, UnknownDriver, MissingField, BadValue, Twice, SamePlace}
@@ -57,6 +57,7 @@ module _ (low high : ℕ) where
           | File ↦ at_field_within (codes "filename") s (λ field. shares) SamePlace is
           | DirTree ↦ at_field_within (codes "directory") s (λ field. shares) SamePlace is
           | PackageDir ↦ at_field_within (codes "directory") s (λ field. shares) SamePlace is
+          | Pipe ↦ tt
           | Stack ↦ tt
           | Backup ↦ tt
           | Debug ↦ tt

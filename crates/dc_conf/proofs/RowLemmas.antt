@@ -14,11 +14,11 @@ use Rattle.dc_conf.proofs.TestLemmas.{neither, false_unless}
 
 -- ---- tests
 
-or_true : (a : Bool) → (a || true) ≡ true
+pub or_true : (a : Bool) → (a || true) ≡ true
 or_true true = refl
 or_true false = refl
 
-or_false : (a : Bool) → (a || false) ≡ a
+pub or_false : (a : Bool) → (a || false) ≡ a
 or_false true = refl
 or_false false = refl
 
@@ -26,7 +26,7 @@ and_false : (a : Bool) → (a && false) ≡ false
 and_false true = refl
 and_false false = refl
 
-or_assoc : (a b c : Bool) → ((a || b) || c) ≡ (a || (b || c))
+pub or_assoc : (a b c : Bool) → ((a || b) || c) ≡ (a || (b || c))
 or_assoc true b c = refl
 or_assoc false b c = refl
 
@@ -61,7 +61,7 @@ pub each_same : {X Y : Type 0} (f g : X → Y) → ((x : X) → f x ≡ g x) →
 each_same f g h [] = refl
 each_same f g h (x ∷ xs) = λ i. h x i ∷ each_same f g h xs i
 
-each_named : {Y : Type 0} (f : List ℕ → Y) (nodes : List Node) → each f (names_of nodes) ≡ each (λ node. f node.name) nodes
+pub each_named : {Y : Type 0} (f : List ℕ → Y) (nodes : List Node) → each f (names_of nodes) ≡ each (λ node. f node.name) nodes
 each_named f [] = refl
 each_named f (node ∷ nodes) = ap (λ ys. f node.name ∷ ys) (each_named f nodes)
 

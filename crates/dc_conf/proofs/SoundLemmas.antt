@@ -7,7 +7,7 @@ use Rattle.std.specs.Str.{bytes_eq}
 use Rattle.std.proofs.lemmas.Bool.{not-false, and_parts}
 use Rattle.std.proofs.lemmas.Slice.Eq.{bytes_eq-Decides}
 use Rattle.dc_conf.specs.declared.drivers.Driver.{Driver}
-use Rattle.dc_conf.specs.declared.drivers.Driver.TheVariants.{File, DirTree, PackageDir, Stack, Backup, Debug}
+use Rattle.dc_conf.specs.declared.drivers.Driver.TheVariants.{File, DirTree, PackageDir, Pipe, Stack, Backup, Debug}
 use Rattle.dc_conf.specs.declared.faults.Fault.{Fault}
 use Rattle.dc_conf.specs.declared.faults.ConfKind.TheVariants.{NoName, NoConfig, NoTemplates, MissingField, Twice, UnknownDatabase, Cycle, SharedDatabase}
 use Rattle.dc_conf.specs.declared.fields.Field.{Field}
@@ -210,6 +210,7 @@ form_named : (nodes : List Node) (s : Stanza) (d : Driver) → lacks_field (rule
 form_named nodes s File lacks e = record { there = refl; away = refl; apart = refl }
 form_named nodes s DirTree lacks e = record { there = refl; away = refl; apart = refl }
 form_named nodes s PackageDir lacks e = record { there = refl; away = refl; apart = refl }
+form_named nodes s Pipe lacks e = record { there = refl; away = refl; apart = refl }
 form_named nodes s Stack lacks e = stack_named nodes s lacks e
 form_named nodes s Backup lacks e = backup_named nodes s lacks e
 form_named nodes s Debug lacks e = debug_named nodes s lacks e
@@ -278,6 +279,7 @@ held_by specs None s h = h refl
 held_by specs (Some File) s h = h refl
 held_by specs (Some DirTree) s h = h refl
 held_by specs (Some PackageDir) s h = h refl
+held_by specs (Some Pipe) s h = h refl
 held_by specs (Some Stack) s h = refl
 held_by specs (Some Backup) s h = refl
 held_by specs (Some Debug) s h = refl
@@ -304,9 +306,9 @@ not_shared head nodes has e =
 
 -- ---- all of it
 
-all_eight : (a b c d e f g h : Bool) → a ≡ true → b ≡ true → c ≡ true → d ≡ false → e ≡ true → f ≡ true → g ≡ true → h ≡ false
-    → (a && (b && (c && (not d && (e && (f && (g && not h))))))) ≡ true
-all_eight a b c d e f g h p q r s t u v w = λ i. p i && (q i && (r i && (not (s i) && (t i && (u i && (v i && not (w i)))))))
+all_ten : (a b c d e f g h j k : Bool) → a ≡ true → b ≡ true → c ≡ true → d ≡ false → e ≡ true → f ≡ true → g ≡ true → h ≡ true → j ≡ true → k ≡ false
+    → (a && (b && (c && (not d && (e && (f && (g && (h && (j && not k))))))))) ≡ true
+all_ten a b c d e f g h j k p q r s t u v w x y = λ i. p i && (q i && (r i && (not (s i) && (t i && (u i && (v i && (w i && (x i && not (y i)))))))))
 
 -- each name is that of a database
 name_there : (before after : List Stanza) (s : Stanza) → is_node (nodes_of (before ++ s ∷ after)) (name s) ≡ true
@@ -318,6 +320,29 @@ names_there all before [] whole = refl
 names_there all before (s ∷ some) whole =
     λ i. (ap (λ ss. is_node (nodes_of ss) (name s)) whole ∙ name_there before some s) i
     && names_there all (before ++ s ∷ []) some (whole ∙ sym (append_assoc before (s ∷ []) some)) i
+
+-- each name is one of the names
+name_among : (before after : List (List ℕ)) (n : List ℕ) → is_among (before ++ n ∷ after) n ≡ true
+name_among [] after n = ap (λ b. b || is_among after n) ((bytes_eq-Decides n n).1 refl)
+name_among (m ∷ before) after n = ap (λ b. bytes_eq n m || b) (name_among before after n) ∙ or_true (bytes_eq n m)
+
+names_among : (all before some : List (List ℕ)) → all ≡ before ++ some → list_all (is_among all) some ≡ true
+names_among all before [] whole = refl
+names_among all before (n ∷ some) whole =
+    λ i. (ap (λ names. is_among names n) whole ∙ name_among before some n) i
+    && names_among all (before ++ n ∷ []) some (whole ∙ sym (append_assoc before (n ∷ []) some)) i
+
+-- so are those of the databases that hold items
+specs_among : (p : List ℕ → Bool) (q : Stanza → Bool) (ss : List Stanza) → list_all p (each name ss) ≡ true
+    → list_all (λ spec. p spec.name) (each spec_of (filter q ss)) ≡ true
+specs_among p q [] e = refl
+specs_among p q (s ∷ ss) e =
+    let both = and_parts (p (name s)) (list_all p (each name ss)) e in
+    let others = specs_among p q ss both.1 in
+    elim (q s) as (λ t. list_all (λ spec. p spec.name) (each spec_of (cond t (s ∷ filter q ss) (filter q ss))) ≡ true) [
+      | true ↦ (λ i. both.0 i && others i)
+      | false ↦ others
+    ]
 
 absent : second_pass [] ≡ [] → ⊥
 absent e = cc
@@ -331,8 +356,11 @@ sound (head ∷ ss) second third fourth =
     let made = nil-append (unknown_database (codes "config") head nodes ++ unknown_database (codes "templates") head nodes)
     (flat_map (λ s. made_faults nodes (driver_in s) s) ss) third in
     let head_is = nil-append (missing (codes "config") head NoConfig) (missing (codes "templates") head NoTemplates) parts.0 in
-    all_eight (are_apart conf.specs) (have_names_apart conf.specs) (list_all fits_sort conf.specs) (repeats (names_of nodes)) (list_all (is_node nodes) conf.databases) (list_all (is_well_made nodes) nodes)
-    (list_all (λ node. is_held conf.specs node.name node.form) nodes) (names_meet nodes conf.config conf.templates)
+    let listed : list_all (is_among conf.databases) conf.databases ≡ true = names_among conf.databases [] conf.databases refl in
+    all_ten (are_apart conf.specs) (have_names_apart conf.specs) (list_all fits_sort conf.specs) (repeats (names_of nodes)) (list_all (is_node nodes) conf.databases) (list_all (is_well_made nodes) nodes)
+    (list_all (λ node. is_held conf.specs node.name node.form) nodes) (list_all (is_among conf.databases) (names_of nodes))
+    (list_all (λ spec. is_among conf.databases spec.name) conf.specs)
+    (names_meet nodes conf.config conf.templates)
     (databases_apart head ss second)
     (ap not (repeats_kept holds_items ss (none_repeats [] ss parts.1)))
     (all_fit [] ss parts.1)
@@ -340,4 +368,6 @@ sound (head ∷ ss) second third fourth =
     (names_there ss [] ss refl)
     (all_well_made ss [] ss refl (alone head ss second) parts.1 made.1)
     (all_held ss [] ss refl)
+    (ap (list_all (is_among conf.databases)) (names_are ss) ∙ listed)
+    (specs_among (is_among conf.databases) holds_items ss listed)
     (not_shared head nodes head_is.1 fourth)

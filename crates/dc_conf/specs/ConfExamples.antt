@@ -4,10 +4,10 @@ use Rattle.dc_text.specs.Lines.{text_of}
 use Rattle.dc_conf.specs.Stanzas.{stanzas, fields_of}
 use Rattle.dc_conf.specs.ConfFaults.{fault, passes}
 use Rattle.dc_conf.specs.Configuration.{configuration}
-use Rattle.dc_conf.specs.declared.spec.LayerSort.TheVariants.{Tree}
+use Rattle.dc_conf.specs.declared.spec.LayerSort.TheVariants.{Tree, Pipe}
 use Rattle.dc_conf.specs.declared.faults.Fault.{Fault}
 use Rattle.dc_conf.specs.declared.spec.LayerSpec.{LayerSpec}
-use Rattle.dc_conf.specs.declared.faults.ConfKind.TheVariants.{NoColon, Twice, NoConfig, NoTemplates, NoName, UnknownDriver, MissingField, BadValue, SamePlace, UnknownDatabase, Cycle, SharedDatabase}
+use Rattle.dc_conf.specs.declared.faults.ConfKind.TheVariants.{NoColon, Twice, TooMany, NoConfig, NoTemplates, NoName, UnknownDriver, MissingField, BadValue, SamePlace, UnknownDatabase, Cycle, SharedDatabase}
 
 -- the databases that a text says, where no pass has a fault
 abbrev pub databases_in : List ℕ → List LayerSpec
@@ -23,7 +23,8 @@ abbrev pub clean_but_third : Fault → List Fault → List (List Fault)
 clean_but_third first more = [] ∷ [] ∷ (first ∷ more) ∷ [] ∷ []
 
 -- no text at all; no Templates; a driver that isn't known; one database for both; a file below a folder; a mode that one folder
--- takes for its own and another ignores; values that folders don't take; the database in a folder
+-- takes for its own and another ignores; values that folders don't take; a second pipe, and ends that pipes don't take; the database in a
+-- folder, and one that comes through a pipe and goes nowhere
 pub record Examples : Type 0 where
   pub empty : passes [] ≡ [] ∷ (fault 1 NoConfig ∷ fault 1 NoTemplates ∷ []) ∷ [] ∷ [] ∷ []
   pub alone : passes (codes "Config: a") ≡ [] ∷ (fault 1 NoTemplates ∷ []) ∷ (fault 1 UnknownDatabase ∷ []) ∷ [] ∷ []
@@ -47,6 +48,9 @@ pub record Examples : Type 0 where
   pub values : passes (text_of (codes "Config: t" ∷ codes "Templates: u" ∷ [] ∷ codes "Name: t" ∷ codes "Driver: DirTree" ∷ codes "Directory: /" ∷ []
       ∷ codes "Name: u" ∷ codes "Driver: PackageDir" ∷ codes "Extension: dat" ∷ []))
       ≡ [] ∷ (fault 6 BadValue ∷ fault 8 MissingField ∷ fault 10 BadValue ∷ []) ∷ [] ∷ [] ∷ []
+  pub pipes : passes (text_of (codes "Config: t" ∷ codes "Templates: u" ∷ [] ∷ codes "Name: t" ∷ codes "Driver: Pipe" ∷ codes "Infd: 1" ∷ codes "Outfd: none"
+      ∷ [] ∷ codes "Name: u" ∷ codes "Driver: pipe" ∷ codes "Outfd: 0" ∷ []))
+      ≡ [] ∷ (fault 6 BadValue ∷ fault 9 TooMany ∷ fault 11 BadValue ∷ []) ∷ [] ∷ [] ∷ []
   -- a stack of a stack; two that name each other; a name that a stack gives twice; a stack that names a database and another that
   -- reaches it; a backup of a database in itself, by way of another; two roots that share one
   pub nested : passes (with_more (codes "Name: s" ∷ codes "Driver: Stack" ∷ codes "Stack: r" ∷ [] ∷ codes "Name: r" ∷ codes "Driver: Stack" ∷ codes "Stack: x" ∷ []))
@@ -67,6 +71,25 @@ pub record Examples : Type 0 where
         extension = codes ".dat";
         mode = 384;
         backup = false;
+        infd = false;
+        outfd = false;
+        readonly = false;
+        required = true;
+        accept_name = None;
+        reject_name = None;
+        accept_type = None;
+        reject_type = None;
+      } ∷ []
+  pub pipe : databases_in (text_of (codes "Config: t" ∷ codes "Templates: u" ∷ [] ∷ codes "Name: t" ∷ codes "Driver: Pipe" ∷ codes "OutFd: none" ∷ []))
+      ≡ record {
+        name = codes "t";
+        sort = Pipe;
+        place = [];
+        extension = [];
+        mode = 384;
+        backup = false;
+        infd = true;
+        outfd = false;
         readonly = false;
         required = true;
         accept_name = None;

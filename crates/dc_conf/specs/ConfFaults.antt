@@ -5,7 +5,7 @@ use Rattle.std.specs.Option.{option_map_or}
 use Rattle.std.specs.List.{list_any, filter, flat_map, AllByRecursion}
 use Rattle.std.specs.Str.{bytes_eq}
 use Rattle.dc_conf.specs.declared.drivers.Driver.{Driver}
-use Rattle.dc_conf.specs.declared.drivers.Driver.TheVariants.{File, DirTree, PackageDir, Stack, Backup, Debug}
+use Rattle.dc_conf.specs.declared.drivers.Driver.TheVariants.{File, DirTree, PackageDir, Pipe, Stack, Backup, Debug}
 use Rattle.dc_conf.specs.declared.faults.ConfKind.{ConfKind}
 use Rattle.dc_conf.specs.declared.faults.ConfKind.TheVariants.{NoColon, Twice, TooMany, NoConfig, NoTemplates, NoName, NoDriver, UnknownDriver, MissingField, BadValue, SamePlace, UnknownDatabase, Cycle, SharedDatabase}
 use Rattle.dc_conf.specs.declared.faults.Fault.{Fault}
@@ -105,6 +105,7 @@ place_in stanza = place_by (driver_in stanza) stanza
 abbrev pub sort_by : Option Driver → LayerSort
 sort_by (Some DirTree) = sort.Tree
 sort_by (Some PackageDir) = sort.Pack
+sort_by (Some Pipe) = sort.Pipe
 sort_by _ = sort.File
 
 abbrev pub sort_in : Stanza → LayerSort
@@ -115,12 +116,14 @@ abbrev pub place_at : LayerSort → List ℕ → List ℕ
 place_at sort.File value = value
 place_at sort.Tree value = without_last_slash value
 place_at sort.Pack value = without_last_slash value
+place_at sort.Pipe value = value
 
 -- the paths at which a database of this sort is kept
 abbrev pub paths_at : LayerSort → List ℕ → List (List ℕ)
 paths_at sort.File place = place ∷ (place ++ codes "-new") ∷ (place ++ codes "-old") ∷ []
 paths_at sort.Tree place = place ∷ []
 paths_at sort.Pack place = place ∷ []
+paths_at sort.Pipe place = []
 
 -- the path at which a database is kept, empty where it isn't kept in a place
 abbrev pub place_of : Stanza → List ℕ
@@ -154,15 +157,21 @@ abbrev pub keep_alike : Option Driver → Option Driver → Bool
 keep_alike (Some File) (Some File) = true
 keep_alike (Some DirTree) (Some DirTree) = true
 keep_alike (Some PackageDir) (Some PackageDir) = true
+keep_alike (Some Pipe) (Some Pipe) = true
 keep_alike _ _ = false
 
 -- of these databases those that keep items as this one does
 abbrev pub kept_alike : List Stanza → Stanza → List Stanza
 kept_alike databases stanza = filter (λ other. keep_alike (driver_in other) (driver_in stanza)) databases
 
--- 256 databases stand before this one, or 16 that keep items as it does
+-- how many databases of a driver there may be: one pipe, since there is one input and one output
+abbrev pub most_alike : Option Driver → ℕ
+most_alike (Some Pipe) = 1
+most_alike _ = 16
+
+-- 256 databases stand before this one, or as many as there may be of those that keep items as it does
 abbrev pub is_too_many : List Stanza → Stanza → Bool
-is_too_many before stanza = nat_le 256 (length before) || nat_le 16 (length (kept_alike before stanza))
+is_too_many before stanza = nat_le 256 (length before) || nat_le (most_alike (driver_in stanza)) (length (kept_alike before stanza))
 
 -- the faults of a database by itself, and whether it is one too many
 abbrev pub lone_faults : Bool → Stanza → List Fault
@@ -210,9 +219,13 @@ form_by (Some Backup) stanza = Backs (value_at (codes "db") stanza) (value_at (c
 form_by (Some Debug) stanza = Tells (value_at (codes "db") stanza)
 form_by _ stanza = Holds
 
--- a database: its name, and how it is made
+-- the line of a field, 0 where it isn't there
+abbrev pub line_at : List ℕ → Stanza → ℕ
+line_at key stanza = option_map_or (λ field. field.line) (field_at key stanza) 0
+
+-- a database: its name, how it is made, and the line that names its driver
 abbrev pub node_of : Stanza → Node
-node_of stanza = record { name = value_at (codes "name") stanza; form = form_by (driver_in stanza) stanza }
+node_of stanza = record { name = value_at (codes "name") stanza; form = form_by (driver_in stanza) stanza; line = line_at (codes "driver") stanza }
 
 abbrev pub nodes_of : List Stanza → List Node
 nodes_of databases = each node_of databases

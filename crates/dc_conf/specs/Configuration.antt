@@ -14,7 +14,7 @@ use Rattle.dc_conf.specs.declared.plans.ResolveError.{ResolveError}
 use Rattle.dc_conf.specs.declared.plans.ResolveError.TheVariants as resolve
 use Rattle.dc_conf.specs.declared.plans.Resolved.{Resolved}
 use Rattle.dc_conf.specs.declared.spec.LayerSort.{LayerSort}
-use Rattle.dc_conf.specs.declared.spec.LayerSort.TheVariants.{File, Tree}
+use Rattle.dc_conf.specs.declared.spec.LayerSort.TheVariants.{File, Tree, Pipe}
 use Rattle.dc_conf.specs.declared.spec.LayerSpec.{LayerSpec}
 use Rattle.dc_text.specs.Bytes.{is_nil}
 use Rattle.dc_conf.specs.Nodes.{named_in, repeats, is_node, names_of, leads_to, reaches, names_meet, two_meet, form_at}
@@ -48,11 +48,13 @@ truth_at key stanza default = option_map_or (λ field. is_true field.value) (fie
 -- what the names of the files of a database of this sort end with: in a folder with `.dat`, unless its stanza says otherwise
 abbrev pub extension_by : LayerSort → Stanza → List ℕ
 extension_by File stanza = []
+extension_by Pipe stanza = []
 extension_by _ stanza = option_map_or (λ field. field.value) (field_at (codes "extension") stanza) (codes ".dat")
 
--- the field that says the permission bits of such a database: of a tree none does
+-- the field that says the permission bits of such a database: of a tree and of a pipe none does
 abbrev pub mode_field : LayerSort → Stanza → Option Field
 mode_field Tree stanza = None
+mode_field Pipe stanza = None
 mode_field _ stanza = field_at (codes "mode") stanza
 
 -- the permission bits, 600 where no field says them
@@ -64,6 +66,20 @@ abbrev pub backup_by : LayerSort → Stanza → Bool
 backup_by File stanza = truth_at (codes "backup") stanza true
 backup_by _ stanza = false
 
+-- whether the field names the descriptor that a pipe is read from or written to, or isn't there
+abbrev pub is_connected : List ℕ → List ℕ → Stanza → Bool
+is_connected key descriptor stanza = option_map_or (λ field. bytes_eq field.value descriptor) (field_at key stanza) true
+
+-- whether it is read from standard input, which only a pipe is
+abbrev pub infd_by : LayerSort → Stanza → Bool
+infd_by Pipe stanza = is_connected (codes "infd") (codes "0") stanza
+infd_by _ stanza = false
+
+-- whether it is written to standard output, which only a pipe is
+abbrev pub outfd_by : LayerSort → Stanza → Bool
+outfd_by Pipe stanza = is_connected (codes "outfd") (codes "1") stanza
+outfd_by _ stanza = false
+
 -- the database that a stanza without faults is, where it isn't made of others
 abbrev pub spec_of : Stanza → LayerSpec
 spec_of stanza = record {
@@ -73,6 +89,8 @@ spec_of stanza = record {
   extension = extension_by (sort_in stanza) stanza;
   mode = mode_by (sort_in stanza) stanza;
   backup = backup_by (sort_in stanza) stanza;
+  infd = infd_by (sort_in stanza) stanza;
+  outfd = outfd_by (sort_in stanza) stanza;
   readonly = truth_at (codes "readonly") stanza false;
   required = truth_at (codes "required") stanza true;
   accept_name = text_at (codes "accept-name") stanza;
@@ -176,11 +194,13 @@ is_spec_of specs name = list_any (λ spec. bytes_eq spec.name name) specs
 -- the names of the files of a database of this sort may end with this: with an extension in a folder, and else with nothing
 abbrev pub takes_extension : LayerSort → List ℕ → Bool
 takes_extension File extension = is_nil extension
+takes_extension Pipe extension = is_nil extension
 takes_extension _ extension = is_extension extension
 
--- its files may have these permission bits: those of a tree have 600 alone
+-- its files may have these permission bits: those of a tree have 600 alone, which a pipe has too
 abbrev pub takes_mode : LayerSort → ℕ → Bool
 takes_mode Tree mode = mode == 384
+takes_mode Pipe mode = mode == 384
 takes_mode _ mode = true
 
 -- the extension and the permission bits of a database are such as its sort takes
@@ -198,14 +218,15 @@ abbrev pub is_held : List LayerSpec → List ℕ → Form → Bool
 is_held specs name Holds = is_spec_of specs name
 is_held specs name _ = true
 
--- What each configuration keeps: places and names are apart, each database fits its sort, has a name of its own and is made well, and
--- those of questions and of templates don't meet.
+-- What each configuration keeps: places and names are apart, each database fits its sort, has a name of its own, which is listed, and is made
+-- well, and those of questions and of templates don't meet.
 abbrev pub is_sound : Configuration → Bool
 is_sound conf =
     are_apart conf.specs && (have_names_apart conf.specs && (list_all fits_sort conf.specs
     && (not (repeats (names_of conf.nodes)) && (list_all (is_node conf.nodes) conf.databases && (list_all (is_well_made conf.nodes) conf.nodes
     && (list_all (λ node. is_held conf.specs node.name node.form) conf.nodes
-    && not (names_meet conf.nodes conf.config conf.templates)))))))
+    && (list_all (is_among conf.databases) (names_of conf.nodes) && (list_all (λ spec. is_among conf.databases spec.name) conf.specs
+    && not (names_meet conf.nodes conf.config conf.templates)))))))))
 
 -- each place stands once in the plan
 abbrev pub IsOnce : Plan → Type 0

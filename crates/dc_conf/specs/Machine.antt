@@ -1,12 +1,13 @@
 -- What the reader does, as functions: with one line after another, with the faults of stanzas, and with names. Only functions
 -- that are not public, and the proofs, speak of them.
-use Rattle.std.specs.Prelude.{◌≡◌, ◌≢◌, ◌≤◌, ℕ, ◌+◌, ⊤, Bool, true, false, ◌||◌, ◌&&◌, map as each, slice_get, Vec, nat_le, List, [], ◌∷◌, ◌++◌, Option, Some, None, Result, Ok, Err, if◌then◌else◌}
+use Rattle.std.specs.Prelude.{◌≡◌, ◌≢◌, ◌≤◌, ℕ, suc, ◌+◌, ⊤, Bool, true, false, ◌||◌, ◌&&◌, map as each, slice_get, Vec, nat_le, set, List, [], ◌∷◌, ◌++◌, Option, Some, None, Result, Ok, Err, if◌then◌else◌}
 use Rattle.std.specs.List.{AllByRecursion}
 use Rattle.std.specs.Option.{option_map_or, unwrap_or}
 use Rattle.std.specs.Str.{bytes_eq}
 use Rattle.std.specs.FinMap as map
 use Rattle.dc_text.specs.Bytes.{is_blank}
 use Rattle.dc_text.specs.Lines.{lines_of}
+use Rattle.dc_text.specs.Maps.{Texts}
 use Rattle.dc_conf.specs.declared.faults.Fault.{Fault}
 use Rattle.dc_conf.specs.declared.faults.ConfKind.TheVariants.{NoColon, Twice}
 use Rattle.dc_conf.specs.declared.faults.ConfError.{ConfError}
@@ -158,11 +159,26 @@ joined row _ = row
 abbrev pub widened : ℕ → List Bool → List Bool → List Bool
 widened place through row = if unwrap_or (slice_get row place) false then joined row through else row
 
+-- the places of the names of databases, of which the first has this place
+abbrev pub places_from : ℕ → List Node → Texts ℕ
+places_from place [] = map.empty
+places_from place (node ∷ nodes) = map.insert (places_from (suc place) nodes) node.name place
+
+-- a row with a flag at the place of the name, if it has one
+abbrev pub marked : Texts ℕ → List Bool → List ℕ → List Bool
+marked places row name = option_map_or (λ place. set row place true) (map.get places name) row
+
+-- and with one at that of each of the names
+abbrev pub all_marked : Texts ℕ → List Bool → List (List ℕ) → List Bool
+all_marked places row [] = row
+all_marked places row (name ∷ names) = all_marked places (marked places row name) names
+
 -- both have a flag in one place
 abbrev pub share_flag : List Bool → List Bool → Bool
 share_flag (one ∷ row) (two ∷ other) = (one && two) || share_flag row other
 share_flag _ _ = false
 
--- The rows are those of the databases.
-abbrev pub IsWeb : {A B : Type 0} → List Node → Vec (Vec Bool A) B → Type 0
-IsWeb nodes rows = flags_of rows ≡ rows_over nodes (names_of nodes)
+-- The places and the rows are those of the databases.
+pub record IsWeb {A B : Type 0} (nodes : List Node) (places : Texts ℕ) (rows : Vec (Vec Bool A) B) : Type 0 where
+  pub known : places ≡ places_from 0 nodes
+  pub led : flags_of rows ≡ rows_over nodes (names_of nodes)

@@ -51,6 +51,10 @@ abbrev pub two_meet : List Node → List (List ℕ) → Bool
 two_meet nodes [] = false
 two_meet nodes (name ∷ names) = list_any (names_meet nodes name) names || two_meet nodes names
 
+-- the line that names the driver of the database of the name, if there is one
+abbrev pub driver_line_of : List Node → List ℕ → Option ℕ
+driver_line_of nodes name = option_map (λ node. node.line) (find (λ node. bytes_eq node.name name) nodes)
+
 -- how the database of the name is made, if there is one
 abbrev pub form_at : List Node → List ℕ → Option Form
 form_at nodes name = option_map (λ node. node.form) (find (λ node. bytes_eq node.name name) nodes)

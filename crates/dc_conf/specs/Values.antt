@@ -8,7 +8,7 @@ use Rattle.std.specs.Str.{bytes_eq, is_utf8}
 use Rattle.dc_text.specs.Bytes.{lower, is_nil, is_space}
 use Rattle.dc_words.specs.Words.{plain_words_of}
 use Rattle.dc_conf.specs.declared.drivers.Driver.{Driver}
-use Rattle.dc_conf.specs.declared.drivers.Driver.TheVariants.{File, DirTree, PackageDir, Stack, Backup, Debug}
+use Rattle.dc_conf.specs.declared.drivers.Driver.TheVariants.{File, DirTree, PackageDir, Pipe, Stack, Backup, Debug}
 
 -- `true`, read without regard to case
 abbrev pub is_true : List ℕ → Bool
@@ -79,6 +79,10 @@ is_format value = bytes_eq value (codes "822")
 abbrev pub spaced : ℕ → ℕ
 spaced byte = if byte == 44 then 32 else byte
 
+-- an end of a pipe: the number of the descriptor that is used, or none
+abbrev pub is_pipe_end : List ℕ → List ℕ → Bool
+is_pipe_end descriptor value = bytes_eq value descriptor || bytes_eq value (codes "none")
+
 -- the names of a list, which commas and whitespace part
 abbrev pub names_in : List ℕ → List (List ℕ)
 names_in value = plain_words_of (each spaced value)
@@ -136,6 +140,7 @@ abbrev pub driver_rules : Driver → List FieldRule
 driver_rules File = needed (codes "filename") is_path ∷ optional (codes "mode") is_mode ∷ optional (codes "backup") is_boolean ∷ layer_rules
 driver_rules DirTree = folder_rules ++ layer_rules
 driver_rules PackageDir = folder_rules ++ optional (codes "mode") is_mode ∷ layer_rules
+driver_rules Pipe = optional (codes "infd") (is_pipe_end (codes "0")) ∷ optional (codes "outfd") (is_pipe_end (codes "1")) ∷ layer_rules
 driver_rules Stack = needed (codes "stack") has_names ∷ no_layer_rules
 driver_rules Backup = name_of (codes "db") ∷ name_of (codes "backupdb") ∷ no_layer_rules
 driver_rules Debug = name_of (codes "db") ∷ no_layer_rules
@@ -149,12 +154,13 @@ abbrev pub driver_word : Driver → List ℕ
 driver_word File = codes "file"
 driver_word DirTree = codes "dirtree"
 driver_word PackageDir = codes "packagedir"
+driver_word Pipe = codes "pipe"
 driver_word Stack = codes "stack"
 driver_word Backup = codes "backup"
 driver_word Debug = codes "debug"
 
 abbrev pub all_drivers : List Driver
-all_drivers = File ∷ DirTree ∷ PackageDir ∷ Stack ∷ Backup ∷ Debug ∷ []
+all_drivers = File ∷ DirTree ∷ PackageDir ∷ Pipe ∷ Stack ∷ Backup ∷ Debug ∷ []
 
 -- the driver that has this word, read without regard to case
 abbrev pub driver_of : List ℕ → Option Driver

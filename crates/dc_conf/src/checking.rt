@@ -1,7 +1,7 @@
 // Which fault of stanzas decides.
 ghost use Rattle.std.specs.Prelude.{◌≡◌, ◌∷◌, [], IfOk, false, length};
 ghost use Rattle.std.specs.List.{filter, flat_map, list_any};
-ghost use Rattle.dc_conf.specs.ConfFaults.{missing as missing_of, unknown_driver as unknown_driver_of, has_name as has_name_of, is_named as is_named_of, repeated_name as repeated_name_of, same_place as same_place_of, share_place, database_faults, along, head_faults, second_pass as second_pass_of, lone_faults, fault_if as fault_if_of, is_bad as is_bad_by, is_too_many as is_too_many_of, keep_alike as keep_alike_of, driver_in as driver_in_of, nodes_of, third_pass, fourth_pass};
+ghost use Rattle.dc_conf.specs.ConfFaults.{missing as missing_of, unknown_driver as unknown_driver_of, has_name as has_name_of, is_named as is_named_of, repeated_name as repeated_name_of, same_place as same_place_of, share_place, database_faults, along, head_faults, second_pass as second_pass_of, lone_faults, fault_if as fault_if_of, is_bad as is_bad_by, is_too_many as is_too_many_of, most_alike as most_alike_of, keep_alike as keep_alike_of, driver_in as driver_in_of, nodes_of, third_pass, fourth_pass};
 ghost use Rattle.dc_conf.specs.Values.{rules_of};
 ghost use Rattle.dc_conf.specs.Nodes.{names_of, repeats};
 ghost use Rattle.dc_conf.specs.declared.faults.ConfKind.TheVariants.{BadValue};
@@ -100,11 +100,22 @@ fn database_fault(alloc: Global, before: &[List<Field>], stanza: &[Field]) -> Me
     Ok(earlier(named, same_place(alloc, before, stanza)?))
 }
 
-// Whether 256 databases stand before this one, or 16 that keep items as it does.
+// Whether 256 databases stand before this one, or as many as there may be of those that keep items as it does.
 fn is_too_many(before: &[List<Field>], stanza: &[Field]) -> bool
     ensures { result ≡ is_too_many_of before.now stanza.now }
 {
-    256 <= before.len() || 16 <= count_alike(before, driver_in(stanza))
+    let driver = driver_in(stanza);
+    256 <= before.len() || most_alike(driver) <= count_alike(before, driver)
+}
+
+// How many databases of a driver there may be: one pipe, since there is one input and one output.
+fn most_alike(driver: Option<Driver>) -> usize
+    ensures { result ≡ most_alike_of driver }
+{
+    match driver {
+        Some(Driver::Pipe) => 1,
+        _ => 16,
+    }
 }
 
 // How many of the databases keep items as one with this driver does.
@@ -129,7 +140,8 @@ fn keep_alike(one: Option<Driver>, other: Option<Driver>) -> bool
     match (one, other) {
         (Some(Driver::File), Some(Driver::File))
         | (Some(Driver::DirTree), Some(Driver::DirTree))
-        | (Some(Driver::PackageDir), Some(Driver::PackageDir)) => true,
+        | (Some(Driver::PackageDir), Some(Driver::PackageDir))
+        | (Some(Driver::Pipe), Some(Driver::Pipe)) => true,
         _ => false,
     }
 }

@@ -1,5 +1,5 @@
 // A configuration.
-ghost use Rattle.std.specs.Prelude.{◌≡◌, ◌∷◌, true, not, IfOk, codes, map as each};
+ghost use Rattle.std.specs.Prelude.{◌≡◌, ◌∷◌, true, not, IfOk, codes, is_some, map as each};
 ghost use Rattle.std.specs.List.{AllByRecursion, filter};
 ghost use Rattle.std.specs.Option.{option_copied};
 
@@ -41,8 +41,9 @@ impl Model for Conf {
     ghost invariant = { λ c. IsTrue (is_sound (record { config = c.config; templates = c.templates; frontend = c.frontend; priority = c.priority; databases = c.names; specs = c.specs; nodes = c.web })) };
 }
 
-ghost use Rattle.dc_conf.specs.Configuration.{IsAnswer, configuration, spec_of, text_at as text_at_of, truth_at as truth_at_of, extension_by as extension_by_of, mode_by as mode_by_of, is_sound};
+ghost use Rattle.dc_conf.specs.Configuration.{IsAnswer, configuration, spec_of, text_at as text_at_of, truth_at as truth_at_of, extension_by as extension_by_of, mode_by as mode_by_of, infd_by, outfd_by, is_connected as is_connected_of, is_sound};
 ghost use Rattle.dc_conf.specs.ConfFaults.{value_at as value_in, is_made as is_made_of, sort_in as sort_in_of};
+ghost use Rattle.dc_conf.specs.Nodes.{driver_line_of, is_among};
 
 impl Conf {
     /// The name of the database of questions.
@@ -76,6 +77,14 @@ impl Conf {
         ensures { result.now ≡ self.now.databases }
     {
         &self.names
+    }
+
+    /// The line that names the driver of the database of this name, counted from 1. `None` comes exactly where no database has the name.
+    pub fn driver_line(&self, name: &Text) -> Option<u64>
+        ensures line { result ≡ driver_line_of self.now.nodes name.now }
+        ensures known { is_some result ≡ is_among self.now.databases name.now }
+    {
+        self.web.driver_line(name.bytes())
     }
 
     /// The databases that hold items themselves.
@@ -194,6 +203,8 @@ fn read_database(alloc: Global, stanza: &[Field]) -> Mem<LayerSpec>
         extension,
         mode: mode_by(sort, stanza),
         backup: sort == LayerSort::File && truth_at(stanza, b"backup", true),
+        infd: sort == LayerSort::Pipe && is_connected(stanza, b"infd", b"0"),
+        outfd: sort == LayerSort::Pipe && is_connected(stanza, b"outfd", b"1"),
         readonly: truth_at(stanza, b"readonly", false),
         required: truth_at(stanza, b"required", true),
         accept_name,
@@ -208,7 +219,7 @@ fn extension_by(alloc: Global, sort: LayerSort, stanza: &[Field]) -> Mem<Text>
     ensures { IfOk result (λ extension. extension ≡ extension_by_of sort stanza.now) }
 {
     match (sort, field_at(stanza, b"extension")) {
-        (LayerSort::File, _) => Ok(Text::new(alloc)),
+        (LayerSort::File | LayerSort::Pipe, _) => Ok(Text::new(alloc)),
         (LayerSort::Tree | LayerSort::Pack, Some(field)) => field.value.copy(),
         (LayerSort::Tree | LayerSort::Pack, None) => Text::from_bytes(alloc, b".dat"),
     }
@@ -233,7 +244,17 @@ fn truth_at(stanza: &[Field], key: &[u8], default: bool) -> bool
     }
 }
 
-// The permission bits, 600 where no field says them. Of a tree none does.
+// Whether the field names the descriptor that a pipe is read from or written to, or isn't there.
+fn is_connected(stanza: &[Field], key: &[u8], descriptor: &[u8]) -> bool
+    ensures { result ≡ is_connected_of key.now descriptor.now stanza.now }
+{
+    match field_at(stanza, key) {
+        Some(field) => field.value.bytes() == descriptor,
+        None => true,
+    }
+}
+
+// The permission bits, 600 where no field says them. Of a tree and of a pipe none does.
 fn mode_by(sort: LayerSort, stanza: &[Field]) -> u16
     requires { TakesMode sort stanza.now }
     ensures { result ≡ mode_by_of sort stanza.now }

@@ -12,6 +12,8 @@ pub enum Driver {
     DirTree,
     /// A folder holds it, with a file for each prefix of names.
     PackageDir,
+    /// It comes on standard input, and goes out on standard output.
+    Pipe,
     /// Other databases hold it, and are asked one after another.
     Stack,
     /// Another database holds it, and what is written to that is written to a second one too.
@@ -20,10 +22,11 @@ pub enum Driver {
     Debug,
 }
 
-const DRIVERS: [Driver; 6] = [
+const DRIVERS: [Driver; 7] = [
     Driver::File,
     Driver::DirTree,
     Driver::PackageDir,
+    Driver::Pipe,
     Driver::Stack,
     Driver::Backup,
     Driver::Debug,
@@ -50,6 +53,7 @@ impl Driver {
             Driver::File => b"file",
             Driver::DirTree => b"dirtree",
             Driver::PackageDir => b"packagedir",
+            Driver::Pipe => b"pipe",
             Driver::Stack => b"stack",
             Driver::Backup => b"backup",
             Driver::Debug => b"debug",

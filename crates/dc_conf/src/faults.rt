@@ -9,7 +9,7 @@ pub enum ConfKind {
     NoColon,
     /// The stanza has the field already, or an earlier database has the name.
     Twice,
-    /// There are more databases than 256, or more than 16 in files, in trees or in packs.
+    /// There are more databases than 256, more than 16 in files, in trees or in packs, or more than one pipe.
     TooMany,
     /// The first stanza has no `Config`.
     NoConfig,
@@ -33,6 +33,8 @@ pub enum ConfKind {
     Cycle,
     /// Two databases that must not share one do.
     SharedDatabase,
+    /// A database that comes or goes through a pipe is used by a tool that doesn't copy.
+    PipeUse,
 }
 
 /// A fault, and the line that has it, counted from 1.

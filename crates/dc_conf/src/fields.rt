@@ -13,7 +13,7 @@ pub struct Field {
 }
 
 ghost use Rattle.dc_conf.specs.Stanzas.{field_at as field_at_of, first_line as first_line_of};
-ghost use Rattle.dc_conf.specs.ConfFaults.{is_there as is_there_in, value_at as value_in};
+ghost use Rattle.dc_conf.specs.ConfFaults.{is_there as is_there_in, value_at as value_in, line_at as line_in};
 
 /// The field with this key, if the stanza has it.
 pub fn field_at<'a>(stanza: &'a [Field], key: &[u8]) -> Option<&'a Field>
@@ -45,5 +45,15 @@ pub fn value_at<'a>(stanza: &'a [Field], key: &[u8]) -> &'a [u8]
     match field_at(stanza, key) {
         Some(field) => field.value.bytes(),
         None => b"",
+    }
+}
+
+/// The line of the field, 0 where it isn't there.
+pub fn line_at(stanza: &[Field], key: &[u8]) -> u64
+    ensures { result ≡ line_in key.now stanza.now }
+{
+    match field_at(stanza, key) {
+        Some(field) => field.line,
+        None => 0,
     }
 }

@@ -3,7 +3,7 @@ ghost use Rattle.std.specs.Prelude.{◌≡◌, IfOk, not};
 ghost use Rattle.std.specs.List.{flat_map, list_any};
 ghost use Rattle.dc_conf.specs.ConfFaults.{unknown_database as unknown_database_of, naming_faults, one_faults, stack_faults, backup_faults, made_faults, all_named_faults, shared_database as shared_database_of, driver_in as driver_in_of};
 ghost use Rattle.dc_conf.specs.Machine.{least_of};
-ghost use Rattle.dc_conf.specs.Nodes.{is_node, leads_to};
+ghost use Rattle.dc_conf.specs.Nodes.{is_node};
 
 use crate::drivers::Driver;
 use crate::faults::{ConfKind, Fault};
@@ -65,7 +65,7 @@ fn made_fault(alloc: Global, web: &Web, stanza: &[Field]) -> Mem<Option<Fault>>
         Some(Driver::Stack) => stack_fault(alloc, web, stanza),
         Some(Driver::Backup) => backup_fault(alloc, web, stanza),
         Some(Driver::Debug) => one_fault(alloc, web, b"db", stanza),
-        Some(Driver::File | Driver::DirTree | Driver::PackageDir) | None => Ok(None),
+        Some(Driver::File | Driver::DirTree | Driver::PackageDir | Driver::Pipe) | None => Ok(None),
     }
 }
 
@@ -112,7 +112,7 @@ fn naming_fault(web: &Web, name: &[u8], others: &[Text], line: u64) -> Option<Fa
 {
     earlier(
         fault_if(names_unknown(web, others), line, ConfKind::UnknownDatabase),
-        fault_if(some_lead_to(web, others, name), line, ConfKind::Cycle),
+        fault_if(web.some_lead_to(others, name), line, ConfKind::Cycle),
     )
 }
 
@@ -121,13 +121,6 @@ fn names_unknown(web: &Web, names: &[Text]) -> bool
     ensures { result ≡ list_any (λ name. not (is_node web.now name)) names.now }
 {
     names.iter().any(|name| !web.has(name.bytes()))
-}
-
-// Whether one of the names leads to this one.
-fn some_lead_to(web: &Web, names: &[Text], name: &[u8]) -> bool
-    ensures { result ≡ list_any (λ other. leads_to web.now other name.now) names.now }
-{
-    names.iter().any(|other| web.leads_to(other.bytes(), name))
 }
 
 /// The first fault of the fourth pass: the databases of questions and of templates meet.

@@ -3,7 +3,7 @@ ghost use Rattle.std.specs.Prelude.{◌≡◌, IfOk};
 ghost use Rattle.dc_conf.specs.ConfFaults.{form_by as form_by_of, node_of as node_of_stanza, nodes_of as nodes_of_stanzas};
 
 use crate::drivers::Driver;
-use crate::fields::{Field, value_at};
+use crate::fields::{Field, line_at, value_at};
 use crate::places::driver_in;
 use crate::values::names_in;
 use dc_text::{List, Mem, Text};
@@ -22,11 +22,12 @@ pub enum Form {
     Tells(Text),
 }
 
-/// A database: its name, and how it is made.
+/// A database: its name, how it is made, and the line that names its driver, counted from 1.
 #[derive(Drop)]
 pub struct Node {
     pub name: Text,
     pub form: Form,
+    pub line: u64,
 }
 
 /// The databases of stanzas.
@@ -47,7 +48,8 @@ fn node_of(alloc: Global, stanza: &[Field]) -> Mem<Node>
 {
     let name = Text::from_bytes(alloc, value_at(stanza, b"name"))?;
     let form = form_by(alloc, driver_in(stanza), stanza)?;
-    Ok(Node { name, form })
+    let line = line_at(stanza, b"driver");
+    Ok(Node { name, form, line })
 }
 
 fn form_by(alloc: Global, driver: Option<Driver>, stanza: &[Field]) -> Mem<Form>
@@ -61,6 +63,8 @@ fn form_by(alloc: Global, driver: Option<Driver>, stanza: &[Field]) -> Mem<Form>
             Ok(Form::Backs(db, backupdb))
         }
         Some(Driver::Debug) => Ok(Form::Tells(Text::from_bytes(alloc, value_at(stanza, b"db"))?)),
-        Some(Driver::File | Driver::DirTree | Driver::PackageDir) | None => Ok(Form::Holds),
+        Some(Driver::File | Driver::DirTree | Driver::PackageDir | Driver::Pipe) | None => {
+            Ok(Form::Holds)
+        }
     }
 }

@@ -27,7 +27,7 @@ pub fn is_made(stanza: &[Field]) -> bool
 {
     match driver_in(stanza) {
         Some(Driver::Stack | Driver::Backup | Driver::Debug) => true,
-        Some(Driver::File | Driver::DirTree | Driver::PackageDir) | None => false,
+        Some(Driver::File | Driver::DirTree | Driver::PackageDir | Driver::Pipe) | None => false,
     }
 }
 
@@ -38,17 +38,18 @@ pub fn place_in(stanza: &[Field]) -> Option<&Field>
     match driver_in(stanza) {
         Some(Driver::File) => field_at(stanza, b"filename"),
         Some(Driver::DirTree | Driver::PackageDir) => field_at(stanza, b"directory"),
-        Some(Driver::Stack | Driver::Backup | Driver::Debug) | None => None,
+        Some(Driver::Pipe | Driver::Stack | Driver::Backup | Driver::Debug) | None => None,
     }
 }
 
-/// How the database is kept: in one file, unless its driver says a folder.
+/// How the database is kept: in one file, unless its driver says a folder or a pipe.
 pub fn sort_in(stanza: &[Field]) -> LayerSort
     ensures { result ≡ sort_in_of stanza.now }
 {
     match driver_in(stanza) {
         Some(Driver::DirTree) => LayerSort::Tree,
         Some(Driver::PackageDir) => LayerSort::Pack,
+        Some(Driver::Pipe) => LayerSort::Pipe,
         Some(Driver::File | Driver::Stack | Driver::Backup | Driver::Debug) | None => {
             LayerSort::File
         }
@@ -64,7 +65,7 @@ pub fn place_of(stanza: &[Field]) -> &[u8]
         return b"";
     };
     match sort_in(stanza) {
-        LayerSort::File => field.value.bytes(),
+        LayerSort::File | LayerSort::Pipe => field.value.bytes(),
         LayerSort::Tree | LayerSort::Pack => without_last_slash(field.value.bytes()),
     }
 }
@@ -83,6 +84,9 @@ fn paths_at(alloc: Global, sort: LayerSort, place: &[u8]) -> Mem<List<Text>>
     ensures { IfOk result (λ paths. paths ≡ paths_at_of sort place.now) }
 {
     let mut paths = List::new(alloc);
+    if let LayerSort::Pipe = sort {
+        return Ok(paths);
+    }
     paths.push(Text::from_bytes(alloc, place)?)?;
     if let LayerSort::File = sort {
         paths.push(beside(alloc, place, b"-new")?)?;

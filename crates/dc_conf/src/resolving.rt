@@ -1,11 +1,11 @@
 // The databases that names reach.
-ghost use Rattle.std.specs.Prelude.{◌≡◌, ◌∷◌, [], IfOk, true, length, Some};
+ghost use Rattle.std.specs.Prelude.{◌≡◌, ◌∷◌, [], IfOk, true, is_some, length, Some};
 ghost use Rattle.std.specs.List.{AllByRecursion, filter, find, list_all, list_any};
 ghost use Rattle.std.specs.Option.{option_copied};
 ghost use Rattle.std.specs.Str.{bytes_eq};
 ghost use Rattle.dc_conf.specs.Configuration.{IsResolved, IsOnce, AreDisjoint, are_apart, have_names_apart, fits_sort, is_well_made, place_in as place_in_of, IsPlan, HavePlans};
 ghost use Rattle.dc_conf.specs.Machine.{unknown_from};
-ghost use Rattle.dc_conf.specs.Nodes.{form_at as form_at_of, is_node, leads_to};
+ghost use Rattle.dc_conf.specs.Nodes.{driver_line_of, form_at as form_at_of, is_node, leads_to};
 ghost use Rattle.dc_conf.specs.Plans.{IsOver};
 ghost use Rattle.dc_conf.specs.Trees.{shape};
 
@@ -27,6 +27,8 @@ impl Conf {
         ensures names { IfOk result (λ resolved. have_names_apart resolved.specs ≡ true) }
         // The extension and the permission bits of each are such as its sort takes.
         ensures sorts { IfOk result (λ resolved. list_all fits_sort resolved.specs ≡ true) }
+        // The line of the driver of each is known.
+        ensures made { IfOk result (λ resolved. list_all (λ spec. is_some (driver_line_of self.now.nodes spec.name)) resolved.specs ≡ true) }
         // A plan speaks of these databases alone, and of each in one place at most.
         ensures over { IfOk result (λ resolved. AllByRecursion (λ plan. IsOver (shape plan) (length resolved.specs)) resolved.plans) }
         ensures once { IfOk result (λ resolved. AllByRecursion IsOnce resolved.plans) }
@@ -75,19 +77,12 @@ fn reached(
     let mut specs = List::new(alloc);
     let mut rest = databases;
     while let [database, tail @ ..] = rest {
-        if some_lead_to(web, roots, database.name.bytes()) {
+        if web.some_lead_to(roots, database.name.bytes()) {
             specs.push(database.copied()?)?;
         }
         rest = tail;
     }
     Ok(specs)
-}
-
-// Whether one of the roots leads to the name.
-fn some_lead_to(web: &Web, roots: &[Text], name: &[u8]) -> bool
-    ensures { result ≡ list_any (λ root. leads_to web.now root name.now) roots.now }
-{
-    roots.iter().any(|root| web.leads_to(root.bytes(), name))
 }
 
 fn plans_of(alloc: Global, nodes: &[Node], specs: &[LayerSpec], roots: &[Text]) -> Mem<List<Plan>>

@@ -9,7 +9,7 @@ use crate::drivers::Driver;
 use crate::fields::{Field, is_there};
 use crate::values::{
     has_names, is_boolean, is_database_name, is_directory, is_extension, is_format, is_mode,
-    is_path, is_utf8,
+    is_path, is_pipe_end, is_utf8,
 };
 
 /// Whether a field that the driver needs is missing.
@@ -22,7 +22,7 @@ pub fn lacks_field(driver: Option<Driver>, stanza: &[Field]) -> bool
         Some(Driver::Stack) => !is_there(stanza, b"stack"),
         Some(Driver::Backup) => !is_there(stanza, b"db") || !is_there(stanza, b"backupdb"),
         Some(Driver::Debug) => !is_there(stanza, b"db"),
-        None => false,
+        Some(Driver::Pipe) | None => false,
     }
 }
 
@@ -47,6 +47,7 @@ fn is_bad_for(driver: Option<Driver>, field: &Field) -> bool
         Some(Driver::PackageDir) => {
             is_bad_in_folder(field) || is_bad_mode(field) || is_bad_in_layer(field)
         }
+        Some(Driver::Pipe) => is_bad_in_pipe(field),
         Some(Driver::Stack) => is_bad_in_stack(field),
         Some(Driver::Backup | Driver::Debug) => is_of_layer(field),
         None => false,
@@ -77,6 +78,16 @@ fn is_bad_in_folder(field: &Field) -> bool
     let value = field.value.bytes();
     (b"directory".as_slice() == key && !is_directory(value))
         || (b"extension".as_slice() == key && !is_extension(value))
+}
+
+fn is_bad_in_pipe(field: &Field) -> bool
+    ensures { result ≡ is_bad_by (driver_rules driver.Pipe) field.now }
+{
+    let key = field.key.bytes();
+    let value = field.value.bytes();
+    (b"infd".as_slice() == key && !is_pipe_end(b"0", value))
+        || (b"outfd".as_slice() == key && !is_pipe_end(b"1", value))
+        || is_bad_in_layer(field)
 }
 
 fn is_bad_in_stack(field: &Field) -> bool

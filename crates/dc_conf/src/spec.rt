@@ -3,12 +3,14 @@ ghost use Rattle.std.specs.Prelude.{◌≡◌, IfOk};
 
 use dc_text::{Copied, Mem, Text};
 
-/// How a database is kept: in one file, in a folder with a file for each item, or in one with a file for each prefix.
+/// How a database is kept: in one file, in a folder with a file for each item, or in one with a file for each prefix. One isn't kept, and comes
+/// and goes through a pipe.
 #[derive(Clone, Copy, Debug, PartialEq, Eq)]
 pub enum LayerSort {
     File,
     Tree,
     Pack,
+    Pipe,
 }
 
 /// A database that holds items itself (debconf.conf(5)).
@@ -16,14 +18,18 @@ pub enum LayerSort {
 pub struct LayerSpec {
     pub name: Text,
     pub sort: LayerSort,
-    /// The path of the file or the folder.
+    /// The path of the file or the folder. One that comes through a pipe has none.
     pub place: Text,
-    /// What the names of the files in the folder end with. A database in one file has none.
+    /// What the names of the files in the folder end with. Only a database in a folder has one.
     pub extension: Text,
     /// The permission bits of its files.
     pub mode: u16,
     /// Whether the text before each save is kept beside the file.
     pub backup: bool,
+    /// Whether it is read from standard input.
+    pub infd: bool,
+    /// Whether it is written to standard output.
+    pub outfd: bool,
     pub readonly: bool,
     /// Whether a run needs it. One that isn't needed is left out where it can't be read.
     pub required: bool,
@@ -49,6 +55,8 @@ impl Copied for LayerSpec {
             extension,
             mode: self.mode,
             backup: self.backup,
+            infd: self.infd,
+            outfd: self.outfd,
             readonly: self.readonly,
             required: self.required,
             accept_name,

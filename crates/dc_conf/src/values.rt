@@ -4,7 +4,7 @@ ghost use Rattle.std.specs.Char.{is_ascii_alphanumeric};
 ghost use Rattle.std.specs.List.{list_all, slice_split};
 ghost use Rattle.std.specs.Str.{bytes_eq, is_utf8 as is_utf8_of};
 ghost use Rattle.dc_text.specs.Bytes.{lower};
-ghost use Rattle.dc_conf.specs.Values.{is_boolean as is_boolean_of, is_true as is_true_of, is_mode as is_mode_of, is_octal_digit as is_octal_digit_of, octal as octal_of, is_path as is_path_of, is_path_part as is_path_part_of, without_slash as without_slash_of, without_last_slash as without_last_slash_of, is_directory as is_directory_of, is_extension as is_extension_of, is_database_name as is_database_name_of, is_database_byte as is_database_byte_of, is_format as is_format_of, names_in as names_in_of, has_names as has_names_of, spaced as spaced_of};
+ghost use Rattle.dc_conf.specs.Values.{is_boolean as is_boolean_of, is_true as is_true_of, is_mode as is_mode_of, is_octal_digit as is_octal_digit_of, octal as octal_of, is_path as is_path_of, is_path_part as is_path_part_of, without_slash as without_slash_of, without_last_slash as without_last_slash_of, is_directory as is_directory_of, is_extension as is_extension_of, is_database_name as is_database_name_of, is_database_byte as is_database_byte_of, is_format as is_format_of, is_pipe_end as is_pipe_end_of, names_in as names_in_of, has_names as has_names_of, spaced as spaced_of};
 
 use dc_text::bytes::is_space;
 use dc_text::{List, Mem, Text};
@@ -192,4 +192,11 @@ pub fn is_format(value: &[u8]) -> bool
     ensures { result ≡ is_format_of value.now }
 {
     value == b"822".as_slice()
+}
+
+/// An end of a pipe: the number of the descriptor that is used, or `none`.
+pub fn is_pipe_end(descriptor: &[u8], value: &[u8]) -> bool
+    ensures { result ≡ is_pipe_end_of descriptor.now value.now }
+{
+    value == descriptor || value == b"none".as_slice()
 }

@@ -6,7 +6,7 @@ use Rattle.dc_conf.proofs.webs.rows_of.Goals as goal
 
 pub loop-place-init : goal.loop-place-init
 loop-place-init c = record {
-  rows = c.in_ok-rows.ensures ∙ direct_rows_are c.args.nodes.now [] c.args.nodes.now refl c.requires ∙ ap (rows_over c.args.nodes.now) (sym (drop_all c.args.nodes.now c.args.nodes.now));
+  rows = c.in_ok-rows.ensures ∙ direct_rows_are c.args.nodes.now [] c.args.nodes.now refl c.requires.apart ∙ ap (rows_over c.args.nodes.now) (sym (drop_all c.args.nodes.now c.args.nodes.now));
   within = omega arith;
 }
 

@@ -1,14 +1,15 @@
 use Rattle.std.proofs.Common.{◌≡◌, ◌∙◌, true, List, length, sym, subst}
 use Rattle.std.specs.List.{AllByRecursion, filter, list_all, list_any}
+use Rattle.std.specs.Prelude.{is_some}
 use Rattle.dc_conf.specs.declared.spec.LayerSpec.{LayerSpec}
 use Rattle.dc_conf.specs.Configuration.{are_apart, have_names_apart, fits_sort, reached, HavePlans}
 use Rattle.dc_conf.specs.Machine.{unknown_from}
-use Rattle.dc_conf.specs.Nodes.{is_among, is_node, leads_to}
+use Rattle.dc_conf.specs.Nodes.{is_among, is_node, driver_line_of, leads_to}
 use Rattle.dc_conf.specs.Plans.{IsOver}
 use Rattle.dc_conf.specs.Trees.{shape}
 use Rattle.dc_conf.proofs.PlanLemmas.{have_same}
 use Rattle.dc_conf.proofs.ResolveLemmas.{unknown_is, all_known}
-use Rattle.dc_conf.proofs.ResolvedLemmas.{places_apart, names_apart, sorts_fit, are_known, all_over, all_once, all_disjoint}
+use Rattle.dc_conf.proofs.ResolvedLemmas.{places_apart, names_apart, sorts_fit, lines_there, are_known, all_over, all_once, all_disjoint}
 use Rattle.dc_conf.proofs.TestLemmas.{not_some}
 use Rattle.dc_conf.proofs.conf.Conf.resolve.Goals as goal
 
@@ -60,6 +61,14 @@ returns-clause-sorts c =
     c.in_ok-specs.ensures
     ∙ (λ i. filter (λ (spec : LayerSpec). list_any (λ root. leads_to (c.web.ensures i) root spec.name) (c.as_slice-3.ensures i)) (c.specs.ensures.value i)) in
     subst (λ (ss : List LayerSpec). list_all fits_sort ss ≡ true) (sym specs) (sorts_fit c.args.self.now c.args.roots.now c.specs.ensures.sound)
+
+pub returns-clause-made : goal.returns-clause-made
+returns-clause-made c =
+    let specs : c.in_ok-specs.specs ≡ reached c.args.self.now c.args.roots.now =
+    c.in_ok-specs.ensures
+    ∙ (λ i. filter (λ (spec : LayerSpec). list_any (λ root. leads_to (c.web.ensures i) root spec.name) (c.as_slice-3.ensures i)) (c.specs.ensures.value i)) in
+    subst (λ (ss : List LayerSpec). list_all (λ spec. is_some (driver_line_of c.args.self.now.nodes spec.name)) ss ≡ true) (sym specs)
+    (lines_there c.args.self.now c.args.roots.now c.specs.ensures.sound)
 
 pub returns-clause-over : goal.returns-clause-over
 returns-clause-over c =

@@ -14,5 +14,5 @@ returns-else-eq c =
     let flag : Bool = unwrap_or (slice_get (led_row c.args.self.now c.args.name.now) place) false in
     let differ : bytes_eq c.args.name.now c.args.other.now ≡ false = sym c.eq.ensures ∙ c.if-eq.false in
     c.flag_at.ensures
-    ∙ (λ i. unwrap_or (slice_get (c.row.ensures i) ((c.place_of.ensures ∙ ap (λ nodes. position_or_len (bytes_eq c.args.other.now) (names_of nodes)) (c.as_slice.ensures ∙ c.self.view_is)) i)) false)
+    ∙ (λ i. unwrap_or (slice_get (c.row.ensures i) (c.requires i)) false)
     ∙ sym (ap (λ b. b || flag) differ) ∙ flag_led c.args.self.now c.args.name.now c.args.other.now
