@@ -31,6 +31,8 @@ fn layer(rt: &impl Abort, alloc: Global, rejected: &[u8]) -> Box<dyn Layer> {
         extension: Text::new(alloc),
         mode: 0o600,
         backup: false,
+        infd: false,
+        outfd: false,
         readonly: false,
         required: false,
         accept_name: None,

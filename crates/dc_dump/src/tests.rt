@@ -28,6 +28,8 @@ fn layer(rt: &impl Abort, alloc: Global, records: &[u8]) -> Box<dyn Layer> {
         extension: Text::new(alloc),
         mode: 0o600,
         backup: false,
+        infd: false,
+        outfd: false,
         readonly: false,
         required: true,
         accept_name: None,

@@ -3,7 +3,7 @@ use Rattle.std.specs.Prelude.{ℕ, ◌-◌, Bool, true, not, ◌&&◌, ◌||◌,
 use Rattle.std.specs.List.{list_all, list_any, slice_split, before_first, ends_with}
 use Rattle.dc_text.specs.Ascii.{slash}
 use Rattle.dc_conf.specs.declared.spec.LayerSort.{LayerSort}
-use Rattle.dc_conf.specs.declared.spec.LayerSort.TheVariants.{File, Tree, Pack}
+use Rattle.dc_conf.specs.declared.spec.LayerSort.TheVariants.{File, Tree, Pack, Pipe}
 use Rattle.dc_conf.specs.declared.spec.LayerSpec.{LayerSpec}
 
 -- the parts of a name, between its slashes
@@ -35,6 +35,7 @@ abbrev pub has_place_for : LayerSort → List ℕ → List ℕ → Bool
 has_place_for File extension name = true
 has_place_for Tree extension name = fits_tree extension name
 has_place_for Pack extension name = is_short (prefix name)
+has_place_for Pipe extension name = true
 
 -- the path of the file of this name in the folder of the database
 abbrev pub path_in : LayerSpec → List ℕ → List ℕ

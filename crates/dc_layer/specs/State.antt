@@ -1,6 +1,6 @@
 -- What a layer is, what changes make of it, and the files that it asks for.
-use Rattle.std.specs.Prelude.{ℕ, Bool, true, false, not, ◌&&◌, List, [], ◌∷◌, map as each, filter, fold, Option, Some, None, if◌then◌else◌}
-use Rattle.std.specs.Option.{option_map, option_map_or}
+use Rattle.std.specs.Prelude.{ℕ, Bool, true, false, not, ◌&&◌, ◌||◌, codes, List, [], ◌∷◌, map as each, filter, fold, Option, Some, None, if◌then◌else◌}
+use Rattle.std.specs.Option.{option_map, option_map_or, option_or}
 use Rattle.std.specs.List.{flat_map}
 use Rattle.std.specs.Str.{bytes_eq}
 use Rattle.std.specs.FinMap as map
@@ -14,7 +14,7 @@ use Rattle.dc_item.specs.declared.op.After.{After}
 use Rattle.dc_item.specs.declared.op.After.TheVariants.{Same, Changed, Gone}
 pub use Rattle.dc_table.specs.Tracked.{Table, is_put, touch, owned_in, owned}
 use Rattle.dc_conf.specs.declared.spec.LayerSort.{LayerSort}
-use Rattle.dc_conf.specs.declared.spec.LayerSort.TheVariants.{File, Tree, Pack}
+use Rattle.dc_conf.specs.declared.spec.LayerSort.TheVariants.{File, Tree, Pack, Pipe}
 use Rattle.dc_conf.specs.declared.spec.LayerSpec.{LayerSpec}
 use Rattle.dc_template.specs.declared.kinds.Kind.{Kind}
 use Rattle.dc_layer.specs.declared.image.Image.{Image}
@@ -114,27 +114,53 @@ prefix_image spec table front = image_in spec front (unless_nil (text_of (flat_m
 abbrev pub firsts : List (List ℕ) → List (List ℕ)
 firsts names = fold touch [] names
 
+-- the printed table as it goes out through a pipe, which is no file
+abbrev pub pipe_image : Table → Image
+pipe_image table = record { path = codes "-"; mode = 0; bytes = Some (table_text table); old = None }
+
 -- what changed makes a layer ask for: in one file, that file; in a folder with a file for each item, the file of each touched name,
--- in their order; and in one with a file for each prefix, the file of each prefix of a touched name, as it comes first
+-- in their order; in one with a file for each prefix, the file of each prefix of a touched name, as it comes first; and one that goes
+-- out through a pipe, its printed table
 abbrev pub images_by : LayerSort → LayerSpec → LayerState → List Image
 images_by File spec layer = if is_nil layer.touched then [] else image_of spec layer.table layer.old ∷ []
 images_by Tree spec layer = each (item_image spec layer.table) (firsts layer.touched)
 images_by Pack spec layer = each (prefix_image spec layer.table) (firsts (each prefix layer.touched))
+images_by Pipe spec layer = if is_nil layer.touched || not spec.outfd then [] else pipe_image layer.table ∷ []
 
 abbrev pub is_file : LayerSort → Bool
 is_file File = true
-is_file Tree = false
-is_file Pack = false
+is_file _ = false
+
+abbrev pub is_pipe : LayerSort → Bool
+is_pipe Pipe = true
+is_pipe _ = false
 
 -- the files that a layer asks for
 abbrev pub images : LayerState → List Image
 images layer = option_map_or (λ spec. images_by layer.sort spec layer) layer.spec []
 
+-- those that are saved in files: all but what goes out through a pipe
+abbrev pub file_images : LayerState → List Image
+file_images layer = if is_pipe layer.sort then [] else images layer
+
+-- the text of the first image, if there is one
+abbrev pub first_text : List Image → Option (List ℕ)
+first_text [] = None
+first_text (image ∷ images) = image.bytes
+
+-- the text that goes out through a pipe, if one does
+abbrev pub piped : LayerState → Option (List ℕ)
+piped layer = if is_pipe layer.sort then first_text (images layer) else None
+
+-- the one that goes out of all these layers
+abbrev pub piped_of : List LayerState → Option (List ℕ)
+piped_of [] = None
+piped_of (layer ∷ layers) = option_or (piped layer) (piped_of layers)
+
 -- the text that is kept of a layer's file once its images are saved: in one file, with backup, the text that was saved
 abbrev pub old_by : LayerSort → LayerSpec → LayerState → Option (List ℕ)
 old_by File spec layer = if is_nil layer.touched then layer.old else if spec.backup then Some (table_text layer.table) else layer.old
-old_by Tree spec layer = layer.old
-old_by Pack spec layer = layer.old
+old_by _ spec layer = layer.old
 
 abbrev pub old_after : LayerState → Option (List ℕ)
 old_after layer = option_map_or (λ spec. old_by layer.sort spec layer) layer.spec layer.old

@@ -16,6 +16,7 @@ pub fn has_place_for(sort: LayerSort, extension: &[u8], name: &[u8]) -> bool
         LayerSort::File => true,
         LayerSort::Tree => fits_tree(extension, name),
         LayerSort::Pack => is_short(prefix(name)),
+        LayerSort::Pipe => true,
     }
 }
 

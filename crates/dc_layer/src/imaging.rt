@@ -6,7 +6,7 @@ ghost use Rattle.dc_text.specs.Lines.{text_of};
 ghost use Rattle.dc_item.specs.Printed.{record_lines};
 ghost use Rattle.dc_layer.specs.Folders.{prefix as prefix_of};
 ghost use Rattle.dc_layer.specs.PrefixTexts.{empty_texts as empty_texts_of, with_records};
-ghost use Rattle.dc_layer.specs.State.{image_of, image_in as image_in_of, item_image as item_image_of, prefix_image, firsts, unless_nil};
+ghost use Rattle.dc_layer.specs.State.{image_of, pipe_image as pipe_image_of, image_in as image_in_of, item_image as item_image_of, prefix_image, firsts, unless_nil};
 
 use crate::folders::{path_in, prefix};
 use crate::image::Image;
@@ -25,6 +25,20 @@ pub fn file_image(spec: &LayerSpec, table: &ItemTable, old: &Option<Text>) -> Me
     let old = if spec.backup { copy_of(old)? } else { None };
     let bytes = table.print()?;
     Ok(image(spec, path, Some(bytes), old))
+}
+
+/// The printed table, as it goes out through a pipe.
+pub fn pipe_image(alloc: Global, table: &ItemTable) -> Mem<Image>
+    ensures { IfOk result (λ image. image ≡ pipe_image_of table.now.items) }
+{
+    let path = Text::from_bytes(alloc, b"-")?;
+    let bytes = table.print()?;
+    Ok(Image {
+        path,
+        mode: 0,
+        bytes: Some(bytes),
+        old: None,
+    })
 }
 
 // A file of the layer.

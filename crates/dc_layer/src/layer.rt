@@ -6,7 +6,7 @@ ghost use Rattle.std.specs.Option.{option_copied};
 ghost use Rattle.std.specs.Str.{bytes_eq};
 ghost use Rattle.dc_item.specs.Table.{table_of};
 ghost use Rattle.dc_item.specs.declared.op.Op.TheVariants.{Put};
-ghost use Rattle.dc_layer.specs.State.{LayerState, blank, set_up as set_up_with, taken_in, without_items, is_writable, admits, made_at, after_change, taken_of, refusal, owned, images as images_of, saved as saved_state};
+ghost use Rattle.dc_layer.specs.State.{LayerState, blank, set_up as set_up_with, taken_in, without_items, is_writable, admits, made_at, after_change, taken_of, refusal, owned, is_file, images as images_of, saved as saved_state};
 ghost use Rattle.dc_layer.specs.Rules.{rules_of, are_patterns, are_plain};
 
 use crate::image::Image;
@@ -133,8 +133,8 @@ pub trait Layer: Drop {
         ensures images { IfOk result (λ images. images ≡ images_of (state self.now)) }
         ensures distinct { IsDistinct bytes_eq (state self.now).touched };
 
-    /// Takes note that the layer's images were saved.
+    /// Takes note that the layer's images were saved. Only one in one file asks which they were.
     fn mark_saved(&mut self, saved: List<Image>)
-        requires { saved ≡ images_of (state self.old) }
+        requires { is_file (state self.old).sort ≡ true → saved ≡ images_of (state self.old) }
         ensures { state self.new ≡ saved_state (state self.old) };
 }

@@ -7,7 +7,7 @@ ghost use Rattle.dc_layer.specs.State.{blank, is_put, images_by, is_file};
 
 use crate::folders::has_place_for;
 use crate::image::Image;
-use crate::imaging::{file_image, item_images, prefix_images};
+use crate::imaging::{file_image, item_images, pipe_image, prefix_images};
 use crate::layer::{Layer, LayerError, Taken};
 use crate::pattern::PatternError;
 use crate::set_up::SetUp;
@@ -58,7 +58,19 @@ impl LayerCore {
                 let names = self.table.touched()?;
                 prefix_images(self.alloc, spec, &self.table, names.as_slice())
             }
+            LayerSort::Pipe => self.piped_images(spec),
         }
+    }
+
+    // The printed table, where something is touched and it goes out.
+    fn piped_images(&self, spec: &LayerSpec) -> Mem<List<Image>>
+        ensures { IfOk result (λ images. images ≡ images_by LayerSort.Pipe spec.now (⟦<LayerCore as Layer>⟧.state self.now)) }
+    {
+        let mut images = List::new(self.alloc);
+        if self.table.is_touched() && spec.outfd {
+            images.push(pipe_image(self.alloc, &self.table)?)?;
+        }
+        Ok(images)
     }
 
     // The one file, where something is touched.

@@ -20,5 +20,5 @@ pub use layer::{Layer, LayerError, Taken};
 pub use layer_core::LayerCore;
 pub use pattern::{Pattern, PatternError};
 pub use rules::LayerRules;
-pub use sorted::{FileLayer, FileSort, Sort, SortedLayer};
+pub use sorted::{FileLayer, FileSort, PipeLayer, PipeSort, Sort, SortedLayer};
 pub use tired::TiredLayer;

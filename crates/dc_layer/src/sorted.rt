@@ -2,7 +2,7 @@
 ghost use Rattle.std.specs.Prelude.{◌≡◌};
 ghost use Rattle.dc_layer.specs.State.{blank};
 ghost use Rattle.dc_conf.specs.declared.spec.LayerSort.{LayerSort};
-ghost use Rattle.dc_conf.specs.declared.spec.LayerSort.TheVariants.{File};
+ghost use Rattle.dc_conf.specs.declared.spec.LayerSort.TheVariants.{File, Pipe};
 
 use crate::image::Image;
 use crate::layer::{Layer, LayerError, Taken};
@@ -36,6 +36,18 @@ impl Sort for FileSort {
     }
 }
 
+/// A pipe: a text of records that comes on standard input, and goes out on standard output (debconf.conf(5), Pipe).
+#[derive(Drop)]
+pub struct PipeSort;
+
+impl Sort for PipeSort {
+    ghost sort = { Pipe };
+
+    fn value() -> LayerSort {
+        LayerSort::Pipe
+    }
+}
+
 /// A layer of the sort.
 #[derive(Drop)]
 pub struct SortedLayer<S: Sort> {
@@ -45,6 +57,9 @@ pub struct SortedLayer<S: Sort> {
 
 /// A layer in one file.
 pub type FileLayer = SortedLayer<FileSort>;
+
+/// A layer that comes and goes through a pipe.
+pub type PipeLayer = SortedLayer<PipeSort>;
 
 impl<S: Sort> SortedLayer<S> {
     /// A layer that holds nothing and wasn't set up.

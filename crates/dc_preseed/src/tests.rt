@@ -192,6 +192,8 @@ fn layer(rt: &impl Abort, alloc: Global) -> Box<dyn Layer> {
         extension: Text::new(alloc),
         mode: 0o600,
         backup: false,
+        infd: false,
+        outfd: false,
         readonly: false,
         required: true,
         accept_name: None,

@@ -32,6 +32,8 @@ fn layer(rt: &impl Abort, alloc: Global, is: Is, records: &[u8]) -> Box<dyn Laye
         extension: Text::new(alloc),
         mode: 0o600,
         backup: false,
+        infd: false,
+        outfd: false,
         readonly: matches!(is, Is::Closed),
         required: true,
         accept_name: None,

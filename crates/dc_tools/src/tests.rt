@@ -24,6 +24,8 @@ fn layer(rt: &impl Abort, alloc: Global, rejected: &[u8], records: &[u8]) -> Box
         extension: Text::new(alloc),
         mode: 0o600,
         backup: false,
+        infd: false,
+        outfd: false,
         readonly: false,
         required: true,
         accept_name: None,
