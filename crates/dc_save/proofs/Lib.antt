@@ -6,3 +6,4 @@ pub mod Ends
 pub mod PlaceLemmas
 pub mod DiskState
 pub mod TableLemmas
+pub mod PipeLemmas

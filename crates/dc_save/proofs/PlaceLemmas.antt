@@ -10,7 +10,7 @@ use Rattle.std.specs.Str.{bytes_eq}
 use Rattle.dc_text.specs.Maps.{AreDistinct}
 use Rattle.dc_conf.specs.declared.spec.LayerSpec.{LayerSpec}
 use Rattle.dc_conf.specs.declared.spec.LayerSort.{LayerSort}
-use Rattle.dc_conf.specs.declared.spec.LayerSort.TheVariants.{File, Tree, Pack}
+use Rattle.dc_conf.specs.declared.spec.LayerSort.TheVariants.{File, Tree, Pack, Pipe}
 use Rattle.dc_conf.specs.ConfFaults.{meet, is_front}
 use Rattle.dc_conf.specs.Values.{is_extension}
 use Rattle.dc_conf.specs.Configuration.{paths_at, places_meet, are_apart, fits_sort, takes_extension, takes_mode}
@@ -19,7 +19,7 @@ use Rattle.dc_outside.specs.Disk.{Among}
 use Rattle.std.specs.Option.{option_map_or}
 use Rattle.dc_text.specs.Bytes.{is_nil}
 use Rattle.dc_layer.specs.Folders.{path_in, prefix}
-use Rattle.dc_layer.specs.State.{LayerState, images, images_by, image_of, item_image, prefix_image, firsts, touch}
+use Rattle.dc_layer.specs.State.{LayerState, file_images, is_pipe, images_by, image_of, item_image, prefix_image, firsts, touch}
 use Rattle.dc_save.specs.Saving.{all_images, paths_of, new_path, old_path, ShareNone, AreApart}
 use Rattle.dc_save.specs.Places.{AreNamed, AreOwn, AreOf, AreSetUpFor}
 
@@ -225,6 +225,7 @@ abbrev EndsWell : LayerSort → List ℕ → Type 0
 EndsWell File extension = Unit {0}
 EndsWell Tree extension = IsEnding extension
 EndsWell Pack extension = IsEnding extension
+EndsWell Pipe extension = Unit {0}
 
 abbrev EndWell : List LayerSpec → Type 0
 EndWell specs = AllByRecursion (λ spec. EndsWell spec.sort spec.extension) specs
@@ -242,6 +243,7 @@ ends_well : (sort : LayerSort) (extension : List ℕ) → takes_extension sort e
 ends_well File extension e = tt
 ends_well Tree extension e = is_ending extension e
 ends_well Pack extension e = is_ending extension e
+ends_well Pipe extension e = tt
 
 all_end_well : (specs : List LayerSpec) → list_all fits_sort specs ≡ true → EndWell specs
 all_end_well [] e = tt
@@ -262,6 +264,7 @@ own_fine spec images File is ends (inl none) = subst (IsFine spec) (sym none) (r
 own_fine spec images File is ends (inr one) = subst (IsFine spec) (sym one.1) (record { apart = (tt, tt); within = (file_within spec one.0 is one.2, tt) })
 own_fine spec images Tree is ends named = named_fine spec images (ap (λ (s : LayerSort). paths_at s spec.place) is) ends named
 own_fine spec images Pack is ends named = named_fine spec images (ap (λ (s : LayerSort). paths_at s spec.place) is) ends named
+own_fine spec images Pipe is ends none = subst (IsFine spec) (sym none) (record { apart = tt; within = tt })
 
 -- ---- of several databases
 
@@ -343,18 +346,19 @@ prefix_paths : (spec : LayerSpec) (layer : LayerState) (names : List (List ℕ))
 prefix_paths spec layer [] = refl
 prefix_paths spec layer (n ∷ names) = ap (λ l. path_in spec n ∷ l) (prefix_paths spec layer names)
 
-own_of : (sort : LayerSort) (spec : LayerSpec) (layer : LayerState) → AreOwn sort spec (images_by sort spec layer)
+own_of : (sort : LayerSort) (spec : LayerSpec) (layer : LayerState) → AreOwn sort spec (cond (is_pipe sort) [] (images_by sort spec layer))
 own_of File spec layer = one_at_most (is_nil layer.touched) where
   one_at_most : (b : Bool) → AreOwn File spec (cond b [] (image_of spec layer.table layer.old ∷ []))
   one_at_most true = inl refl
   one_at_most false = inr (image_of spec layer.table layer.old, refl, refl)
 own_of Tree spec layer = record { names = firsts layer.touched; apart = firsts_distinct layer.touched; paths = item_paths spec layer (firsts layer.touched) }
 own_of Pack spec layer = record { names = firsts (each prefix layer.touched); apart = firsts_distinct (each prefix layer.touched); paths = prefix_paths spec layer (firsts (each prefix layer.touched)) }
+own_of Pipe spec layer = refl
 
-pub layers_of : (layers : List LayerState) (specs : List LayerSpec) → AreSetUpFor layers specs → AreOf specs (all_images (each images layers))
+pub layers_of : (layers : List LayerState) (specs : List LayerSpec) → AreSetUpFor layers specs → AreOf specs (all_images (each file_images layers))
 layers_of [] [] e = refl
 layers_of [] (spec ∷ specs) e = absurd e
 layers_of (layer ∷ layers) [] e = absurd e
 layers_of (layer ∷ layers) (spec ∷ specs) e =
-    let found : images layer ≡ images_by spec.sort spec layer = (λ i. option_map_or (λ s. images_by (e.0.1 i) s layer) (e.0.0 i) []) in
-    (images layer, all_images (each images layers), refl, subst (AreOwn spec.sort spec) (sym found) (own_of spec.sort spec layer), layers_of layers specs e.1)
+    let found : file_images layer ≡ cond (is_pipe spec.sort) [] (images_by spec.sort spec layer) = (λ i. cond (is_pipe (e.0.1 i)) [] (option_map_or (λ s. images_by (e.0.1 i) s layer) (e.0.0 i) [])) in
+    (file_images layer, all_images (each file_images layers), refl, subst (AreOwn spec.sort spec) (sym found) (own_of spec.sort spec layer), layers_of layers specs e.1)

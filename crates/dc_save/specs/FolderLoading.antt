@@ -17,7 +17,7 @@ use Rattle.dc_item.specs.Records.{Reads, IsBad}
 use Rattle.dc_item.specs.Table.{table_of}
 use Rattle.dc_item.specs.declared.entry.Entry.{Entry}
 use Rattle.dc_conf.specs.declared.spec.LayerSort.{LayerSort}
-use Rattle.dc_conf.specs.declared.spec.LayerSort.TheVariants.{File, Tree, Pack}
+use Rattle.dc_conf.specs.declared.spec.LayerSort.TheVariants.{File, Tree, Pack, Pipe}
 use Rattle.dc_conf.specs.declared.spec.LayerSpec.{LayerSpec}
 use Rattle.dc_layer.specs.Folders.{prefix, fits_tree}
 use Rattle.dc_layer.specs.State.{LayerState, without_items}
@@ -34,6 +34,7 @@ abbrev pub is_front : LayerSort → List ℕ → List ℕ → Bool
 is_front File extension front = false
 is_front Tree extension front = is_name front && fits_tree extension front
 is_front Pack extension front = is_name front && not (list_any (λ byte. byte == slash) front)
+is_front Pipe extension front = false
 
 -- what stands before the extension
 abbrev pub front_of : LayerSpec → List ℕ → List ℕ
@@ -58,12 +59,14 @@ abbrev pub belongs : LayerSort → List ℕ → Entry → Bool
 belongs File front entry = true
 belongs Tree front entry = bytes_eq entry.name front
 belongs Pack front entry = bytes_eq (prefix entry.name) front
+belongs Pipe front entry = true
 
 -- a file in a tree holds a record
 abbrev pub lacks_one : LayerSort → List Entry → Bool
 lacks_one File entries = false
 lacks_one Tree entries = is_nil entries
 lacks_one Pack entries = false
+lacks_one Pipe entries = false
 
 -- The line at which the records of a file aren't those that it is for: that of the first other one, and else line 1 where it lacks
 -- its own.

@@ -2,6 +2,8 @@ pub mod FileTurns
 pub mod FolderLoading
 pub mod Found
 pub mod Loading
+pub mod PipeLoading
+pub mod PipeTurns
 pub mod Places
 pub mod Saving
 pub mod Steps

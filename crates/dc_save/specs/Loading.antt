@@ -6,7 +6,7 @@ use Rattle.dc_item.specs.Records.{Reads, IsBad}
 use Rattle.dc_item.specs.Table.{table_of}
 use Rattle.dc_item.specs.declared.entry.Entry.{Entry}
 use Rattle.dc_conf.specs.declared.spec.LayerSort.{LayerSort}
-use Rattle.dc_conf.specs.declared.spec.LayerSort.TheVariants.{File, Tree, Pack}
+use Rattle.dc_conf.specs.declared.spec.LayerSort.TheVariants.{File, Tree, Pack, Pipe}
 use Rattle.dc_conf.specs.declared.spec.LayerSpec.{LayerSpec}
 use Rattle.dc_layer.specs.State.{Table, LayerState, without_items}
 use Rattle.dc_save.specs.declared.loading.Loaded.{Loaded}
@@ -80,13 +80,14 @@ FileCounts old new (Err (Failed path)) before now = FaultRose before now
 FileCounts old new (Err (Damaged path line)) before now = now ≡ before
 FileCounts old new (Err OutOfMemory) before now = (now ≡ before) ⊎ RefusalRose before now × (new ≡ old)
 
--- ---- by how it is kept
+-- ---- by how it is kept, where it is kept in files
 
 -- what loading does to the layer, by its answer
 abbrev pub LoadsBy : LayerSort → Option Disk → LayerSpec → LayerState → LayerState → Result Loaded LoadError → Type 0
 LoadsBy File disk spec layer new result = LoadsFile disk spec layer new result
 LoadsBy Tree disk spec layer new result = LoadsFolder disk spec layer new result
 LoadsBy Pack disk spec layer new result = LoadsFolder disk spec layer new result
+LoadsBy Pipe disk spec layer new result = ⊥
 
 abbrev pub LoadsLayer : Option Disk → LayerSpec → LayerState → LayerState → Result Loaded LoadError → Type 0
 LoadsLayer disk spec layer new result = LoadsBy spec.sort disk spec layer new result
@@ -96,6 +97,7 @@ abbrev pub LoadsFilesBy : LayerSort → FilesView → FilesView → LayerSpec �
 LoadsFilesBy File old new spec result = LoadsOneFile old new spec.place result
 LoadsFilesBy Tree old new spec result = LoadsFolderFiles old new spec result
 LoadsFilesBy Pack old new spec result = LoadsFolderFiles old new spec result
+LoadsFilesBy Pipe old new spec result = ⊥
 
 abbrev pub LoadsFiles : FilesView → FilesView → LayerSpec → Result Loaded LoadError → Type 0
 LoadsFiles old new spec result = LoadsFilesBy spec.sort old new spec result
@@ -105,6 +107,7 @@ abbrev pub LoadCountsBy : LayerSort → FilesView → FilesView → Result Loade
 LoadCountsBy File old new result before now = FileCounts old new result before now
 LoadCountsBy Tree old new result before now = FolderCounts result before now
 LoadCountsBy Pack old new result before now = FolderCounts result before now
+LoadCountsBy Pipe old new result before now = ⊥
 
 abbrev pub LoadCounts : LayerSpec → FilesView → FilesView → Result Loaded LoadError → Counts → Counts → Type 0
 LoadCounts spec old new result before now = LoadCountsBy spec.sort old new result before now

@@ -76,7 +76,7 @@ fn is_front(sort: LayerSort, extension: &[u8], front: &[u8]) -> bool
     ensures { result ≡ is_front_of sort extension.now front.now }
 {
     match sort {
-        LayerSort::File => false,
+        LayerSort::File | LayerSort::Pipe => false,
         LayerSort::Tree => is_name(front) && fits_tree(extension, front),
         LayerSort::Pack => is_name(front) && !front.contains(&b'/'),
     }
@@ -189,7 +189,7 @@ fn lacks_one(sort: LayerSort, entries: &[Entry]) -> bool
     ensures { result ≡ lacks_one_of sort entries.now }
 {
     match sort {
-        LayerSort::File | LayerSort::Pack => false,
+        LayerSort::File | LayerSort::Pack | LayerSort::Pipe => false,
         LayerSort::Tree => entries.is_empty(),
     }
 }
@@ -198,7 +198,7 @@ fn belongs(sort: LayerSort, front: &[u8], entry: &Entry) -> bool
     ensures { result ≡ belongs_of sort front.now entry.now }
 {
     match sort {
-        LayerSort::File => true,
+        LayerSort::File | LayerSort::Pipe => true,
         LayerSort::Tree => entry.name.bytes() == front,
         LayerSort::Pack => prefix(entry.name.bytes()) == front,
     }

@@ -10,7 +10,7 @@ ghost use Rattle.dc_layer.specs.declared.image.Image.{Image};
 ghost use Rattle.dc_save.specs.declared.saving.SaveError.{SaveError};
 ghost use Rattle.dc_outside.specs.Disk.{Disk, DiskState, IsDurable, HasLeftMore};
 ghost use Rattle.dc_save.specs.Saving.{Saves, LeavesOldOrNew, MayAddAny, AreApart, KeepsPaths, StandSaved, all_images, all_saved};
-ghost use Rattle.dc_layer.specs.State.{LayerState, images, images_by, item_image};
+ghost use Rattle.dc_layer.specs.State.{LayerState, file_images, images_by, item_image};
 ghost use Rattle.dc_save.specs.Places.{AreOf, AreSetUpFor};
 
 /// However a save ends, a crash at any moment leaves each path's old file or the new one, and at most the paths beside it else.
@@ -43,9 +43,9 @@ pub fn saves_chain()
         → HasLeftMore (MayAddAny images) first middle → HasLeftMore (MayAddAny others) middle last → HasLeftMore (MayAddAny (images ++ others)) first last }
 {}
 
-/// The images of layers that were set up for these databases are images of them.
+/// What layers that were set up for these databases save in files are images of them.
 pub fn images_of_layers_are_of_their_databases()
-    ensures { (layers : List LayerState) (specs : List LayerSpec) → AreSetUpFor layers specs → AreOf specs (all_images (each images layers)) }
+    ensures { (layers : List LayerState) (specs : List LayerSpec) → AreSetUpFor layers specs → AreOf specs (all_images (each file_images layers)) }
 {}
 
 /// Where no name is touched twice, a folder with a file for each item asks for one file for each touched name, in their order.

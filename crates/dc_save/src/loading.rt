@@ -1,8 +1,8 @@
 // Loading a layer, and one in one file.
-ghost use Rattle.std.specs.Prelude.{◌≡◌, []};
+ghost use Rattle.std.specs.Prelude.{◌≡◌, [], false};
 ghost use Rattle.std.specs.FinMap as map;
 ghost use Rattle.dc_item.specs.Table.{table_of};
-ghost use Rattle.dc_layer.specs.State.{blank, set_up};
+ghost use Rattle.dc_layer.specs.State.{blank, set_up, is_pipe};
 ghost use Rattle.dc_save.specs.Loading.{LoadsFile, LoadsOneFile, FileCounts, LoadsLayer, LoadsFiles, LoadCounts, Takes, PassesOver, with_loaded, text_in};
 
 use crate::folder_loading::load_folder;
@@ -67,7 +67,7 @@ fn keep_found(layer: &mut Box<dyn Layer>, spec: &LayerSpec, found: Option<Text>)
 }
 
 // Hands the records to the layer.
-fn take_records(layer: &mut Box<dyn Layer>, records: Records)
+pub(crate) fn take_records(layer: &mut Box<dyn Layer>, records: Records)
     requires empty { (state layer.old).table ≡ map.empty }
     requires untouched { (state layer.old).touched ≡ [] }
     ensures { state layer.new ≡ record (state layer.old) { table = table_of records } }
@@ -133,7 +133,7 @@ fn load_one_file<F: Files>(
     }
 }
 
-/// Loads a layer, which was set up with the spec, and with which nothing was done since.
+/// Loads a layer that is kept in files, which was set up with the spec, and with which nothing was done since.
 ///
 /// The records of the text at the place of a layer in one file become its table, and with `backup` the text is kept. A file that
 /// isn't there is the empty table. Those of the files in the folder of another layer become its table, where each file holds the
@@ -144,7 +144,8 @@ pub fn load<F: Files>(
     spec: &LayerSpec,
     layer: &mut Box<dyn Layer>,
 ) -> Result<Loaded, LoadError>
-    requires { state layer.old ≡ set_up (blank spec.now.sort) spec.now }
+    requires sort { is_pipe spec.now.sort ≡ false }
+    requires blank { state layer.old ≡ set_up (blank spec.now.sort) spec.now }
     ensures loads { LoadsLayer (F.files files.old).view.disk spec.now (state layer.old) (state layer.new) result }
     ensures files { LoadsFiles (F.files files.old).view (F.files files.new).view spec.now result }
     ensures counts { LoadCounts spec.now (F.files files.old).view (F.files files.new).view result (F.files files.old).counts (F.files files.new).counts }
@@ -152,5 +153,6 @@ pub fn load<F: Files>(
     match spec.sort {
         LayerSort::File => load_one_file(alloc, files, spec, layer),
         LayerSort::Tree | LayerSort::Pack => load_folder(alloc, files, spec, layer),
+        LayerSort::Pipe => unreachable!(),
     }
 }
