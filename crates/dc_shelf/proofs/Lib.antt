@@ -1,3 +1,4 @@
+pub mod AskLemmas
 pub mod LoadLemmas
 pub mod MarkLemmas
 pub mod ShelfLemmas

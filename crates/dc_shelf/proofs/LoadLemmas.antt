@@ -1,15 +1,11 @@
 -- A load in a list of layers, and the loads behind it.
-use Rattle.std.proofs.Common.{◌≡◌, ℕ, zero, suc, ◌+◌, ◌<◌, List, [], ◌∷◌, Some, map as each, length, take, drop, get_or, refl, sym, ap, ◌∙◌, arith, Result, Ok, add-one}
+use Rattle.std.proofs.Common.{◌≡◌, ℕ, zero, suc, ◌+◌, ◌<◌, List, [], ◌∷◌, Some, map as each, length, take, drop, get_or, refl, sym, ap, ◌∙◌, arith, Result, Ok, Err, add-one}
 use Rattle.std.specs.Prelude.{slice_get}
 use Rattle.std.proofs.Math.ListN.{set}
-use Rattle.dc_outside.specs.State.{FilesView}
-use Rattle.dc_outside.specs.Counts.{Counts}
 use Rattle.dc_conf.specs.declared.spec.LayerSpec.{LayerSpec}
 use Rattle.dc_layer.specs.State.{LayerState, blank, set_up}
-use Rattle.dc_save.specs.declared.loading.Loaded.{Loaded}
-use Rattle.dc_save.specs.declared.loading.LoadError.{LoadError}
-use Rattle.dc_save.specs.Loading.{LoadsLayer, LoadsFiles, LoadCounts}
-use Rattle.dc_shelf.specs.Shelves.{all_set_up, LoadsAll, IsLoadedAt}
+use Rattle.dc_shelf.specs.Shelves.{Sources, LoadAnswer, GoesOn, all_set_up, told, LoadsAll, LoadsTold, IsLoadedAt}
+use Rattle.dc_shelf.specs.declared.loading.SourceError.{SourceError}
 
 module _ {A : Type 0} (f : A → LayerState) where
   pub got_at : (xs : List A) (i : ℕ) (d : A) → i < length xs → slice_get (each f xs) i ≡ Some (f (get_or xs i d))
@@ -37,10 +33,9 @@ module _ {A : Type 0} (f : A → LayerState) where
   before (x ∷ xs) zero y = refl
   before (x ∷ xs) (suc i) y = ap (λ l. f x ∷ l) (before xs i y)
 
-  pub is_loaded_at : (xs : List A) (i : ℕ) (d y : A) → i < length xs → (spec : LayerSpec) (told told_new : FilesView) (counts now : Counts) (first : Result Loaded LoadError)
-      → LoadsLayer told.disk spec (f (get_or xs i d)) (f y) first → LoadsFiles told told_new spec first → LoadCounts spec told told_new first counts now
-      → IsLoadedAt spec i (each f xs) (each f (set xs i y)) told told_new counts now first
-  is_loaded_at xs i d y within spec told told_new counts now first loads files counted = record {
+  pub is_loaded_at : (xs : List A) (i : ℕ) (d y : A) → i < length xs → (spec : LayerSpec) (from left : Sources) (result : Result (Unit {0}) SourceError)
+      → LoadsTold spec (f (get_or xs i d)) (f y) from left result → IsLoadedAt spec i (each f xs) (each f (set xs i y)) from left result
+  is_loaded_at xs i d y within spec from left result loads = record {
     layer = f (get_or xs i d);
     made = f y;
     stood = stood xs i d within;
@@ -48,8 +43,6 @@ module _ {A : Type 0} (f : A → LayerState) where
     behind = behind xs i y;
     kept = before xs i y;
     loads = loads;
-    files = files;
-    counts = counted;
   }
 
 pub spec_at : (specs : List LayerSpec) (i : ℕ) (spec : LayerSpec) → i < length specs → spec ≡ get_or specs i spec → drop i specs ≡ spec ∷ drop (suc i) specs
@@ -89,13 +82,42 @@ take_less (suc i) (x ∷ new) (y ∷ old) same =
     let tails : take (suc i) new ≡ take (suc i) old = cc in
     λ k. head k ∷ take_less i new old tails k
 
-module _ (specs : List LayerSpec) (old mid : List LayerState) (i : ℕ) (spec : LayerSpec) (files files_mid : FilesView) (before_counts counts : Counts)
-    (within : i < length specs) (is : spec ≡ get_or specs i spec) where
-  pub loads_on : (new : List LayerState) (files_new : FilesView) (now : Counts) (value : Loaded) (result : Result (Unit {0}) LoadError) → IsLoadedAt spec i old mid files files_mid before_counts counts (Ok value)
-      → LoadsAll (drop (i + 1) specs) (drop (i + 1) mid) (drop (i + 1) new) files_mid files_new counts now result → take (i + 1) new ≡ take (i + 1) mid
-      → LoadsAll (drop i specs) (drop i old) (drop i new) files files_new before_counts now result
-  loads_on new files_new now value result at more kept =
+-- ---- by what is told of the answer
+
+goes_on : (first : LoadAnswer) (value : Unit {0}) (result : Result (Unit {0}) SourceError) (more last : Type 0) → Ok value ≡ told first → more → GoesOn first result more last
+goes_on (LoadAnswer.OfFiles (Ok loaded)) value result more last is holds = holds
+goes_on (LoadAnswer.OfPipe (Ok loaded)) value result more last is holds = holds
+goes_on (LoadAnswer.OfFiles (Err error)) value result more last is holds = absurd (cc)
+goes_on (LoadAnswer.OfPipe (Err error)) value result more last is holds = absurd (cc)
+
+ends : (first : LoadAnswer) (error : SourceError) (more last : Type 0) → Err error ≡ told first → last → GoesOn first (Err error) more last
+ends (LoadAnswer.OfFiles (Ok loaded)) error more last is holds = absurd (cc)
+ends (LoadAnswer.OfPipe (Ok loaded)) error more last is holds = absurd (cc)
+ends (LoadAnswer.OfFiles (Err first)) error more last is holds = (is, holds)
+ends (LoadAnswer.OfPipe (Err first)) error more last is holds = (is, holds)
+
+module _ (specs : List LayerSpec) (old mid : List LayerState) (i : ℕ) (spec : LayerSpec) (from middle : Sources) (within : i < length specs) (is : spec ≡ get_or specs i spec) where
+  pub loads_on : (new : List LayerState) (left : Sources) (value : Unit {0}) (result : Result (Unit {0}) SourceError) → IsLoadedAt spec i old mid from middle (Ok value)
+      → LoadsAll (drop (i + 1) specs) (drop (i + 1) mid) (drop (i + 1) new) middle left result → take (i + 1) new ≡ take (i + 1) mid
+      → LoadsAll (drop i specs) (drop i old) (drop i new) from left result
+  loads_on new left value result at more kept =
       let kept_suc : take (suc i) new ≡ take (suc i) mid = rw (← add-one) kept in
-      let more_suc : LoadsAll (drop (suc i) specs) (drop (suc i) mid) (drop (suc i) new) files_mid files_new counts now result = rw (← add-one) more in
-      rw (spec_at specs i spec within is, at.stood, kept_head i new mid at.made (drop (suc i) old) kept_suc at.stands)
-      (Ok value, files_mid, counts, at.loads, at.files, at.counts, rw (← at.behind) more_suc)
+      let more_suc : LoadsAll (drop (suc i) specs) (drop (suc i) mid) (drop (suc i) new) middle left result = rw (← add-one) more in
+      let behind_suc : LoadsAll (drop (suc i) specs) (drop (suc i) old) (drop (suc i) new) middle left result = rw (← at.behind) more_suc in
+      rw (spec_at specs i spec within is, at.stood, kept_head i new mid at.made (drop (suc i) old) kept_suc at.stands) (
+        at.loads.first,
+        middle,
+        at.loads.loads,
+        goes_on at.loads.first value result (LoadsAll (drop (suc i) specs) (drop (suc i) old) (drop (suc i) new) middle left result)
+            ((drop (suc i) new ≡ drop (suc i) old) × (left ≡ middle)) at.loads.told_is behind_suc,
+      )
+
+  pub loads_end : (error : SourceError) → IsLoadedAt spec i old mid from middle (Err error) → LoadsAll (drop i specs) (drop i old) (drop i mid) from middle (Err error)
+  loads_end error at =
+      rw (spec_at specs i spec within is, at.stood, at.stands) (
+        at.loads.first,
+        middle,
+        at.loads.loads,
+        ends at.loads.first error (LoadsAll (drop (suc i) specs) (drop (suc i) old) (drop (suc i) old) middle middle (Err error))
+            ((drop (suc i) old ≡ drop (suc i) old) × (middle ≡ middle)) at.loads.told_is (refl, refl),
+      )

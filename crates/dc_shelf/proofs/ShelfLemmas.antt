@@ -1,16 +1,14 @@
 -- Boxes taken from the end of a list, and lists that are handed out from their end.
-use Rattle.std.proofs.Common.{◌≡◌, ℕ, suc, ◌+◌, ◌-◌, ◌≤◌, ◌<◌, Bool, true, false, ◌&&◌, List, [], ◌∷◌, ◌++◌, length, take, drop, get_or, map as each, refl, sym, ap, subst, ◌∙◌, append_assoc, arith}
+use Rattle.std.proofs.Common.{◌≡◌, ℕ, ◌+◌, ◌-◌, ◌≤◌, ◌<◌, true, ◌&&◌, List, [], ◌∷◌, ◌++◌, length, take, drop, get_or, map as each, refl, sym, ap, subst, ◌∙◌, arith}
 use Rattle.std.proofs.Common.{Result, Ok, Err}
-use Rattle.std.specs.Prelude.{OnOk, IfErr}
+use Rattle.std.specs.Prelude.{IfErr}
 use Rattle.std.proofs.lemmas.List.{map-append}
-use Rattle.dc_text.specs.declared.memory.OutOfMemory.{OutOfMemory}
 use Rattle.dc_shelf.specs.declared.shelf.NotSetUp.{NotSetUp}
 use Rattle.std.proofs.lemmas.List.Sums.{sum_by-cons}
 use Rattle.dc_conf.specs.declared.spec.LayerSort.{LayerSort}
-use Rattle.dc_conf.specs.declared.spec.LayerSort.TheVariants.{File, Tree, Pack}
+use Rattle.dc_conf.specs.declared.spec.LayerSort.TheVariants.{File, Tree, Pack, Pipe}
 use Rattle.dc_conf.specs.declared.spec.LayerSpec.{LayerSpec}
 use Rattle.dc_layer.specs.State.{LayerState, blank}
-use Rattle.dc_layer.specs.declared.image.Image.{Image}
 use Rattle.dc_layer.specs.declared.pattern.PatternError.{PatternError}
 use Rattle.dc_shelf.specs.Shelves.{AreBlank, has_patterns, all_patterns, count_of, is_sort, of_sort, one_if, AreRefusedFor, IsRefusedAt, IsRefusedFrom}
 
@@ -72,22 +70,11 @@ first_and_rest (y ∷ xs) x long is =
     let count : length (y ∷ xs) - 1 ≡ length xs = omega arith in
     rw (count, all_of xs) (ap (λ z. z ∷ xs) (sym is))
 
-pub gathered : {A : Type 0} (f : A → LayerState) (images : LayerState → List Image) (layers : List A) (layer : A) (old mid new : List (List Image)) → 1 ≤ length layers → layer ≡ get_or layers 0 layer
-    → mid ≡ old ++ images (f layer) ∷ [] → new ≡ mid ++ each images (each f (take (length layers - 1) (drop 1 layers))) → new ≡ old ++ each images (each f layers)
-gathered f images layers layer old mid new long is first rest =
-    rest ∙ ap (λ l. l ++ each images (each f (take (length layers - 1) (drop 1 layers)))) first ∙ append_assoc old (images (f layer) ∷ []) (each images (each f (take (length layers - 1) (drop 1 layers))))
-    ∙ ap (λ l. old ++ each images (each f l)) (sym (first_and_rest layers layer long is))
-
 pub refused_behind : (first : ℕ) (specs : List LayerSpec) (spec : LayerSpec) (place : ℕ) (error : PatternError) → 1 ≤ length specs → spec ≡ get_or specs 0 spec → has_patterns spec ≡ true → IsRefusedFrom (first + 1) (take (length specs - 1) (drop 1 specs)) place error → IsRefusedFrom first specs place error
 refused_behind first specs spec place error long is built from =
     subst (λ (l : List LayerSpec). IsRefusedFrom first l place error) (sym (first_and_rest specs spec long is)) (later_refused first place spec (take (length specs - 1) (drop 1 specs)) error built from)
 
 -- ---- by the answer of the calls behind
-
-pub gathered_if : {A : Type 0} (f : A → LayerState) (images : LayerState → List Image) (layers : List A) (layer : A) (old mid new : List (List Image)) → 1 ≤ length layers → layer ≡ get_or layers 0 layer
-    → mid ≡ old ++ images (f layer) ∷ [] → (result : Result (Unit {0}) OutOfMemory) → OnOk result (new ≡ mid ++ each images (each f (take (length layers - 1) (drop 1 layers)))) → OnOk result (new ≡ old ++ each images (each f layers))
-gathered_if f images layers layer old mid new long is first (Ok value) rest = gathered f images layers layer old mid new long is first rest
-gathered_if f images layers layer old mid new long is first (Err error) rest = tt
 
 pub refused_if : (first : ℕ) (specs : List LayerSpec) (spec : LayerSpec) → 1 ≤ length specs → spec ≡ get_or specs 0 spec → has_patterns spec ≡ true → (result : Result (Unit {0}) NotSetUp)
     → IfErr result (λ refused. IsRefusedFrom (first + 1) (take (length specs - 1) (drop 1 specs)) refused.place refused.error) → IfErr result (λ refused. IsRefusedFrom first specs refused.place refused.error)
@@ -97,20 +84,23 @@ refused_if first specs spec long is built (Err refused) from = refused_behind fi
 -- ---- boxes of a sort for the databases of the sort
 
 -- so many boxes of each sort have one for the first database
-left_for : (sort : LayerSort) (files trees packs a b c : ℕ) → one_if (is_sort File sort) + a ≤ files → one_if (is_sort Tree sort) + b ≤ trees → one_if (is_sort Pack sort) + c ≤ packs → 0 < of_sort sort files trees packs
-left_for File files trees packs a b c f t p = omega arith
-left_for Tree files trees packs a b c f t p = omega arith
-left_for Pack files trees packs a b c f t p = omega arith
+left_for : (sort : LayerSort) (files trees packs pipes a b c d : ℕ) → one_if (is_sort File sort) + a ≤ files → one_if (is_sort Tree sort) + b ≤ trees → one_if (is_sort Pack sort) + c ≤ packs → one_if (is_sort Pipe sort) + d ≤ pipes
+    → 0 < of_sort sort files trees packs pipes
+left_for File files trees packs pipes a b c d f t p q = omega arith
+left_for Tree files trees packs pipes a b c d f t p q = omega arith
+left_for Pack files trees packs pipes a b c d f t p q = omega arith
+left_for Pipe files trees packs pipes a b c d f t p q = omega arith
 
 module _ (specs : List LayerSpec) (spec : LayerSpec) (long : 1 ≤ length specs) (is : spec ≡ get_or specs 0 spec) where
   counted : (sort : LayerSort) → count_of sort specs ≡ one_if (is_sort sort spec.sort) + count_of sort (take (length specs - 1) (drop 1 specs))
   counted sort = ap (λ (l : List LayerSpec). count_of sort l) (first_and_rest specs spec long is)
       ∙ sum_by-cons (λ (s : LayerSpec). one_if (is_sort sort s.sort)) spec (take (length specs - 1) (drop 1 specs))
 
-  pub box_left : (files trees packs : ℕ) → count_of File specs ≤ files → count_of Tree specs ≤ trees → count_of Pack specs ≤ packs → 0 < of_sort spec.sort files trees packs
-  box_left files trees packs f t p =
-      left_for spec.sort files trees packs (count_of File (take (length specs - 1) (drop 1 specs))) (count_of Tree (take (length specs - 1) (drop 1 specs))) (count_of Pack (take (length specs - 1) (drop 1 specs)))
-      (subst (λ (n : ℕ). n ≤ files) (counted File) f) (subst (λ (n : ℕ). n ≤ trees) (counted Tree) t) (subst (λ (n : ℕ). n ≤ packs) (counted Pack) p)
+  pub box_left : (files trees packs pipes : ℕ) → count_of File specs ≤ files → count_of Tree specs ≤ trees → count_of Pack specs ≤ packs → count_of Pipe specs ≤ pipes → 0 < of_sort spec.sort files trees packs pipes
+  box_left files trees packs pipes f t p q =
+      left_for spec.sort files trees packs pipes (count_of File (take (length specs - 1) (drop 1 specs))) (count_of Tree (take (length specs - 1) (drop 1 specs))) (count_of Pack (take (length specs - 1) (drop 1 specs)))
+      (count_of Pipe (take (length specs - 1) (drop 1 specs)))
+      (subst (λ (n : ℕ). n ≤ files) (counted File) f) (subst (λ (n : ℕ). n ≤ trees) (counted Tree) t) (subst (λ (n : ℕ). n ≤ packs) (counted Pack) p) (subst (λ (n : ℕ). n ≤ pipes) (counted Pipe) q)
 
   pub boxes_left : (sort : LayerSort) (old new : ℕ) → count_of sort specs ≤ old → old ≡ new + one_if (is_sort sort spec.sort) → count_of sort (take (length specs - 1) (drop 1 specs)) ≤ new
   boxes_left sort old new few taken =

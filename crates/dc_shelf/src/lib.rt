@@ -5,6 +5,6 @@ pub mod loading;
 pub mod saving;
 pub mod shelf;
 
-pub use loading::load_all;
-pub use saving::{images_of_all, mark_all_saved};
+pub use loading::{SourceError, load_all};
+pub use saving::{Asked, asked_of_all, mark_all_saved};
 pub use shelf::{NotSetUp, Shelf, set_up_all};

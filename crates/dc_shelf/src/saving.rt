@@ -1,42 +1,93 @@
 // What the layers of a run ask to be saved.
-ghost use Rattle.std.specs.Prelude.{◌≡◌, ◌<◌, ◌≤◌, ◌+◌, ◌++◌, length, take, drop, slice_get, map as each, IfOk, OnOk, Some};
-ghost use Rattle.dc_layer.specs.State.{LayerState, images as images_in, saved};
+ghost use Rattle.std.specs.Prelude.{◌≡◌, ◌∷◌, [], true, ◌<◌, ◌≤◌, ◌+◌, ◌++◌, length, take, drop, slice_get, map as each, IfOk, OnOk, Some};
+ghost use Rattle.dc_layer.specs.State.{LayerState, file_images, images as images_in, is_pipe, piped, piped_of, saved};
 ghost use Rattle.dc_shelf.specs.Shelves.{IsMarkedAt};
+ghost use Rattle.dc_shelf.specs.Asks.{Gathers};
 
+use dc_conf::spec::LayerSort;
 use dc_layer::{Image, Layer};
-use dc_text::{List, Mem};
+use dc_text::{List, Mem, Text};
 use std::alloc::Global;
 
-/// The images that each layer asks for, in order.
-pub fn images_of_all(alloc: Global, layers: &[Box<dyn Layer>]) -> Mem<List<List<Image>>>
-    ensures { IfOk result (λ images. images ≡ each images_in (each state layers.now)) }
-{
-    let mut images = List::new(alloc);
-    gather(layers, &mut images)?;
-    Ok(images)
+/// What the layers of a run ask to be saved.
+#[derive(Drop)]
+pub struct Asked {
+    /// The files of each layer, in order.
+    pub files: List<List<Image>>,
+    /// The text that goes out through a pipe, if one does.
+    pub text: Option<Text>,
 }
 
-fn gather(layers: &[Box<dyn Layer>], images: &mut List<List<Image>>) -> Mem<()>
-    ensures { OnOk result (images.new ≡ images.old ++ each images_in (each state layers.now)) }
+/// What the layers ask to be saved.
+pub fn asked_of_all(alloc: Global, layers: &[Box<dyn Layer>]) -> Mem<Asked>
+    ensures files { IfOk result (λ asked. asked.files ≡ each file_images (each state layers.now)) }
+    ensures text { IfOk result (λ asked. asked.text ≡ piped_of (each state layers.now)) }
+{
+    let mut asked = Asked {
+        files: List::new(alloc),
+        text: None,
+    };
+    gather(alloc, layers, &mut asked)?;
+    Ok(asked)
+}
+
+// Adds what the layers ask, in order.
+fn gather(alloc: Global, layers: &[Box<dyn Layer>], asked: &mut Asked) -> Mem<()>
+    ensures { OnOk result (Gathers (each state layers.now) asked.old asked.new) }
 {
     match layers {
         [] => Ok(()),
         [layer, behind @ ..] => {
-            images.push(asked_by(layer)?)?;
-            gather(behind, images)
+            ask(alloc, layer, asked)?;
+            gather(alloc, behind, asked)
         }
     }
 }
 
-fn asked_by(layer: &Box<dyn Layer>) -> Mem<List<Image>>
+// Adds what the layer asks.
+fn ask(alloc: Global, layer: &Box<dyn Layer>, asked: &mut Asked) -> Mem<()>
+    ensures { OnOk result (Gathers (state layer.now ∷ []) asked.old asked.new) }
+{
+    if is_piped(layer) {
+        let text = text_of(layer)?;
+        asked.files.push(List::new(alloc))?;
+        asked.text = asked.text.take().or(text);
+        return Ok(());
+    }
+    asked.files.push(images_of(layer)?)?;
+    Ok(())
+}
+
+fn is_piped(layer: &Box<dyn Layer>) -> bool
+    ensures { result ≡ is_pipe (state layer.now).sort }
+{
+    match layer.sort() {
+        LayerSort::Pipe => true,
+        LayerSort::File | LayerSort::Tree | LayerSort::Pack => false,
+    }
+}
+
+fn images_of(layer: &Box<dyn Layer>) -> Mem<List<Image>>
     ensures { IfOk result (λ images. images ≡ images_in (state layer.now)) }
 {
     layer.images()
 }
 
+// The text that goes out through a pipe. A layer has one image there, if any.
+fn text_of(layer: &Box<dyn Layer>) -> Mem<Option<Text>>
+    requires { is_pipe (state layer.now).sort ≡ true }
+    ensures { IfOk result (λ text. text ≡ piped (state layer.now)) }
+{
+    let mut images = images_of(layer)?;
+    match images.pop() {
+        None => Ok(None),
+        Some(image) => Ok(image.bytes),
+    }
+}
+
 /// Marks each layer as saved, once its images are.
 pub fn mark_all_saved(layers: &mut [Box<dyn Layer>], images: List<List<Image>>)
-    requires { images ≡ each images_in (each state layers.old) }
+    requires { images ≡ each file_images (each state layers.old) }
     ensures { each state layers.new ≡ each saved (each state layers.old) }
 {
     let mut left = images;
@@ -47,7 +98,7 @@ pub fn mark_all_saved(layers: &mut [Box<dyn Layer>], images: List<List<Image>>)
 // Marks so many first layers, the last of them first, by the images that each asked for.
 fn mark_to(layers: &mut [Box<dyn Layer>], images: &mut List<List<Image>>, count: usize)
     requires within { count ≤ length layers.old }
-    requires asked { images.old ≡ take count (each images_in (each state layers.old)) }
+    requires asked { images.old ≡ take count (each file_images (each state layers.old)) }
     ensures { each state layers.new ≡ each saved (take count (each state layers.old)) ++ drop count (each state layers.old) }
 {
     if count == 0 {
@@ -59,9 +110,9 @@ fn mark_to(layers: &mut [Box<dyn Layer>], images: &mut List<List<Image>>, count:
 
 fn mark_last(layers: &mut [Box<dyn Layer>], images: &mut List<List<Image>>, place: usize)
     requires within { place < length layers.old }
-    requires asked { images.old ≡ take (place + 1) (each images_in (each state layers.old)) }
+    requires asked { images.old ≡ take (place + 1) (each file_images (each state layers.old)) }
     ensures marked { IsMarkedAt place (each state layers.old) (each state layers.new) }
-    ensures left { images.new ≡ take place (each images_in (each state layers.old)) }
+    ensures left { images.new ≡ take place (each file_images (each state layers.old)) }
 {
     match images.pop() {
         None => unreachable!(),
@@ -71,7 +122,7 @@ fn mark_last(layers: &mut [Box<dyn Layer>], images: &mut List<List<Image>>, plac
 
 fn mark_at(layers: &mut [Box<dyn Layer>], place: usize, asked: List<Image>)
     requires within { place < length layers.old }
-    requires asked { (layer : LayerState) → slice_get (each state layers.old) place ≡ Some layer → asked ≡ images_in layer }
+    requires asked { (layer : LayerState) → slice_get (each state layers.old) place ≡ Some layer → asked ≡ file_images layer }
     ensures { IsMarkedAt place (each state layers.old) (each state layers.new) }
 {
     let layer = &mut layers[place];
@@ -79,7 +130,7 @@ fn mark_at(layers: &mut [Box<dyn Layer>], place: usize, asked: List<Image>)
 }
 
 fn mark_one(layer: &mut Box<dyn Layer>, asked: List<Image>)
-    requires { asked ≡ images_in (state layer.old) }
+    requires { asked ≡ file_images (state layer.old) }
     ensures { state layer.new ≡ saved (state layer.old) }
 {
     layer.mark_saved(asked)

@@ -14,6 +14,7 @@ pub struct Shelf {
     pub files: Vec<Box<dyn Layer>>,
     pub trees: Vec<Box<dyn Layer>>,
     pub packs: Vec<Box<dyn Layer>>,
+    pub pipes: Vec<Box<dyn Layer>>,
     pub used: Vec<Box<dyn Layer>>,
 }
 
@@ -25,25 +26,27 @@ pub struct NotSetUp {
 }
 
 impl Shelf {
-    ghost use Rattle.dc_conf.specs.declared.spec.LayerSort.TheVariants.{File, Tree, Pack};
+    ghost use Rattle.dc_conf.specs.declared.spec.LayerSort.TheVariants.{File, Tree, Pack, Pipe};
 
     /// A shelf without boxes.
     pub fn empty(alloc: Global) -> Shelf
         ensures files { result.files.items ≡ [] }
         ensures trees { result.trees.items ≡ [] }
         ensures packs { result.packs.items ≡ [] }
+        ensures pipes { result.pipes.items ≡ [] }
         ensures used { result.used.items ≡ [] }
     {
         Shelf {
             files: Vec::new(alloc),
             trees: Vec::new(alloc),
             packs: Vec::new(alloc),
+            pipes: Vec::new(alloc),
             used: Vec::new(alloc),
         }
     }
 
     #[tactic(auto, using(crate::proofs::ShelfLemmas::blank_behind))]
-    /// Takes one more blank layer of each sort. Where memory fails it may have taken the first of them.
+    /// Takes one more blank layer of each sort that is kept in files. Where memory fails it may have taken the first of them.
     pub fn take_each(
         &mut self,
         file: Box<dyn Layer>,
@@ -62,6 +65,7 @@ impl Shelf {
         ensures count_files { OnOk result (length self.new.files.items ≡ length self.old.files.items + 1) }
         ensures count_trees { OnOk result (length self.new.trees.items ≡ length self.old.trees.items + 1) }
         ensures count_packs { OnOk result (length self.new.packs.items ≡ length self.old.packs.items + 1) }
+        ensures pipes { self.new.pipes.items ≡ self.old.pipes.items }
         ensures used { self.new.used.items ≡ self.old.used.items }
     {
         put_behind(&mut self.files, file)?;
@@ -69,25 +73,45 @@ impl Shelf {
         put_behind(&mut self.packs, pack)
     }
 
+    #[tactic(auto, using(crate::proofs::ShelfLemmas::blank_behind))]
+    /// Takes one more blank layer for what comes through a pipe.
+    pub fn take_pipe(&mut self, pipe: Box<dyn Layer>) -> Mem<()>
+        requires pipes { AreBlank Pipe (each state self.old.pipes.items) }
+        requires pipe { state pipe ≡ blank Pipe }
+        ensures pipes { OnOk result (AreBlank Pipe (each state self.new.pipes.items)) }
+        ensures count { OnOk result (length self.new.pipes.items ≡ length self.old.pipes.items + 1) }
+        ensures files { self.new.files.items ≡ self.old.files.items }
+        ensures trees { self.new.trees.items ≡ self.old.trees.items }
+        ensures packs { self.new.packs.items ≡ self.old.packs.items }
+        ensures used { self.new.used.items ≡ self.old.used.items }
+    {
+        put_behind(&mut self.pipes, pipe)
+    }
+
     // A blank box of the sort, taken from the others.
     fn take(&mut self, sort: LayerSort) -> Box<dyn Layer>
         requires files { AreBlank File (each state self.old.files.items) }
         requires trees { AreBlank Tree (each state self.old.trees.items) }
         requires packs { AreBlank Pack (each state self.old.packs.items) }
-        requires some { 0 < of_sort sort (length self.old.files.items) (length self.old.trees.items) (length self.old.packs.items) }
+        requires pipes { AreBlank Pipe (each state self.old.pipes.items) }
+        requires some { 0 < of_sort sort (length self.old.files.items) (length self.old.trees.items) (length self.old.packs.items)
+            (length self.old.pipes.items) }
         ensures taken { state result ≡ blank sort }
         ensures files { AreBlank File (each state self.new.files.items) }
         ensures trees { AreBlank Tree (each state self.new.trees.items) }
         ensures packs { AreBlank Pack (each state self.new.packs.items) }
+        ensures pipes { AreBlank Pipe (each state self.new.pipes.items) }
         ensures count_files { length self.old.files.items ≡ length self.new.files.items + one_if (is_sort File sort) }
         ensures count_trees { length self.old.trees.items ≡ length self.new.trees.items + one_if (is_sort Tree sort) }
         ensures count_packs { length self.old.packs.items ≡ length self.new.packs.items + one_if (is_sort Pack sort) }
+        ensures count_pipes { length self.old.pipes.items ≡ length self.new.pipes.items + one_if (is_sort Pipe sort) }
         ensures used { self.new.used.items ≡ self.old.used.items }
     {
         match sort {
             LayerSort::File => take_last(&mut self.files),
             LayerSort::Tree => take_last(&mut self.trees),
             LayerSort::Pack => take_last(&mut self.packs),
+            LayerSort::Pipe => take_last(&mut self.pipes),
         }
     }
 }
@@ -121,9 +145,11 @@ pub fn set_up_all(shelf: &mut Shelf, specs: &[LayerSpec]) -> Result<(), NotSetUp
     requires files { AreBlank LayerSort.File (each state shelf.old.files.items) }
     requires trees { AreBlank LayerSort.Tree (each state shelf.old.trees.items) }
     requires packs { AreBlank LayerSort.Pack (each state shelf.old.packs.items) }
+    requires pipes { AreBlank LayerSort.Pipe (each state shelf.old.pipes.items) }
     requires some_files { count_of LayerSort.File specs.now ≤ length shelf.old.files.items }
     requires some_trees { count_of LayerSort.Tree specs.now ≤ length shelf.old.trees.items }
     requires some_packs { count_of LayerSort.Pack specs.now ≤ length shelf.old.packs.items }
+    requires some_pipes { count_of LayerSort.Pipe specs.now ≤ length shelf.old.pipes.items }
     requires used { shelf.old.used.items ≡ [] }
     ensures ok { OnOk result (each state shelf.new.used.items ≡ all_set_up specs.now) }
     ensures built { OnOk result (all_patterns specs.now ≡ true) }
@@ -137,9 +163,11 @@ fn set_up_from(shelf: &mut Shelf, specs: &[LayerSpec], place: usize) -> Result<(
     requires files { AreBlank LayerSort.File (each state shelf.old.files.items) }
     requires trees { AreBlank LayerSort.Tree (each state shelf.old.trees.items) }
     requires packs { AreBlank LayerSort.Pack (each state shelf.old.packs.items) }
+    requires pipes { AreBlank LayerSort.Pipe (each state shelf.old.pipes.items) }
     requires some_files { count_of LayerSort.File specs.now ≤ length shelf.old.files.items }
     requires some_trees { count_of LayerSort.Tree specs.now ≤ length shelf.old.trees.items }
     requires some_packs { count_of LayerSort.Pack specs.now ≤ length shelf.old.packs.items }
+    requires some_pipes { count_of LayerSort.Pipe specs.now ≤ length shelf.old.pipes.items }
     requires fits { place + length specs.now < 2 ^ 64 }
     ensures ok { OnOk result (each state shelf.new.used.items ≡ each state shelf.old.used.items ++ all_set_up specs.now) }
     ensures built { OnOk result (all_patterns specs.now ≡ true) }

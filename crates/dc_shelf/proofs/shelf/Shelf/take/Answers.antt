@@ -19,3 +19,9 @@ returns-in-Pack-clause-taken g c = c.take_last-in-Pack.ensures.taken _ c.require
 
 pub returns-in-Pack-clause-packs : goal.returns-in-Pack-clause-packs
 returns-in-Pack-clause-packs g c = c.take_last-in-Pack.ensures.left _ c.requires.packs
+
+pub returns-in-Pipe-clause-taken : goal.returns-in-Pipe-clause-taken
+returns-in-Pipe-clause-taken g c = c.take_last-in-Pipe.ensures.taken _ c.requires.pipes ∙ ap blank (sym c.in-Pipe.is)
+
+pub returns-in-Pipe-clause-pipes : goal.returns-in-Pipe-clause-pipes
+returns-in-Pipe-clause-pipes g c = c.take_last-in-Pipe.ensures.left _ c.requires.pipes
