@@ -1,8 +1,8 @@
 -- The counts of the links and of the program by the end of a run.
-use Rattle.std.proofs.Common.{◌≡◌, ◌⊎◌, inl, inr, ℕ, Bool, true, false, List, refl, sym, subst, ap, ◌∙◌, arith}
+use Rattle.std.proofs.Common.{◌≡◌, ◌⊎◌, inl, inr, ℕ, Bool, true, false, List, [], ◌∷◌, refl, sym, subst, ap, ◌∙◌, arith}
 use Rattle.std.specs.Prelude.{Ok, Err, Option, Some, None, Result}
 use Rattle.dc_words.specs.declared.stream.Line.{Line}
-use Rattle.dc_outside.specs.Counts.{Counts, Rose, FaultRose}
+use Rattle.dc_outside.specs.Counts.{Counts, Rose, FaultRose, RefusalRose}
 use Rattle.dc_outside.specs.declared.link.LinkError.{LinkError}
 use Rattle.dc_outside.specs.declared.link.LinkError.TheVariants.{Failed, OutOfMemory}
 use Rattle.dc_outside.specs.declared.link.Piece.{Piece}
@@ -13,8 +13,16 @@ use Rattle.dc_conf.specs.declared.faults.ConfError.TheVariants as conf
 use Rattle.dc_layer.specs.State.{LayerState}
 use Rattle.dc_layer.specs.declared.pattern.PatternError.{PatternError}
 use Rattle.dc_layer.specs.declared.pattern.PatternError.TheVariants as pattern
-use Rattle.dc_save.specs.declared.loading.LoadError.{LoadError}
+use Rattle.dc_conf.specs.declared.spec.LayerSpec.{LayerSpec}
+use Rattle.dc_save.specs.PipeLoading.{HasCome, IsReadBroken, IsReadShort, IsReadWhole, LoadsWhere, ReadsPipe}
 use Rattle.dc_save.specs.declared.loading.LoadError.TheVariants as load
+use Rattle.dc_save.specs.declared.pipe_loading.PipeError.{PipeError}
+use Rattle.dc_save.specs.declared.pipe_loading.PipeError.TheVariants as pipe
+use Rattle.dc_save.specs.declared.pipe_loading.PipeLoaded.{PipeLoaded}
+use Rattle.dc_save.specs.declared.pipe_loading.PipeLoaded.TheVariants as piped
+use Rattle.dc_shelf.specs.Shelves.{GoesOn, LoadAnswer, LoadsAll, LoadsOne, Sources}
+use Rattle.dc_shelf.specs.declared.loading.SourceError.{SourceError}
+use Rattle.dc_shelf.specs.declared.loading.SourceError.TheVariants as source
 use Rattle.dc_serve.specs.Execution.{Transition, state_after, IsExecution}
 use Rattle.dc_serve.specs.Ends.{LinkCounts}
 use Rattle.dc_serve.specs.LinkRun.{Answered}
@@ -37,9 +45,10 @@ use Rattle.dc_run.specs.declared.outcome.ToolEnd.{ToolEnd}
 use Rattle.dc_run.specs.declared.outcome.ToolEnd.TheVariants as tool
 use Rattle.dc_run.specs.declared.settings.Settings.{Settings}
 use Rattle.dc_run.specs.Roots.{CopyRoots, Roots}
-use Rattle.dc_run.specs.Ends.{tool_end_of, end_of, end_of_conf, end_of_pattern, end_of_load, end_unwaited, Both, Stays, MayRise, LinksCount, ProgramCounts}
-use Rattle.dc_run.specs.Finishing.{Finishes, FinishesWhere}
+use Rattle.dc_run.specs.Ends.{tool_end_of, end_of, end_of_conf, end_of_pattern, end_of_load, end_unsent, end_unwaited, Both, Stays, MayRise, LinksCount, CountsLoads, CountsCalls, ProgramCounts}
+use Rattle.dc_run.specs.Finishing.{Finishes, FinishesWhere, IsUnsent, SendsOf, SendsPiped, outgoing}
 use Rattle.dc_run.specs.Headline.{HasRunTool}
+use Rattle.dc_run.specs.OneRound.{HasUsed}
 use Rattle.dc_run.specs.Jobs.{HasCommunicated, HasTaken, Prints, PrintsMade, Copies, CopiesBy, copying, selections_end, Uses}
 use Rattle.dc_preseed.specs.Selecting.{SelectorState, FinishesLast, Finishes as FinishesSelections}
 use Rattle.dc_preseed.specs.declared.selected.Choices.{Choices}
@@ -52,12 +61,13 @@ use Rattle.dc_run.specs.SavingSession.{TakesSaving, BreaksSaving, IsServedSaving
 use Rattle.dc_run.specs.declared.saving_session.SavingBreak.{SavingBreak}
 use Rattle.dc_run.specs.declared.saving_session.SavingBreak.TheVariants as saving
 use Rattle.dc_run.specs.Running.{IsNotStarted, IsStarted, end_unstarted, Awaits}
-use Rattle.dc_run.specs.Starting.{EndsBefore, begun, keeps_changes}
+use Rattle.dc_run.specs.Starting.{EndsBefore, EndsUnloaded, HasLoaded, begun, keeps_changes}
 use Rattle.dc_run.specs.TemplateLoading.{EndsAt}
-use Rattle.dc_run.specs.World.{Links, Stock, World, RunState, before_rounds}
+use Rattle.dc_run.specs.World.{Ground, Links, World, RunState, before_rounds, ground_in, ground_of, on_ground}
 use Rattle.dc_run.proofs.CrashLemmas.{state_left, broken_off}
 use Rattle.dc_run.proofs.SavingLemmas.{lines_count, lines_nobody}
 use Rattle.dc_run.proofs.UsedLemmas.{as_used}
+use Rattle.dc_run.proofs.LoadCounts.{LastCounts, load_counts, loads_counted}
 use Rattle.dc_run.proofs.RunLemmas.{ends_so}
 
 -- ---- ends before the tool
@@ -78,20 +88,43 @@ module _ (links : Links) where
   at_pattern place pattern.TooLarge = all_stay
   at_pattern place pattern.OutOfMemory = none_rose
 
-  at_load : (error : LoadError) → LinksCount (end_of_load error) links links
-  at_load (load.Failed path) = all_stay
-  at_load (load.Damaged path line) = all_stay
-  at_load load.OutOfMemory = none_rose
+  -- no link counts anything before the first load
+  unloaded_links : (used : Tool) (path : List ℕ) (old new : FilesState) (how : End) → EndsUnloaded used path old new how → LinksCount how links links
+  unloaded_links used path old new how (inl none) = rw none.end_is none_rose
+  unloaded_links used path old new how (inr (inl unread)) = rw unread.end_is all_stay
+  unloaded_links used path old new how (inr (inr (inl refused))) = rw refused.end_is (at_conf refused.error)
+  unloaded_links used path old new how (inr (inr (inr (inl wrong)))) = rw wrong.end_is all_stay
+  unloaded_links used path old new how (inr (inr (inr (inr (inl misused))))) = rw misused.end_is all_stay
+  unloaded_links used path old new how (inr (inr (inr (inr (inr (inl at)))))) = rw at.end_is (at_pattern (Word at.word.place) at.error)
+  unloaded_links used path old new how (inr (inr (inr (inr (inr (inr at)))))) = rw at.end_is (at_pattern (Database at.refused.place) at.refused.error)
 
-  -- no link counts anything before the tool
-  pub before_links : (used : Tool) (path : List ℕ) (old : FilesState) (new : Stock) (how : End) → EndsBefore used path old new how → LinksCount how links links
-  before_links used path old new how (inl none) = rw none.end_is none_rose
-  before_links used path old new how (inr (inl unread)) = rw unread.end_is all_stay
-  before_links used path old new how (inr (inr (inl refused))) = rw refused.end_is (at_conf refused.error)
-  before_links used path old new how (inr (inr (inr (inl wrong)))) = rw wrong.end_is all_stay
-  before_links used path old new how (inr (inr (inr (inr (inl at))))) = rw at.end_is (at_pattern (Word at.word.place) at.error)
-  before_links used path old new how (inr (inr (inr (inr (inr (inl at)))))) = rw at.end_is (at_pattern (Database at.refused.place) at.refused.error)
-  before_links used path old new how (inr (inr (inr (inr (inr (inr at)))))) = rw at.end_is (at_load at.error)
+-- ---- loads
+
+-- by the end of a run of which a layer isn't loaded
+at_load : (error : SourceError) (before now : Links) → now.child.counts ≡ before.child.counts → LastCounts (Err error) before.io.counts now.io.counts → LinksCount (end_of_load error) before now
+at_load (source.Files (load.Failed path)) before now child last = record { on_io = last; on_child = child }
+at_load (source.Files (load.Damaged path line)) before now child last = record { on_io = last; on_child = child }
+at_load (source.Files load.OutOfMemory) before now child last = record { on_io = inl last; on_child = inl child }
+at_load (source.Pipe pipe.Failed) before now child last = inl (record { on_io = last; on_child = child })
+at_load (source.Pipe (pipe.Damaged line)) before now child last = record { on_io = last; on_child = child }
+at_load (source.Pipe pipe.TooLong) before now child last = record { on_io = last; on_child = child }
+at_load (source.Pipe pipe.OutOfMemory) before now child last = record { on_io = last; on_child = inl child }
+
+-- how the links count the calls of a run that ends before its tool
+before_calls : (used : Tool) (path : List ℕ) (old : World) (sources : Sources) (new : Ground) (how : End) (now : Links) → sources.link ≡ old.links.io → now ≡ record { io = new.sources.link; child = old.links.child } → EndsBefore used path sources new how
+    → CountsCalls how old.links now
+before_calls used path old sources new how now at is (inl before) = subst (λ (l : Links). CountsCalls how old.links l) (sym is) (record {
+  mid = old.links.io;
+  loads = inl refl;
+  behind = subst (λ (l : LinkState). LinksCount how old.links (record { io = l; child = old.links.child })) (sym (before.1 ∙ at)) (unloaded_links old.links used path sources.files new.sources.files how before.0);
+})
+before_calls used path old sources new how now at is (inr unloaded) =
+    let counted = load_counts _ _ _ _ _ _ unloaded.loaded.loads in
+    subst (λ (l : Links). CountsCalls how old.links l) (sym is) (record {
+      mid = counted.mid;
+      loads = subst (λ (l : LinkState). CountsLoads l.counts counted.mid.counts) at counted.loads;
+      behind = rw unloaded.end_is (at_load unloaded.error (record { io = counted.mid; child = old.links.child }) (record { io = new.sources.link; child = old.links.child }) refl counted.last);
+    })
 
 module _ (failures : ℕ) where
   program_conf : (error : ConfError) → ProgramCounts (end_of_conf error) failures failures
@@ -103,20 +136,28 @@ module _ (failures : ℕ) where
   program_pattern place pattern.TooLarge = inl refl
   program_pattern place pattern.OutOfMemory = inl refl
 
-  program_load : (error : LoadError) → ProgramCounts (end_of_load error) failures failures
-  program_load (load.Failed path) = inl refl
-  program_load (load.Damaged path line) = inl refl
-  program_load load.OutOfMemory = inl refl
+  program_load : (error : SourceError) → ProgramCounts (end_of_load error) failures failures
+  program_load (source.Files (load.Failed path)) = inl refl
+  program_load (source.Files (load.Damaged path line)) = inl refl
+  program_load (source.Files load.OutOfMemory) = inl refl
+  program_load (source.Pipe pipe.Failed) = inl refl
+  program_load (source.Pipe (pipe.Damaged line)) = inl refl
+  program_load (source.Pipe pipe.TooLong) = inl refl
+  program_load (source.Pipe pipe.OutOfMemory) = inl refl
+
+  unloaded_program : (used : Tool) (path : List ℕ) (old new : FilesState) (how : End) → EndsUnloaded used path old new how → ProgramCounts how failures failures
+  unloaded_program used path old new how (inl none) = rw none.end_is (inl refl)
+  unloaded_program used path old new how (inr (inl unread)) = rw unread.end_is (inl refl)
+  unloaded_program used path old new how (inr (inr (inl refused))) = rw refused.end_is (program_conf refused.error)
+  unloaded_program used path old new how (inr (inr (inr (inl wrong)))) = rw wrong.end_is (inl refl)
+  unloaded_program used path old new how (inr (inr (inr (inr (inl misused))))) = rw misused.end_is (inl refl)
+  unloaded_program used path old new how (inr (inr (inr (inr (inr (inl at)))))) = rw at.end_is (program_pattern (Word at.word.place) at.error)
+  unloaded_program used path old new how (inr (inr (inr (inr (inr (inr at)))))) = rw at.end_is (program_pattern (Database at.refused.place) at.refused.error)
 
   -- and no start or wait was done
-  pub before_program : (used : Tool) (path : List ℕ) (old : FilesState) (new : Stock) (how : End) → EndsBefore used path old new how → ProgramCounts how failures failures
-  before_program used path old new how (inl none) = rw none.end_is (inl refl)
-  before_program used path old new how (inr (inl unread)) = rw unread.end_is (inl refl)
-  before_program used path old new how (inr (inr (inl refused))) = rw refused.end_is (program_conf refused.error)
-  before_program used path old new how (inr (inr (inr (inl wrong)))) = rw wrong.end_is (inl refl)
-  before_program used path old new how (inr (inr (inr (inr (inl at))))) = rw at.end_is (program_pattern (Word at.word.place) at.error)
-  before_program used path old new how (inr (inr (inr (inr (inr (inl at)))))) = rw at.end_is (program_pattern (Database at.refused.place) at.refused.error)
-  before_program used path old new how (inr (inr (inr (inr (inr (inr at)))))) = rw at.end_is (program_load at.error)
+  pub before_program : (used : Tool) (path : List ℕ) (old : Sources) (new : Ground) (how : End) → EndsBefore used path old new how → ProgramCounts how failures failures
+  before_program used path old new how (inl before) = unloaded_program used path old.files new.sources.files how before.0
+  before_program used path old new how (inr at) = rw at.end_is (program_load at.error)
 
 -- ---- a link that was served
 
@@ -375,59 +416,11 @@ tool_links (Drill count) state roots settings now answer said left saves uses = 
 
 -- ---- the end of the run
 
-module _ (layers used : List LayerState) (files new : FilesState) (before now : Links) where
-  run_links : (ended : ToolEnd) (how : End) → Finishes layers used ended files new how → ToolLinks ended before now → LinksCount how before now
-  run_links tool.Done how (inl saved) links = rw saved.end_is links
-  run_links tool.Done how (inr (inl unsaved)) links = rw unsaved.end_is links
-  run_links tool.Done how (inr (inr none)) links = rw none.end_is (record { on_io = inl links.on_io; on_child = inl links.on_child })
-  run_links tool.TooLong how (inl saved) links = rw saved.end_is links
-  run_links tool.TooLong how (inr (inl unsaved)) links = rw unsaved.end_is links
-  run_links tool.TooLong how (inr (inr none)) links = rw none.end_is (record { on_io = inl links.on_io; on_child = inl links.on_child })
-  run_links tool.LinkFault how (inl saved) links = rw saved.end_is links
-  run_links tool.LinkFault how (inr (inl unsaved)) links = rw unsaved.end_is links
-  run_links tool.LinkFault how (inr (inr none)) (inl own) = rw none.end_is (record { on_io = inr (inl own.on_io); on_child = inl own.on_child })
-  run_links tool.LinkFault how (inr (inr none)) (inr child) = rw none.end_is (record { on_io = inl child.on_io; on_child = inr (inl child.on_child) })
-  run_links tool.PrintFault how broken links = rw broken.end_is (inl links)
-  run_links tool.TermFault how broken links = rw broken.end_is links
-  run_links tool.ChildFault how broken links = rw broken.end_is links
-  run_links tool.OutOfMemory how broken links = rw broken.end_is links
-  run_links (tool.FilesFault path) how broken links = rw broken.end_is links
-
-  -- how it ends where nothing is saved
-  unsaved_links : (ended : ToolEnd) → ToolLinks ended before now → LinksCount (end_of ended) before now
-  unsaved_links tool.Done links = links
-  unsaved_links tool.TooLong links = links
-  unsaved_links tool.LinkFault links = links
-  unsaved_links tool.PrintFault links = inl links
-  unsaved_links tool.TermFault links = links
-  unsaved_links tool.ChildFault links = links
-  unsaved_links tool.OutOfMemory links = links
-  unsaved_links (tool.FilesFault path) links = links
-
-  ended_links : (keeps : Bool) (ended : ToolEnd) (how : End) → FinishesWhere keeps layers used ended files new how → ToolLinks ended before now → LinksCount how before now
-  ended_links true ended how finished links = run_links ended how finished links
-  ended_links false ended how broken links = rw broken.end_is (unsaved_links ended links)
-
--- a wait that failed leaves the links
-unwaited_links : (how : End) (before now : Links) → LinksCount how before now → LinksCount (end_unwaited how) before now
-unwaited_links end.Done before now links = links
-unwaited_links (end.Usage word) before now links = links
-unwaited_links (end.ConfRefused line kind) before now links = links
-unwaited_links (end.BadPattern place) before now links = links
-unwaited_links (end.PatternTooLarge place) before now links = links
-unwaited_links (end.Damaged path line) before now links = links
-unwaited_links end.OutOfMemory before now links = links
-unwaited_links (end.FilesFault path) before now links = links
-unwaited_links end.LinkFault before now links = links
-unwaited_links end.TermFault before now links = links
-unwaited_links end.ChildFault before now links = links
-unwaited_links end.TooLong before now links = links
-
-module _ (before mid now : Links) (io : now.io ≡ mid.io) where
+module _ (before mid now : Links) (io : now.io.counts ≡ mid.io.counts) where
   module _ (child : now.child.counts ≡ mid.child.counts) where
     both : (one other : Counts → Counts → Type 0) → Both one other before mid → Both one other before now
     both one other counts = record {
-      on_io = subst (λ (c : Counts). one before.io.counts c) (sym (ap (λ (l : LinkState). l.counts) io)) counts.on_io;
+      on_io = subst (λ (c : Counts). one before.io.counts c) (sym io) counts.on_io;
       on_child = subst (λ (c : Counts). other before.child.counts c) (sym child) counts.on_child;
     }
 
@@ -446,10 +439,93 @@ module _ (before mid now : Links) (io : now.io ≡ mid.io) where
     same_links end.ChildFault counts = both Stays Stays counts
     same_links end.TooLong counts = both Stays Stays counts
 
+module _ (left new : Ground) (before : Links) (child : LinkState) where
+  -- the links as the tool left them, and as the run does
+  abbrev mid_links : Links
+  mid_links = record { io = left.sources.link; child = child }
+
+  abbrev now_links : Links
+  now_links = record { io = new.sources.link; child = child }
+
+  piped_counts : (text : Option (List ℕ)) → SendsPiped text left.sources.link new.sources.link (Ok tt) → new.sources.link.counts ≡ left.sources.link.counts
+  piped_counts None is = ap (λ (l : LinkState). l.counts) is.1
+  piped_counts (Some text) is = ap (λ (l : LinkState). l.counts) is
+
+  sent_links : (ended : ToolEnd) (how : End) → SendsOf ended left new (Ok tt) → LinksCount how before mid_links → LinksCount how before now_links
+  sent_links ended how sent = same_links before mid_links now_links (piped_counts (outgoing ended left.used) sent) refl how
+
+  stayed_links : (how : End) → new ≡ left → LinksCount how before mid_links → LinksCount how before now_links
+  stayed_links how stays = same_links before mid_links now_links (ap (λ (g : Ground). g.sources.link.counts) stays) refl how
+
+  -- the text was sent, or nothing was done
+  may_links : (ended : ToolEnd) → SendsOf ended left new (Ok tt) ⊎ (new ≡ left) → LinksCount end.OutOfMemory before mid_links → LinksCount end.OutOfMemory before now_links
+  may_links ended (inl sent) links = sent_links ended end.OutOfMemory sent links
+  may_links ended (inr stays) links = stayed_links end.OutOfMemory stays links
+
+  unsent_links : (text : Option (List ℕ)) (error : LinkError) → SendsPiped text left.sources.link new.sources.link (Err error) → Both Stays Stays before mid_links → LinksCount (end_unsent error) before now_links
+  unsent_links None error is links = absurd (let wrong = is.0 in cc)
+  unsent_links (Some text) Failed cut links = inl (record { on_io = subst (λ (c : Counts). FaultRose c new.sources.link.counts) links.on_io cut.rose; on_child = links.on_child })
+  unsent_links (Some text) OutOfMemory refused links = record { on_io = inr (inr (subst (λ (c : Counts). RefusalRose c new.sources.link.counts) links.on_io refused.rose)); on_child = inl links.on_child }
+
+  -- behind a tool that didn't do all nothing goes out
+  all_sent : (error : LinkError) → SendsPiped None left.sources.link new.sources.link (Err error) → ⊥
+  all_sent error is = let wrong = is.0 in cc
+
+  run_links : (ended : ToolEnd) (how : End) → Finishes left new ended how → ToolLinks ended before mid_links → LinksCount how before now_links
+  run_links tool.Done how (inl saved) links = rw saved.end_is (sent_links tool.Done end.Done saved.sent links)
+  run_links tool.Done how (inr (inl unsaved)) links = rw unsaved.end_is (sent_links tool.Done (end.FilesFault unsaved.path) unsaved.sent links)
+  run_links tool.Done how (inr (inr (inl none))) links = rw none.end_is (may_links tool.Done none.sent (record { on_io = inl links.on_io; on_child = inl links.on_child }))
+  run_links tool.Done how (inr (inr (inr unsent))) links = rw unsent.end_is (unsent_links (outgoing tool.Done left.used) unsent.error unsent.sends links)
+  run_links tool.TooLong how (inl saved) links = rw saved.end_is (sent_links tool.TooLong end.TooLong saved.sent links)
+  run_links tool.TooLong how (inr (inl unsaved)) links = rw unsaved.end_is (sent_links tool.TooLong end.TooLong unsaved.sent links)
+  run_links tool.TooLong how (inr (inr (inl none))) links = rw none.end_is (may_links tool.TooLong none.sent (record { on_io = inl links.on_io; on_child = inl links.on_child }))
+  run_links tool.TooLong how (inr (inr (inr unsent))) links = absurd (all_sent unsent.error unsent.sends)
+  run_links tool.LinkFault how (inl saved) links = rw saved.end_is (sent_links tool.LinkFault end.LinkFault saved.sent links)
+  run_links tool.LinkFault how (inr (inl unsaved)) links = rw unsaved.end_is (sent_links tool.LinkFault end.LinkFault unsaved.sent links)
+  run_links tool.LinkFault how (inr (inr (inl none))) (inl own) = rw none.end_is (may_links tool.LinkFault none.sent (record { on_io = inr (inl own.on_io); on_child = inl own.on_child }))
+  run_links tool.LinkFault how (inr (inr (inl none))) (inr other) = rw none.end_is (may_links tool.LinkFault none.sent (record { on_io = inl other.on_io; on_child = inr (inl other.on_child) }))
+  run_links tool.LinkFault how (inr (inr (inr unsent))) links = absurd (all_sent unsent.error unsent.sends)
+  run_links tool.PrintFault how broken links = rw broken.end_is (stayed_links end.LinkFault broken.stays (inl links))
+  run_links tool.TermFault how broken links = rw broken.end_is (stayed_links end.TermFault broken.stays links)
+  run_links tool.ChildFault how broken links = rw broken.end_is (stayed_links end.ChildFault broken.stays links)
+  run_links tool.OutOfMemory how broken links = rw broken.end_is (stayed_links end.OutOfMemory broken.stays links)
+  run_links (tool.FilesFault path) how broken links = rw broken.end_is (stayed_links (end.FilesFault path) broken.stays links)
+
+  -- how it ends where nothing is saved
+  unsaved_links : (ended : ToolEnd) → ToolLinks ended before mid_links → LinksCount (end_of ended) before mid_links
+  unsaved_links tool.Done links = links
+  unsaved_links tool.TooLong links = links
+  unsaved_links tool.LinkFault links = links
+  unsaved_links tool.PrintFault links = inl links
+  unsaved_links tool.TermFault links = links
+  unsaved_links tool.ChildFault links = links
+  unsaved_links tool.OutOfMemory links = links
+  unsaved_links (tool.FilesFault path) links = links
+
+  ended_links : (keeps : Bool) (ended : ToolEnd) (how : End) → FinishesWhere keeps left new ended how → ToolLinks ended before mid_links → LinksCount how before now_links
+  ended_links true ended how finished links = run_links ended how finished links
+  ended_links false ended how broken links = rw broken.end_is (stayed_links (end_of ended) broken.stays (unsaved_links ended links))
+
+-- a wait that failed leaves the links
+unwaited_links : (how : End) (before now : Links) → LinksCount how before now → LinksCount (end_unwaited how) before now
+unwaited_links end.Done before now links = links
+unwaited_links (end.Usage word) before now links = links
+unwaited_links (end.ConfRefused line kind) before now links = links
+unwaited_links (end.BadPattern place) before now links = links
+unwaited_links (end.PatternTooLarge place) before now links = links
+unwaited_links (end.Damaged path line) before now links = links
+unwaited_links end.OutOfMemory before now links = links
+unwaited_links (end.FilesFault path) before now links = links
+unwaited_links end.LinkFault before now links = links
+unwaited_links end.TermFault before now links = links
+unwaited_links end.ChildFault before now links = links
+unwaited_links end.TooLong before now links = links
+
+module _ (before mid now : Links) (io : now.io.counts ≡ mid.io.counts) where
   awaited_links : (started : Bool) (how ended : End) (status left : ℕ) → Awaits started mid.child now.child how ended status left → LinksCount how before mid → LinksCount ended before now
-  awaited_links true how ended status left (inl done) counts = rw done.end_is (same_links (ap (λ (l : LinkState). l.counts) done.waits) how counts)
-  awaited_links true how ended status left (inr failed) counts = rw failed.end_is (unwaited_links how before now (same_links (ap (λ (l : LinkState). l.counts) failed.waits.state) how counts))
-  awaited_links false how ended status left none counts = rw none.end_is (same_links (ap (λ (l : LinkState). l.counts) none.child) how counts)
+  awaited_links true how ended status left (inl done) counts = rw done.end_is (same_links before mid now io (ap (λ (l : LinkState). l.counts) done.waits) how counts)
+  awaited_links true how ended status left (inr failed) counts = rw failed.end_is (unwaited_links how before now (same_links before mid now io (ap (λ (l : LinkState). l.counts) failed.waits.state) how counts))
+  awaited_links false how ended status left none counts = rw none.end_is (same_links before mid now io (ap (λ (l : LinkState). l.counts) none.child) how counts)
 
 -- ---- the program
 
@@ -538,17 +614,24 @@ tool_program GetSelections roots start before now code answer said left saves us
 tool_program (Drill count) roots start before now code answer said left saves uses =
     subst (λ (c : LinkState). StartCounts answer.ended before.child.program.failures c.program.failures) (sym uses.0.child_is) (made_start uses.0.result answer.ended before.io now.io before.child.program.failures uses.0.prints)
 
-module _ (layers used : List LayerState) (files new : FilesState) (before now : ℕ) where
-  run_program : (ended : ToolEnd) (how : End) → Finishes layers used ended files new how → StartCounts ended before now → ProgramCounts how before now
+module _ (left new : Ground) (before now : ℕ) where
+  unsent_program : (error : LinkError) → now ≡ before → ProgramCounts (end_unsent error) before now
+  unsent_program Failed same = inl same
+  unsent_program OutOfMemory same = inl same
+
+  run_program : (ended : ToolEnd) (how : End) → Finishes left new ended how → StartCounts ended before now → ProgramCounts how before now
   run_program tool.Done how (inl saved) same = rw saved.end_is same
   run_program tool.Done how (inr (inl unsaved)) same = rw unsaved.end_is (inl same)
-  run_program tool.Done how (inr (inr none)) same = rw none.end_is (inl same)
+  run_program tool.Done how (inr (inr (inl none))) same = rw none.end_is (inl same)
+  run_program tool.Done how (inr (inr (inr unsent))) same = rw unsent.end_is (unsent_program unsent.error same)
   run_program tool.TooLong how (inl saved) same = rw saved.end_is (inl same)
   run_program tool.TooLong how (inr (inl unsaved)) same = rw unsaved.end_is (inl same)
-  run_program tool.TooLong how (inr (inr none)) same = rw none.end_is (inl same)
+  run_program tool.TooLong how (inr (inr (inl none))) same = rw none.end_is (inl same)
+  run_program tool.TooLong how (inr (inr (inr unsent))) same = rw unsent.end_is (unsent_program unsent.error same)
   run_program tool.LinkFault how (inl saved) same = rw saved.end_is (inl same)
   run_program tool.LinkFault how (inr (inl unsaved)) same = rw unsaved.end_is (inl same)
-  run_program tool.LinkFault how (inr (inr none)) same = rw none.end_is (inl same)
+  run_program tool.LinkFault how (inr (inr (inl none))) same = rw none.end_is (inl same)
+  run_program tool.LinkFault how (inr (inr (inr unsent))) same = rw unsent.end_is (unsent_program unsent.error same)
   run_program tool.PrintFault how broken same = rw broken.end_is (inl same)
   run_program tool.TermFault how broken same = rw broken.end_is (inl same)
   run_program tool.ChildFault how broken rose = rw broken.end_is rose
@@ -565,7 +648,7 @@ module _ (layers used : List LayerState) (files new : FilesState) (before now : 
   unsaved_program tool.OutOfMemory same = inl same
   unsaved_program (tool.FilesFault path) same = inl same
 
-  ended_program : (keeps : Bool) (ended : ToolEnd) (how : End) → FinishesWhere keeps layers used ended files new how → StartCounts ended before now → ProgramCounts how before now
+  ended_program : (keeps : Bool) (ended : ToolEnd) (how : End) → FinishesWhere keeps left new ended how → StartCounts ended before now → ProgramCounts how before now
   ended_program true ended how finished counts = run_program ended how finished counts
   ended_program false ended how broken counts = rw broken.end_is (unsaved_program ended counts)
 
@@ -600,19 +683,32 @@ awaited_program false before mid now how ended status left none counts = rw none
 -- ---- the whole run
 
 module _ (used : Tool) (settings : Settings) (old new : World) (outcome : Outcome) where
-  pub links_counted : (saves : List Save) → HasRunTool used settings old new outcome saves → LinksCount outcome.end old.links new.links
-  links_counted saves (inl before) = subst (λ (l : Links). LinksCount outcome.end old.links l) (sym before.1.links_are) (before_links old.links used settings.conf_path old.stock.files new.stock outcome.end before.0)
+  -- behind the loads
+  pub used_links : (run : HasUsed used settings old new outcome) → LinksCount outcome.end (on_ground old run.mid).links new.links
+  used_links run =
+      let started : World = on_ground old run.mid in
+      awaited_links started.links (record { io = new.links.io; child = run.links.child }) new.links refl run.answer.is_started run.how outcome.end run.answer.status run.status
+      run.awaits
+      (ended_links (ground_of run.left.files run.links.io run.left.layers) (ground_in new) started.links run.links.child (keeps_changes used) run.answer.ended run.how run.finishes
+      (tool_links used (before_rounds started) run.roots settings run.links run.answer run.told run.left run.inner run.uses))
+
+  pub links_counted : (saves : List Save) → HasRunTool used settings old new outcome saves → CountsCalls outcome.end old.links new.links
+  links_counted saves (inl before) =
+      before_calls used settings.conf_path old (ground_in old).sources (ground_in new) outcome.end new.links refl (λ i. record { io = new.links.io; child = before.1.child_is i }) before.0
   links_counted saves (inr worked) =
       let run = as_used used settings old new outcome saves worked in
-      awaited_links old.links run.links new.links run.io_is run.answer.is_started run.how outcome.end run.answer.status run.status run.awaits
-      (ended_links run.left.layers new.stock.used run.left.files new.stock.files old.links run.links (keeps_changes used) run.answer.ended run.how run.finishes
-      (tool_links used (before_rounds (record old { stock = run.mid })) run.roots settings run.links run.answer run.told run.left run.inner run.uses))
+      record {
+        mid = run.mid.sources.link;
+        loads = loads_counted old.links.io run.mid.sources.link (load_counts _ _ _ _ _ _ run.started.loaded.loads);
+        behind = used_links run;
+      }
 
   pub program_counted : (saves : List Save) → HasRunTool used settings old new outcome saves → ProgramCounts outcome.end old.links.child.program.failures new.links.child.program.failures
-  program_counted saves (inl before) = subst (λ (l : Links). ProgramCounts outcome.end old.links.child.program.failures l.child.program.failures) (sym before.1.links_are)
-      (before_program old.links.child.program.failures used settings.conf_path old.stock.files new.stock outcome.end before.0)
+  program_counted saves (inl before) = subst (λ (l : LinkState). ProgramCounts outcome.end old.links.child.program.failures l.program.failures) (sym before.1.child_is)
+      (before_program old.links.child.program.failures used settings.conf_path (ground_in old).sources (ground_in new) outcome.end before.0)
   program_counted saves (inr worked) =
       let run = as_used used settings old new outcome saves worked in
+      let started : World = on_ground old run.mid in
       awaited_program run.answer.is_started old.links.child.program.failures run.links.child new.links.child run.how outcome.end run.answer.status run.status run.awaits
-      (ended_program run.left.layers new.stock.used run.left.files new.stock.files old.links.child.program.failures run.links.child.program.failures (keeps_changes used) run.answer.ended run.how run.finishes
-      (tool_program used run.roots (begun used (before_rounds (record old { stock = run.mid })) run.roots settings) old.links run.links 0 run.answer run.told run.left run.inner run.uses))
+      (ended_program (ground_of run.left.files run.links.io run.left.layers) (ground_in new) old.links.child.program.failures run.links.child.program.failures (keeps_changes used) run.answer.ended run.how run.finishes
+      (tool_program used run.roots (begun used (before_rounds started) run.roots settings) started.links run.links 0 run.answer run.told run.left run.inner run.uses))

@@ -5,7 +5,6 @@ use Rattle.std.specs.Prelude.{codes, fold, Result, Ok, Err}
 use Rattle.std.specs.Result.{result_unwrap_or}
 use Rattle.dc_words.specs.declared.stream.Line.{Line}
 use Rattle.dc_outside.specs.Disk.{Disk, IsDurable}
-use Rattle.dc_outside.specs.Counts.{Counts}
 use Rattle.dc_outside.specs.State.{FilesView, LinkState}
 use Rattle.dc_outside.specs.declared.link.Piece.{Piece}
 use Rattle.dc_proto.specs.declared.command.Command.{Command}
@@ -31,18 +30,26 @@ use Rattle.dc_save.specs.Loading.{with_loaded, LoadsFile, LoadsOneFile, LoadsBy,
 use Rattle.dc_save.specs.Places.{AreSetUpFor}
 use Rattle.dc_save.proofs.FileTurnLemmas.{reads_disk}
 use Rattle.dc_conf.specs.declared.spec.LayerSort.{LayerSort}
-use Rattle.dc_conf.specs.declared.spec.LayerSort.TheVariants.{File, Tree, Pack}
+use Rattle.dc_conf.specs.declared.spec.LayerSort.TheVariants.{File, Tree, Pack, Pipe}
 use Rattle.dc_save.specs.Saving.{Ends, AreApart, StandSaved}
 use Rattle.dc_save.specs.declared.loading.Loaded.{Loaded}
 use Rattle.dc_save.specs.declared.loading.Loaded.TheVariants.{Here, LeftOut}
+use Rattle.dc_save.specs.PipeLoading.{LoadsWhere, ReadsPipe}
 use Rattle.dc_save.specs.declared.loading.LoadError.{LoadError}
+use Rattle.dc_save.specs.declared.pipe_loading.PipeError.{PipeError}
+use Rattle.dc_save.specs.declared.pipe_loading.PipeError.TheVariants as pipe
+use Rattle.dc_save.specs.declared.pipe_loading.PipeLoaded.{PipeLoaded}
+use Rattle.dc_save.specs.declared.pipe_loading.PipeLoaded.TheVariants as piped
+use Rattle.dc_outside.specs.declared.link.LinkError.{LinkError}
+use Rattle.dc_outside.specs.declared.link.LinkError.TheVariants.{Failed, OutOfMemory}
+use Rattle.dc_shelf.specs.declared.loading.SourceError.{SourceError}
 use Rattle.dc_save.specs.declared.loading.LoadError.TheVariants as load
 use Rattle.dc_save.specs.declared.saving.SaveError.{SaveError}
 use Rattle.dc_save.specs.declared.saving.SaveError.TheVariants as save
 use Rattle.dc_save.proofs.DiskState.{every_moment}
 use Rattle.dc_save.proofs.Ends.{ends, keeps_paths, stand_saved}
 use Rattle.dc_save.proofs.PlaceLemmas.{places_apart, layers_of}
-use Rattle.dc_shelf.specs.Shelves.{all_set_up, GoesOn, LoadsAll}
+use Rattle.dc_shelf.specs.Shelves.{all_set_up, GoesOn, LoadAnswer, LoadsAll, LoadsOne, Sources}
 use Rattle.dc_serve.specs.Execution.{Transition, state_after, IsExecution}
 use Rattle.dc_serve.specs.LinkRun.{Answered}
 use Rattle.dc_serve.specs.Said.{said, BreaksOff}
@@ -60,24 +67,24 @@ use Rattle.dc_session.specs.declared.template_files.Found.{Found}
 use Rattle.dc_session.specs.declared.template_files.Found.TheVariants.{Unreadable, Missing, Faulty, Templates}
 use Rattle.dc_session.proofs.DiskLaws.{breaks_reads}
 use Rattle.dc_session.proofs.FrameLaws.{row_keeps, others_stay}
-use Rattle.dc_run.specs.Ends.{IsEnded, tool_end_of, comes_to_save, end_by, end_of, end_unwaited}
+use Rattle.dc_run.specs.Ends.{IsEnded, tool_end_of, comes_to_save, end_by, end_of, end_unsent, end_unwaited}
 use Rattle.dc_run.specs.Running.{Awaits}
 use Rattle.dc_run.specs.Finishing.{images_of}
 use Rattle.dc_run.specs.Jobs.{CopiesBy, HasTaken, Uses}
 use Rattle.dc_run.specs.Roots.{CopyRoots, Roots}
 use Rattle.dc_run.specs.Kills.{AllDone}
-use Rattle.dc_run.specs.Saves.{Save, AreSaves, Commits}
+use Rattle.dc_run.specs.Saves.{Save, AreSaves, Commits, HasNoImages, HasNotSent}
 use Rattle.dc_run.specs.SavingSession.{TakesSaving, BreaksSaving, IsServedSaving, saves_in, broken_save}
 use Rattle.dc_run.specs.declared.saving_session.SavingBreak.{SavingBreak}
 use Rattle.dc_run.specs.declared.saving_session.SavingBreak.TheVariants as saving
-use Rattle.dc_run.specs.Starting.{conf_text, IsConfiguration, EndsBefore, HasLoaded, HasReadConf, databases_of, has_files, keeps_changes, roots}
+use Rattle.dc_run.specs.Starting.{conf_text, IsConfiguration, EndsBefore, EndsUnloaded, HasLoaded, HasReadConf, databases_of, has_files, keeps_changes, roots}
 use Rattle.dc_run.proofs.KindLemmas.{Kind, kind_of, specs_in, same_specs}
 use Rattle.dc_run.proofs.Kills.{saves_joined, done_joined, each_joined}
 use Rattle.dc_run.proofs.SavingLemmas.{IsOfKinds, specs_of, lines_keep, lines_save, saves_done, saves_kept}
 use Rattle.dc_run.proofs.SelectionLemmas.{selections_keep}
 use Rattle.dc_cli.specs.Tools.{Names}
 use Rattle.dc_run.specs.TemplateLoading.{FileTurn, IsFileTurn, IsFileCourse, state_after as file_state, EndsAt}
-use Rattle.dc_run.specs.World.{Links, Stock}
+use Rattle.dc_run.specs.World.{Ground, Links}
 use Rattle.dc_run.specs.declared.outcome.End.{End}
 use Rattle.dc_run.specs.declared.outcome.End.TheVariants as end
 use Rattle.dc_run.specs.declared.outcome.ToolAnswer.{ToolAnswer}
@@ -117,22 +124,29 @@ reads_by : (sort : LayerSort) (old new : FilesView) (spec : LayerSpec) (first : 
 reads_by File old new spec first is = file_reads old new spec.place first is
 reads_by Tree old new spec first is = folder_reads old new spec first is
 reads_by Pack old new spec first is = folder_reads old new spec first is
+reads_by Pipe old new spec first is = absurd is
 
 pub load_reads : (old new : FilesView) (spec : LayerSpec) (first : Result Loaded LoadError) → LoadsFiles old new spec first → new.disk ≡ old.disk
 load_reads old new spec first is = reads_by spec.sort old new spec first is
 
-goes_on : (P : Type 0) (first : Result Loaded LoadError) (result : Result (Unit {0}) LoadError) (more last : Type 0) → (more → P) → (last → P) → GoesOn first result more last → P
-goes_on P (Ok loaded) result more last on at is = on is
-goes_on P (Err error) result more last on at is = at is.1
+one_reads : (spec : LayerSpec) (layer made : LayerState) (old new : Sources) (first : LoadAnswer) → LoadsOne spec layer made old new first → new.files.view.disk ≡ old.files.view.disk
+one_reads spec layer made old new (LoadAnswer.OfFiles first) is = load_reads old.files.view new.files.view spec first is.1
+one_reads spec layer made old new (LoadAnswer.OfPipe first) is = ap (λ (f : FilesState). f.view.disk) is.2
 
-pub all_read : (specs : List LayerSpec) (old new : List LayerState) (files files_new : FilesView) (before now : Counts) (result : Result (Unit {0}) LoadError) → LoadsAll specs old new files files_new before now result → files_new.disk ≡ files.disk
-all_read [] old new files files_new before now result is = ap (λ (t : FilesView). t.disk) is.2
-all_read (spec ∷ specs) [] new files files_new before now result is = absurd is
-all_read (spec ∷ specs) (layer ∷ old) [] files files_new before now result is = absurd is
-all_read (spec ∷ specs) (layer ∷ old) (made ∷ new) files files_new before now result is =
-    goes_on (files_new.disk ≡ is.1.disk) is.0 result (LoadsAll specs old new is.1 files_new is.2 now result) ((new ≡ old) × (files_new ≡ is.1) × (now ≡ is.2))
-    (all_read specs old new is.1 files_new is.2 now result) (λ last. ap (λ (t : FilesView). t.disk) last.1) is.6
-    ∙ load_reads files is.1 spec is.0 is.4
+goes_on : (P : Type 0) (first : LoadAnswer) (result : Result (Unit {0}) SourceError) (more last : Type 0) → (more → P) → (last → P) → GoesOn first result more last → P
+goes_on P (LoadAnswer.OfFiles (Ok loaded)) result more last on at is = on is
+goes_on P (LoadAnswer.OfPipe (Ok loaded)) result more last on at is = on is
+goes_on P (LoadAnswer.OfFiles (Err error)) result more last on at is = at is.1
+goes_on P (LoadAnswer.OfPipe (Err error)) result more last on at is = at is.1
+
+pub all_read : (specs : List LayerSpec) (old new : List LayerState) (from left : Sources) (result : Result (Unit {0}) SourceError) → LoadsAll specs old new from left result → left.files.view.disk ≡ from.files.view.disk
+all_read [] old new from left result is = ap (λ (s : Sources). s.files.view.disk) is.2
+all_read (spec ∷ specs) [] new from left result is = absurd is
+all_read (spec ∷ specs) (layer ∷ old) [] from left result is = absurd is
+all_read (spec ∷ specs) (layer ∷ old) (made ∷ new) from left result is =
+    goes_on (left.files.view.disk ≡ is.1.files.view.disk) is.0 result (LoadsAll specs old new is.1 left result) ((new ≡ old) × (left ≡ is.1))
+    (all_read specs old new is.1 left result) (λ last. ap (λ (s : Sources). s.files.view.disk) last.1) is.3
+    ∙ one_reads spec layer made from is.1 is.0 is.2
 
 conf_reads : (is : Bool) (files : FilesView) (path : List ℕ) → (if is then after_look files Read path true else files).disk ≡ files.disk
 conf_reads true files path = refl
@@ -142,20 +156,24 @@ read_conf : (used : Tool) (path : List ℕ) (old new : FilesState) → HasReadCo
 read_conf used path old new read = ap (λ (t : FilesView). t.disk) read.files_are ∙ conf_reads (has_files used) old.view path
 
 -- what loading did
-pub loads_read : (used : Tool) (path : List ℕ) (conf : Configuration) (old : FilesState) (new : Stock) (result : Result (Unit {0}) LoadError) → HasLoaded used path conf old new result → new.files.view.disk ≡ old.view.disk
-loads_read used path conf old new result loaded = all_read _ _ _ _ _ _ _ _ loaded.loads ∙ conf_reads (has_files used) old.view path
+pub loads_read : (used : Tool) (path : List ℕ) (conf : Configuration) (old : Sources) (new : Ground) (result : Result (Unit {0}) SourceError) → HasLoaded used path conf old new result → new.sources.files.view.disk ≡ old.files.view.disk
+loads_read used path conf old new result loaded = all_read _ _ _ _ _ _ loaded.loads ∙ conf_reads (has_files used) old.files.view path
 
-pub before_reads : (used : Tool) (path : List ℕ) (old : FilesState) (new : Stock) (how : End) → EndsBefore used path old new how → new.files.view.disk ≡ old.view.disk
-before_reads used path old new how (inl memory) = elim memory.begun [
+unloaded_reads : (used : Tool) (path : List ℕ) (old new : FilesState) (how : End) → EndsUnloaded used path old new how → new.view.disk ≡ old.view.disk
+unloaded_reads used path old new how (inl memory) = elim memory.begun [
   | inl none ↦ ap (λ (t : FilesView). t.disk) none.files_are
-  | inr read ↦ read_conf used path old new.files read
+  | inr read ↦ read_conf used path old new read
 ]
-before_reads used path old new how (inr (inl unread)) = ap (λ (t : FilesView). t.disk) unread.files_are
-before_reads used path old new how (inr (inr (inl refused))) = read_conf used path old new.files refused.read
-before_reads used path old new how (inr (inr (inr (inl wrong)))) = read_conf used path old new.files wrong.read
-before_reads used path old new how (inr (inr (inr (inr (inl unbuilt))))) = read_conf used path old new.files unbuilt.read
-before_reads used path old new how (inr (inr (inr (inr (inr (inl unset)))))) = read_conf used path old new.files unset.read
-before_reads used path old new how (inr (inr (inr (inr (inr (inr unloaded)))))) = loads_read _ _ _ _ _ _ unloaded.loaded
+unloaded_reads used path old new how (inr (inl unread)) = ap (λ (t : FilesView). t.disk) unread.files_are
+unloaded_reads used path old new how (inr (inr (inl refused))) = read_conf used path old new refused.read
+unloaded_reads used path old new how (inr (inr (inr (inl wrong)))) = read_conf used path old new wrong.read
+unloaded_reads used path old new how (inr (inr (inr (inr (inl misused))))) = read_conf used path old new misused.read
+unloaded_reads used path old new how (inr (inr (inr (inr (inr (inl unbuilt)))))) = read_conf used path old new unbuilt.read
+unloaded_reads used path old new how (inr (inr (inr (inr (inr (inr unset)))))) = read_conf used path old new unset.read
+
+pub before_reads : (used : Tool) (path : List ℕ) (old : Sources) (new : Ground) (how : End) → EndsBefore used path old new how → new.sources.files.view.disk ≡ old.files.view.disk
+before_reads used path old new how (inl before) = unloaded_reads used path old.files new.sources.files how before.0
+before_reads used path old new how (inr unloaded) = loads_read _ _ _ _ _ _ unloaded.loaded
 
 -- ---- each layer stays one of its database
 
@@ -185,18 +203,35 @@ keeps_by : (sort : LayerSort) (disk : Option Disk) (spec : LayerSpec) (layer mad
 keeps_by File disk spec layer made first is = file_keeps disk spec layer made first is
 keeps_by Tree disk spec layer made first is = folder_keeps disk spec layer made first is
 keeps_by Pack disk spec layer made first is = folder_keeps disk spec layer made first is
+keeps_by Pipe disk spec layer made first is = absurd is
 
 load_keeps : (disk : Option Disk) (spec : LayerSpec) (layer made : LayerState) (first : Result Loaded LoadError) → LoadsLayer disk spec layer made first → kind_of made ≡ kind_of layer
 load_keeps disk spec layer made first is = keeps_by spec.sort disk spec layer made first is
 
-pub loads_keep : (specs : List LayerSpec) (old new : List LayerState) (files files_new : FilesView) (before now : Counts) (result : Result (Unit {0}) LoadError) → LoadsAll specs old new files files_new before now result → specs_in new ≡ specs_in old
-loads_keep [] old new files files_new before now result is = ap specs_in is.1
-loads_keep (spec ∷ specs) [] new files files_new before now result is = absurd is
-loads_keep (spec ∷ specs) (layer ∷ old) [] files files_new before now result is = absurd is
-loads_keep (spec ∷ specs) (layer ∷ old) (made ∷ new) files files_new before now result is =
-    let later : specs_in new ≡ specs_in old = goes_on (specs_in new ≡ specs_in old) is.0 result (LoadsAll specs old new is.1 files_new is.2 now result) ((new ≡ old) × (files_new ≡ is.1) × (now ≡ is.2))
-    (loads_keep specs old new is.1 files_new is.2 now result) (λ last. ap specs_in last.0) is.6 in
-    λ i. load_keeps files.disk spec layer made is.0 is.3 i ∷ later i
+read_keeps : (spec : LayerSpec) (layer made : LayerState) (old new : LinkState) (first : Result PipeLoaded PipeError) → ReadsPipe spec layer made old new first → kind_of made ≡ kind_of layer
+read_keeps spec layer made old new (Ok piped.Here) is = ap kind_of is.layer_is
+read_keeps spec layer made old new (Ok piped.LeftOut) is = ap kind_of is.2
+read_keeps spec layer made old new (Err pipe.Failed) is = ap kind_of is.2
+read_keeps spec layer made old new (Err (pipe.Damaged line)) is = ap kind_of is.1
+read_keeps spec layer made old new (Err pipe.TooLong) is = ap kind_of is.1
+read_keeps spec layer made old new (Err pipe.OutOfMemory) is = ap kind_of is.1
+
+pipe_keeps : (infd : Bool) (spec : LayerSpec) (layer made : LayerState) (old new : LinkState) (first : Result PipeLoaded PipeError) → LoadsWhere infd spec layer made old new first → kind_of made ≡ kind_of layer
+pipe_keeps true spec layer made old new first is = read_keeps spec layer made old new first is
+pipe_keeps false spec layer made old new first is = ap kind_of is.1
+
+one_keeps : (spec : LayerSpec) (layer made : LayerState) (old new : Sources) (first : LoadAnswer) → LoadsOne spec layer made old new first → kind_of made ≡ kind_of layer
+one_keeps spec layer made old new (LoadAnswer.OfFiles first) is = load_keeps old.files.view.disk spec layer made first is.0
+one_keeps spec layer made old new (LoadAnswer.OfPipe first) is = pipe_keeps spec.infd spec layer made old.link new.link first is.1
+
+pub loads_keep : (specs : List LayerSpec) (old new : List LayerState) (from left : Sources) (result : Result (Unit {0}) SourceError) → LoadsAll specs old new from left result → specs_in new ≡ specs_in old
+loads_keep [] old new from left result is = ap specs_in is.1
+loads_keep (spec ∷ specs) [] new from left result is = absurd is
+loads_keep (spec ∷ specs) (layer ∷ old) [] from left result is = absurd is
+loads_keep (spec ∷ specs) (layer ∷ old) (made ∷ new) from left result is =
+    let later : specs_in new ≡ specs_in old = goes_on (specs_in new ≡ specs_in old) is.0 result (LoadsAll specs old new is.1 left result) ((new ≡ old) × (left ≡ is.1))
+    (loads_keep specs old new is.1 left result) (λ last. ap specs_in last.0) is.3 in
+    λ i. one_keeps spec layer made from is.1 is.0 is.2 i ∷ later i
 
 pub set_up_specs : (specs : List LayerSpec) → specs_in (all_set_up specs) ≡ set_for specs
 set_up_specs [] = refl
@@ -495,6 +530,19 @@ saved_then tool.ChildFault (Err save.OutOfMemory) is = cc
 saved_then tool.OutOfMemory (Err save.OutOfMemory) is = cc
 saved_then (tool.FilesFault fault) (Err save.OutOfMemory) is = cc
 
+unsent_not_done : (error : LinkError) → end_unsent error ≡ end.Done → ⊥
+unsent_not_done Failed is = cc
+unsent_not_done OutOfMemory is = cc
+
+-- a round whose text wasn't sent, or for whose images there was no memory, didn't do all
+undone : (ended : ToolEnd) (left new : Ground) (last : List Save) (how : End) → HasNotSent ended left new last how ⊎ HasNoImages left new last how → how ≡ end.Done → ⊥
+undone ended left new last how (inl unsent) done = unsent_not_done unsent.unsent.error (sym unsent.unsent.end_is ∙ done)
+undone ended left new last how (inr none) done = let wrong : end.OutOfMemory ≡ end.Done = sym none.end_is ∙ done in cc
+
+none_saved : (ended : ToolEnd) (left new : Ground) (last : List Save) (how : End) → HasNotSent ended left new last how ⊎ HasNoImages left new last how → last ≡ []
+none_saved ended left new last how (inl unsent) = unsent.saves_are
+none_saved ended left new last how (inr none) = none.saves_are
+
 of_done : (ended : ToolEnd) → end_of ended ≡ end.Done → IsEnded ended
 of_done tool.Done is = tt
 of_done tool.LinkFault is = tt
@@ -505,22 +553,25 @@ of_done tool.ChildFault is = cc
 of_done tool.OutOfMemory is = cc
 of_done (tool.FilesFault path) is = cc
 
-module _ (left new : Stock) (last : List Save) (how : End) (ended : ToolEnd) where
+module _ (left new : Ground) (last : List Save) (how : End) (ended : ToolEnd) where
   -- a round that did all was one of a tool that did
   pub ended_all : (saves : Bool) → Commits saves ended left new last how → how ≡ end.Done → IsEnded ended
-  ended_all true has done =
+  ended_all true (inl has) done =
       let all : end_by ended has.answer ≡ end.Done = sym has.end_is ∙ done in
       of_done ended (ap (end_by ended) (sym (saved_then ended has.answer all)) ∙ all)
+  ended_all true (inr none) done = absurd (undone ended left new last how none done)
   ended_all false has done = of_done ended (sym has.end_is ∙ done)
 
   -- what is said of the layers that are saved is said of each save
   pub each_save : (Of : List LayerState → Type 0) (saves : Bool) → Commits saves ended left new last how → (saves ≡ true → Of left.used) → AllByRecursion (λ save. Of save.layers) last
-  each_save Of true has of = subst (AllByRecursion (λ (save : Save). Of save.layers)) (sym has.saves_are) (of refl, tt)
+  each_save Of true (inl has) of = subst (AllByRecursion (λ (save : Save). Of save.layers)) (sym has.saves_are) (of refl, tt)
+  each_save Of true (inr none) of = subst (AllByRecursion (λ (save : Save). Of save.layers)) (sym (none_saved ended left new last how none)) tt
   each_save Of false has of = subst (AllByRecursion (λ (save : Save). Of save.layers)) (sym has.saves_are) tt
 
   -- where the round did all, its save is done
   pub all_saved_then : (saves : Bool) → Commits saves ended left new last how → how ≡ end.Done → AllDone last
-  all_saved_then true has done = subst AllDone (sym has.saves_are) (saved_then ended has.answer (sym has.end_is ∙ done), tt)
+  all_saved_then true (inl has) done = subst AllDone (sym has.saves_are) (saved_then ended has.answer (sym has.end_is ∙ done), tt)
+  all_saved_then true (inr none) done = absurd (undone ended left new last how none done)
   all_saved_then false has done = subst AllDone (sym has.saves_are) tt
 
 -- ---- the program is waited for

@@ -1,11 +1,12 @@
 -- Which databases the words of a tool name, and which of them plans share.
 use Rattle.std.proofs.Common.{◌≡◌, ◌⊎◌, ℕ, ◌+◌, Bool, true, false, cond, not, ◌&&◌, List, [], ◌∷◌, ◌++◌, length, Option, Some, None, Ok, refl, sym, ap, ◌∙◌, subst, inl, inr, arith, nat_eq}
 use Rattle.std.specs.Prelude.{◌||◌}
-use Rattle.std.specs.Prelude.{option_to_list}
-use Rattle.std.specs.List.{AllByRecursion, list_any}
+use Rattle.std.specs.Prelude.{is_some, option_to_list}
+use Rattle.std.specs.List.{AllByRecursion, list_all, list_any}
 use Rattle.std.proofs.lemmas.Bool.Decides.{nat_tests}
 use Rattle.std.proofs.lemmas.List.Folds.{list_all-append}
 use Rattle.dc_conf.specs.Configuration.{AreDisjoint, Configuration, HavePlans, IsFirstUnknown, IsOnce, IsPlan, IsResolved, is_among}
+use Rattle.dc_conf.specs.Nodes.{driver_line_of}
 use Rattle.dc_conf.specs.Plans.{IsOver, are_apart_from, are_disjoint}
 use Rattle.dc_conf.specs.Trees.{shape}
 use Rattle.dc_conf.specs.declared.nodes.Node.{Node}
@@ -257,9 +258,9 @@ module _ (used : Tool) (conf : Configuration) (all : List (List ℕ)) (are : all
 
   -- all of it, where no word is wrong
   pub resolved_for : (resolved : Resolved) → IsSomeConfiguration conf → IsResolved conf all (Ok resolved) → AllByRecursion (λ plan. IsOver (shape plan) (length resolved.specs)) resolved.plans
-      → AllByRecursion IsOnce resolved.plans
+      → AllByRecursion IsOnce resolved.plans → list_all (λ spec. is_some (driver_line_of conf.nodes spec.name)) resolved.specs ≡ true
       → (all ≡ conf.config ∷ conf.templates ∷ [] → AreDisjoint resolved.plans) → overlap_in used resolved.plans ≡ None → IsResolvedFor used conf resolved
-  resolved_for resolved some resolves over once disjoint none =
+  resolved_for resolved some resolves over once made disjoint none =
       let answer : IsResolved conf (roots used conf) (Ok resolved) = subst (λ names. IsResolved conf names (Ok resolved)) are resolves in
       record {
         specs_are = answer.1;
@@ -267,6 +268,7 @@ module _ (used : Tool) (conf : Configuration) (all : List (List ℕ)) (are : all
         over = over;
         once = once;
         few = subst AreFew (sym answer.1) (few_reached some.0 conf (roots used conf) some.1);
+        made = made;
         right = subst (IsWrongWord used conf) none (wrong_is used conf resolved.plans answer.0 (plans resolved answer));
         apart = apart_in used conf resolved.plans (plans resolved answer) none (λ e. disjoint (are ∙ e));
       }

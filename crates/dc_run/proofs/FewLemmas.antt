@@ -1,5 +1,5 @@
--- What a configuration without faults keeps: at most sixteen databases of each sort.
-use Rattle.std.proofs.Common.{◌≡◌, ℕ, ◌+◌, ◌<◌, ◌≤◌, Bool, true, false, cond, not, ◌&&◌, List, [], ◌∷◌, ◌++◌, append_assoc, map as each, length, Some, refl, sym, ap, subst, ◌∙◌, arith}
+-- What a configuration without faults keeps: at most sixteen databases of each sort that is kept in files, and one pipe.
+use Rattle.std.proofs.Common.{◌≡◌, ℕ, ◌+◌, ◌<◌, ◌≤◌, Bool, true, false, cond, not, ◌&&◌, List, [], ◌∷◌, ◌++◌, append_assoc, map as each, length, Option, Some, None, refl, sym, ap, subst, ◌∙◌, arith}
 use Rattle.std.specs.Prelude.{nat_le, Ok, codes}
 use Rattle.std.specs.List.{AllByRecursion, filter, list_any}
 use Rattle.std.proofs.lemmas.Bool.{and_parts, not-true}
@@ -7,14 +7,14 @@ use Rattle.std.proofs.lemmas.Bool.Decides.{nat_tests}
 use Rattle.std.proofs.lemmas.List.{append-nil}
 use Rattle.std.proofs.lemmas.List.Sums.{sum_by-cons}
 use Rattle.dc_conf.specs.declared.drivers.Driver.{Driver}
-use Rattle.dc_conf.specs.declared.drivers.Driver.TheVariants.{File, DirTree, PackageDir, Stack, Backup, Debug}
+use Rattle.dc_conf.specs.declared.drivers.Driver.TheVariants.{File, DirTree, PackageDir, Pipe, Stack, Backup, Debug}
 use Rattle.dc_conf.specs.declared.faults.Fault.{Fault}
 use Rattle.dc_conf.specs.declared.faults.ConfKind.TheVariants.{TooMany, NoName, NoDriver, MissingField}
 use Rattle.dc_conf.specs.declared.spec.LayerSort.{LayerSort}
 use Rattle.dc_conf.specs.declared.spec.LayerSort.TheVariants as sort
 use Rattle.dc_conf.specs.declared.spec.LayerSpec.{LayerSpec}
 use Rattle.dc_conf.specs.Stanzas.{Stanza, stanzas, fields_of, first_line}
-use Rattle.dc_conf.specs.ConfFaults.{fault_if, along, missing, lacks_field, rules_in, unknown_driver, bad_values, driver_in, sort_by, sort_in, is_made_by, is_made, keep_alike, kept_alike, is_too_many, repeated_name, same_place, lone_faults, database_faults, head_faults, second_pass}
+use Rattle.dc_conf.specs.ConfFaults.{fault_if, along, missing, lacks_field, rules_in, unknown_driver, bad_values, driver_in, sort_by, sort_in, is_made_by, is_made, keep_alike, kept_alike, most_alike, is_too_many, repeated_name, same_place, lone_faults, database_faults, head_faults, second_pass}
 use Rattle.dc_conf.specs.Configuration.{Configuration, IsAnswer, configuration, spec_of, reached}
 use Rattle.dc_conf.specs.Nodes.{leads_to}
 use Rattle.dc_conf.proofs.CleanLemmas.{IsClean, clean_database, driver_is, no_fault}
@@ -65,21 +65,31 @@ alike_by : (d e : Driver) → is_made_by (Some d) ≡ false → keep_alike (Some
 alike_by File File off = refl
 alike_by File DirTree off = refl
 alike_by File PackageDir off = refl
+alike_by File Pipe off = refl
 alike_by File Stack off = refl
 alike_by File Backup off = refl
 alike_by File Debug off = refl
 alike_by DirTree File off = refl
 alike_by DirTree DirTree off = refl
 alike_by DirTree PackageDir off = refl
+alike_by DirTree Pipe off = refl
 alike_by DirTree Stack off = refl
 alike_by DirTree Backup off = refl
 alike_by DirTree Debug off = refl
 alike_by PackageDir File off = refl
 alike_by PackageDir DirTree off = refl
 alike_by PackageDir PackageDir off = refl
+alike_by PackageDir Pipe off = refl
 alike_by PackageDir Stack off = refl
 alike_by PackageDir Backup off = refl
 alike_by PackageDir Debug off = refl
+alike_by Pipe File off = refl
+alike_by Pipe DirTree off = refl
+alike_by Pipe PackageDir off = refl
+alike_by Pipe Pipe off = refl
+alike_by Pipe Stack off = refl
+alike_by Pipe Backup off = refl
+alike_by Pipe Debug off = refl
 alike_by Stack e off = absurd (cc)
 alike_by Backup e off = absurd (cc)
 alike_by Debug e off = absurd (cc)
@@ -110,20 +120,42 @@ one_sort : (a b : LayerSort) → is_sort a b ≡ true → b ≡ a
 one_sort sort.File sort.File is = refl
 one_sort sort.File sort.Tree is = absurd (cc)
 one_sort sort.File sort.Pack is = absurd (cc)
+one_sort sort.File sort.Pipe is = absurd (cc)
 one_sort sort.Tree sort.File is = absurd (cc)
 one_sort sort.Tree sort.Tree is = refl
 one_sort sort.Tree sort.Pack is = absurd (cc)
+one_sort sort.Tree sort.Pipe is = absurd (cc)
 one_sort sort.Pack sort.File is = absurd (cc)
 one_sort sort.Pack sort.Tree is = absurd (cc)
 one_sort sort.Pack sort.Pack is = refl
+one_sort sort.Pack sort.Pipe is = absurd (cc)
+one_sort sort.Pipe sort.File is = absurd (cc)
+one_sort sort.Pipe sort.Tree is = absurd (cc)
+one_sort sort.Pipe sort.Pack is = absurd (cc)
+one_sort sort.Pipe sort.Pipe is = refl
+
+-- so many databases of a sort there may be
+abbrev most : LayerSort → ℕ
+most sort.Pipe = 1
+most _ = 16
+
+most_same : (driver : Option Driver) → most_alike driver ≡ most (sort_by driver)
+most_same None = refl
+most_same (Some File) = refl
+most_same (Some DirTree) = refl
+most_same (Some PackageDir) = refl
+most_same (Some Pipe) = refl
+most_same (Some Stack) = refl
+most_same (Some Backup) = refl
+most_same (Some Debug) = refl
 
 -- ---- databases without faults
 
-not_sixteen : (count : ℕ) → nat_le 16 count ≡ false → count < 16
-not_sixteen count is = grind (arith, nat_tests)
+is_less : (bound count : ℕ) → nat_le bound count ≡ false → count < bound
+is_less bound count is = grind (arith, nat_tests)
 
--- a database without faults stands behind fewer than sixteen others that keep items as it does
-fewer_before : (before : List Stanza) (s : Stanza) → database_faults before s ≡ [] → length (kept_alike before s) < 16
+-- a database without faults stands behind fewer others that keep items as it does than there may be
+fewer_before : (before : List Stanza) (s : Stanza) → database_faults before s ≡ [] → length (kept_alike before s) < most (sort_in s)
 fewer_before before s e =
     let many : List Fault = fault_if (is_too_many before s) (first_line s) TooMany in
     let unnamed : List Fault = missing (codes "name") s NoName in
@@ -136,23 +168,25 @@ fewer_before before s e =
     let three = nil-append (many ++ unnamed ++ undriven) lacking four.0 in
     let two = nil-append (many ++ unnamed) undriven three.0 in
     let one = nil-append many unnamed two.0 in
-    let few = neither (nat_le 256 (length before)) (nat_le 16 (length (kept_alike before s))) (no_fault (is_too_many before s) (first_line s) TooMany one.0) in
-    not_sixteen (length (kept_alike before s)) few.1
+    let few = neither (nat_le 256 (length before)) (nat_le (most_alike (driver_in s)) (length (kept_alike before s))) (no_fault (is_too_many before s) (first_line s) TooMany one.0) in
+    subst (λ n. length (kept_alike before s) < n) (most_same (driver_in s)) (is_less (most_alike (driver_in s)) (length (kept_alike before s)) few.1)
 
--- at most sixteen are of each sort
+-- no more are of a sort than there may be
 abbrev AreFewIn : List Stanza → Type 0
-AreFewIn ss = (of : LayerSort) → held of ss ≤ 16
+AreFewIn ss = (of : LayerSort) → held of ss ≤ most of
 
-one_more : (before : List Stanza) (s : Stanza) → AllByRecursion HasDriver before → HasDriver s → AreFewIn before → length (kept_alike before s) < 16 → AreFewIn (before ++ s ∷ [])
+one_more : (before : List Stanza) (s : Stanza) → AllByRecursion HasDriver before → HasDriver s → AreFewIn before → length (kept_alike before s) < most (sort_in s) → AreFewIn (before ++ s ∷ [])
 one_more before s all has few fewer of =
     let last = held_last of before s in
     let so_far = few of in
-    elim (is_of of s) as (λ t. is_of of s ≡ t → held of (before ++ s ∷ []) ≡ held of before + one_where t → held of (before ++ s ∷ []) ≤ 16) [
+    elim (is_of of s) as (λ t. is_of of s ≡ t → held of (before ++ s ∷ []) ≡ held of before + one_where t → held of (before ++ s ∷ []) ≤ most of) [
       | true ↦ λ is count.
           let parts = and_parts (not (is_made s)) (is_sort of (sort_in s)) is in
           let alike = alike_held before s (not-true (is_made s) parts.0) has all in
-          let here : length (kept_alike before s) ≡ held of before = alike ∙ ap (λ o. held o before) (one_sort of (sort_in s) parts.1) in
-          omega (arith, count, here, fewer)
+          let same = one_sort of (sort_in s) parts.1 in
+          let here : length (kept_alike before s) ≡ held of before = alike ∙ ap (λ o. held o before) same in
+          let under : length (kept_alike before s) < most of = subst (λ o. length (kept_alike before s) < most o) same fewer in
+          omega (arith, count, here, under)
       | false ↦ λ is count. omega (arith, count, so_far)
     ] refl last
 
@@ -172,7 +206,7 @@ few_along before (s ∷ databases) all few none =
 none_held : AreFewIn []
 none_held of = let none = held_none of in omega (arith, none)
 
-few_specs : (all : List Stanza) → second_pass all ≡ [] → (of : LayerSort) → count_of of (configuration all).specs ≤ 16
+few_specs : (all : List Stanza) → second_pass all ≡ [] → (of : LayerSort) → count_of of (configuration all).specs ≤ most of
 few_specs [] none of = none_held of
 few_specs (head ∷ databases) none of =
     let parts = nil-append (head_faults head) (along database_faults [] databases) none in
@@ -190,13 +224,13 @@ kept_less of p (spec ∷ specs) =
       | false ↦ omega (arith, less, all)
     ]
 
-few_of : (text : List ℕ) (conf : Configuration) (roots : List (List ℕ)) → IsAnswer text (Ok conf) → (of : LayerSort) → count_of of (reached conf roots) ≤ 16
+few_of : (text : List ℕ) (conf : Configuration) (roots : List (List ℕ)) → IsAnswer text (Ok conf) → (of : LayerSort) → count_of of (reached conf roots) ≤ most of
 few_of text conf roots answer of =
-    let few : count_of of (configuration (each fields_of (stanzas text))).specs ≤ 16 = few_specs (each fields_of (stanzas text)) answer.0.1.0 of in
-    let all : count_of of conf.specs ≤ 16 = subst (λ (c : Configuration). count_of of c.specs ≤ 16) (sym answer.1) few in
+    let few : count_of of (configuration (each fields_of (stanzas text))).specs ≤ most of = few_specs (each fields_of (stanzas text)) answer.0.1.0 of in
+    let all : count_of of conf.specs ≤ most of = subst (λ (c : Configuration). count_of of c.specs ≤ most of) (sym answer.1) few in
     let kept = kept_less of (λ spec. list_any (λ root. leads_to conf.nodes root spec.name) roots) conf.specs in
     omega (arith, all, kept)
 
--- at most sixteen databases of each sort are reached
+-- so few are reached
 pub few_reached : (text : List ℕ) (conf : Configuration) (roots : List (List ℕ)) → IsAnswer text (Ok conf) → AreFew (reached conf roots)
-few_reached text conf roots answer = record { files = few_of text conf roots answer sort.File; trees = few_of text conf roots answer sort.Tree; packs = few_of text conf roots answer sort.Pack }
+few_reached text conf roots answer = record { files = few_of text conf roots answer sort.File; trees = few_of text conf roots answer sort.Tree; packs = few_of text conf roots answer sort.Pack; pipes = few_of text conf roots answer sort.Pipe }

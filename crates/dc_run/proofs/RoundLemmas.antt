@@ -1,22 +1,24 @@
 -- A run of one job is one round, and what is said of it at once.
-use Rattle.std.proofs.Common.{◌≡◌, ◌≢◌, ◌&&◌, ℕ, Bool, true, false, List, [], ◌∷◌, ◌++◌, refl, sym, ap, subst, ◌∙◌, max, arith, map as each}
-use Rattle.std.specs.Prelude.{Result, Ok, Err, MatchResult}
+use Rattle.std.proofs.Common.{◌≡◌, ◌≢◌, ◌⊎◌, inl, inr, ◌&&◌, ℕ, Bool, true, false, List, [], ◌∷◌, ◌++◌, refl, sym, ap, subst, ◌∙◌, max, arith, map as each}
+use Rattle.std.specs.Prelude.{Option, Result, Ok, Err, MatchResult}
 use Rattle.std.proofs.lemmas.List.{append-nil}
-use Rattle.dc_layer.specs.State.{LayerState, saved}
+use Rattle.dc_layer.specs.State.{LayerState, piped_of, saved}
 use Rattle.dc_save.specs.Saving.{Saves, SaveCounts}
 use Rattle.dc_save.specs.declared.saving.SaveError.{SaveError}
 use Rattle.dc_run.specs.declared.outcome.End.{End}
 use Rattle.dc_run.specs.declared.outcome.End.TheVariants.{Done}
+use Rattle.dc_run.specs.declared.outcome.End.TheVariants as end
 use Rattle.dc_run.specs.declared.outcome.ToolEnd.{ToolEnd}
 use Rattle.dc_run.specs.declared.outcome.ToolEnd.TheVariants as tool
 use Rattle.dc_run.specs.declared.settings.Settings.{Settings}
 use Rattle.dc_run.specs.Roots.{Roots}
 use Rattle.dc_cli.specs.declared.tool.Tool.{Tool}
-use Rattle.dc_run.specs.Ends.{status_of, end_by, comes_to_save}
-use Rattle.dc_run.specs.Finishing.{Finishes, FinishesWhere}
+use Rattle.dc_outside.specs.declared.link.LinkError.{LinkError}
+use Rattle.dc_run.specs.Ends.{IsEnded, end_by, end_unsent, comes_to_save}
+use Rattle.dc_run.specs.Finishing.{Finishes, FinishesWhere, IsBrokenOff, IsWithoutMemory, SendsOf, SendsPiped, all_done, images_of}
 use Rattle.dc_run.specs.Rounds.{Job, Whole, Round, AreRounds, HaveRounds, HasDoneJobs, FindsJobs, DoesFound, IsOneRound, status_by, jobs_done, state_after, end_after, status_in, saves_of}
-use Rattle.dc_run.specs.Saves.{Save, HasSaved, Commits, kept_by}
-use Rattle.dc_run.specs.World.{Stock, RunState}
+use Rattle.dc_run.specs.Saves.{Save, HasNoImages, HasNotSaved, HasSaved, Commits, kept_by}
+use Rattle.dc_run.specs.World.{Ground, RunState}
 use Rattle.dc_run.proofs.FinishLemmas.{finished}
 
 pub most_none : (n : ℕ) → max n 0 ≡ n
@@ -32,40 +34,75 @@ pub kept_marked : (layers used : List LayerState) (given : Result (Unit {0}) Sav
 kept_marked layers used (Ok done) is = is
 kept_marked layers used (Err error) is = is
 
-pub committed : (saves : Bool) (ended : ToolEnd) (how : End) (left new : Stock) (given : Result (Unit {0}) SaveError) → saves ≡ true → Saves (Rattle.dc_run.specs.Finishing.images_of left.used) left.files.view new.files.view given
-    → SaveCounts left.files.view new.files.view given left.files.counts new.files.counts → MatchResult given (λ _. new.used ≡ each saved left.used) (λ _. new.used ≡ left.used) → how ≡ end_by ended given
-    → (last : List Save) × Commits saves ended left new last how
-committed false ended how left new given is saves counts marked end_is = absurd (cc)
-committed true ended how left new given is saves counts marked end_is = (
-  (record { layers = left.used; before = left.files; after = new.files; answer = given }) ∷ [],
-  record { answer = given; saves_are = refl; is = record { saves = saves; counts = counts }; used_is = kept_marked left.used new.used given marked; end_is = end_is },
-)
+module _ (ended : ToolEnd) (left new : Ground) where
+  -- what the layers asked for was sent, or wasn't
+  pub sends_of : (asked text : Option (List ℕ)) (result given : Result (Unit {0}) LinkError) → text ≡ all_done ended asked → asked ≡ piped_of left.used → given ≡ result → SendsPiped text left.sources.link new.sources.link given
+      → SendsOf ended left new result
+  sends_of asked text result given text_is asked_is is sends =
+      subst (λ (t : Option (List ℕ)). SendsPiped t left.sources.link new.sources.link result) (text_is ∙ ap (all_done ended) asked_is)
+      (subst (λ (r : Result (Unit {0}) LinkError). SendsPiped text left.sources.link new.sources.link r) is sends)
+
+  -- the images were saved, or not, behind what goes out through a pipe
+  pub was_saved : (how : End) (given : Result (Unit {0}) SaveError) → how ≡ end_by ended given → SendsOf ended left new (Ok tt) → Saves (images_of left.used) left.sources.files.view new.sources.files.view given
+      → SaveCounts left.sources.files.view new.sources.files.view given left.sources.files.counts new.sources.files.counts → MatchResult given (λ _. new.used ≡ each saved left.used) (λ _. new.used ≡ left.used)
+      → (last : List Save) × Commits true ended left new last how
+  was_saved how given is sent saves counts marked = (
+    (record { layers = left.used; before = left.sources.files; after = new.sources.files; answer = given }) ∷ [],
+    inl (record { answer = given; sent = sent; saves_are = refl; is = record { saves = saves; counts = counts }; used_is = kept_marked left.used new.used given marked; end_is = is }),
+  )
+
+  -- what goes out through a pipe wasn't sent
+  pub was_unsent : (how : End) (error : LinkError) → how ≡ end_unsent error → SendsOf ended left new (Err error) → new.sources.files ≡ left.sources.files → new.used ≡ left.used → (last : List Save) × Commits true ended left new last how
+  was_unsent how error is sends files used = ([], inr (inl (record { unsent = record { error = error; end_is = is; sends = sends; files_are = files; used_are = used }; saves_are = refl })))
+
+  -- there was no memory for the images
+  pub was_unmade : new ≡ left → (last : List Save) × Commits true ended left new last end.OutOfMemory
+  was_unmade stays = ([], inr (inr (record { saves_are = refl; stays = stays; end_is = refl })))
 
 -- what is said of the save by how the tool ended
-marked : (left new : Stock) (given : Result (Unit {0}) SaveError) → new.used ≡ kept_by given left.used → MatchResult given (λ _. new.used ≡ each saved left.used) (λ _. new.used ≡ left.used)
+marked : (left new : Ground) (given : Result (Unit {0}) SaveError) → new.used ≡ kept_by given left.used → MatchResult given (λ _. new.used ≡ each saved left.used) (λ _. new.used ≡ left.used)
 marked left new (Ok done) is = is
 marked left new (Err error) is = is
 
-module _ (left new : Stock) (last : List Save) (how : End) where
-  by_save : (ended : ToolEnd) → Rattle.dc_run.specs.Ends.IsEnded ended → HasSaved ended left new last how → Finishes left.used new.used ended left.files new.files how
-  by_save ended at has = subst (λ (h : End). Finishes left.used new.used ended left.files new.files h) (sym has.end_is)
-      (finished left.used new.used left.files new.files ended at has.answer has.is.saves has.is.counts (marked left new has.answer has.used_is))
+module _ (left new : Ground) (last : List Save) (how : End) where
+  by_save : (ended : ToolEnd) → IsEnded ended → HasSaved ended left new last how → Finishes left new ended how
+  by_save ended at has = subst (λ (h : End). Finishes left new ended h) (sym has.end_is)
+      (finished left new ended at has.sent has.answer has.is.saves has.is.counts (marked left new has.answer has.used_is))
 
-  pub finishes : (ended : ToolEnd) → Commits (comes_to_save ended) ended left new last how → Finishes left.used new.used ended left.files new.files how
-  finishes tool.Done has = by_save tool.Done tt has
-  finishes tool.LinkFault has = by_save tool.LinkFault tt has
-  finishes tool.TooLong has = by_save tool.TooLong tt has
-  finishes tool.PrintFault has = record { end_is = has.end_is; files_are = ap (λ (s : Stock). s.files) has.stays; used_are = ap (λ (s : Stock). s.used) has.stays }
-  finishes tool.TermFault has = record { end_is = has.end_is; files_are = ap (λ (s : Stock). s.files) has.stays; used_are = ap (λ (s : Stock). s.used) has.stays }
-  finishes tool.ChildFault has = record { end_is = has.end_is; files_are = ap (λ (s : Stock). s.files) has.stays; used_are = ap (λ (s : Stock). s.used) has.stays }
-  finishes tool.OutOfMemory has = record { end_is = has.end_is; files_are = ap (λ (s : Stock). s.files) has.stays; used_are = ap (λ (s : Stock). s.used) has.stays }
-  finishes (tool.FilesFault path) has = record { end_is = has.end_is; files_are = ap (λ (s : Stock). s.files) has.stays; used_are = ap (λ (s : Stock). s.used) has.stays }
+  -- no memory for the images
+  unmade : (ended : ToolEnd) → HasNoImages left new last how → IsWithoutMemory left new ended how
+  unmade ended has = record {
+    end_is = has.end_is;
+    sent = inr has.stays;
+    ran_out = inl (ap (λ (g : Ground). g.sources.files.view) has.stays);
+    counts = inr (ap (λ (g : Ground). g.sources.files) has.stays);
+    used_are = ap (λ (g : Ground). g.used) has.stays;
+  }
 
-module _ (left new : Stock) (last : List Save) (how : End) where
+  stopped : (ended : ToolEnd) → HasNotSaved ended left new last how → IsBrokenOff left new ended how
+  stopped ended has = record { end_is = has.end_is; stays = has.stays }
+
+  pub finishes : (ended : ToolEnd) → Commits (comes_to_save ended) ended left new last how → Finishes left new ended how
+  finishes tool.Done (inl has) = by_save tool.Done tt has
+  finishes tool.Done (inr (inl unsent)) = inr (inr (inr unsent.unsent))
+  finishes tool.Done (inr (inr none)) = inr (inr (inl (unmade tool.Done none)))
+  finishes tool.LinkFault (inl has) = by_save tool.LinkFault tt has
+  finishes tool.LinkFault (inr (inl unsent)) = inr (inr (inr unsent.unsent))
+  finishes tool.LinkFault (inr (inr none)) = inr (inr (inl (unmade tool.LinkFault none)))
+  finishes tool.TooLong (inl has) = by_save tool.TooLong tt has
+  finishes tool.TooLong (inr (inl unsent)) = inr (inr (inr unsent.unsent))
+  finishes tool.TooLong (inr (inr none)) = inr (inr (inl (unmade tool.TooLong none)))
+  finishes tool.PrintFault has = stopped tool.PrintFault has
+  finishes tool.TermFault has = stopped tool.TermFault has
+  finishes tool.ChildFault has = stopped tool.ChildFault has
+  finishes tool.OutOfMemory has = stopped tool.OutOfMemory has
+  finishes (tool.FilesFault path) has = stopped (tool.FilesFault path) has
+
+module _ (left new : Ground) (last : List Save) (how : End) where
   -- the same of a tool of which nothing is saved, or of any other
-  pub finishes_where : (keeps : Bool) (ended : ToolEnd) → Commits (keeps && comes_to_save ended) ended left new last how → FinishesWhere keeps left.used new.used ended left.files new.files how
+  pub finishes_where : (keeps : Bool) (ended : ToolEnd) → Commits (keeps && comes_to_save ended) ended left new last how → FinishesWhere keeps left new ended how
   finishes_where true ended has = finishes left new last how ended has
-  finishes_where false ended has = record { end_is = has.end_is; files_are = ap (λ (s : Stock). s.files) has.stays; used_are = ap (λ (s : Stock). s.used) has.stays }
+  finishes_where false ended has = record { end_is = has.end_is; stays = has.stays }
 
 -- ---- one job has one round
 

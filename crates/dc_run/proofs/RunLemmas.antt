@@ -38,7 +38,7 @@ use Rattle.dc_run.specs.declared.saving_session.SavingBreak.{SavingBreak}
 use Rattle.dc_run.specs.Inside.{HasCommand, HasLoadedOver, HasServedProgram, HasPrinted, HasPrintedAnswers, DrillsOver, HasTakenOver, HasDrilledOver, CopiesOver, context_by}
 use Rattle.dc_run.specs.Running.{HasRunProgram, Awaits, end_unstarted}
 use Rattle.dc_run.specs.Starting.{EndsBefore, HasStarted, begun, chosen, chosen_frontend, chosen_priority, keeps_changes, resources_for, session_at}
-use Rattle.dc_run.specs.World.{Links, Stock, World, RunState, before_rounds, links_of, run_state, stock_of}
+use Rattle.dc_run.specs.World.{Ground, Links, World, RunState, before_rounds, ground_in, links_of, on_ground, run_state, stock_of}
 use Rattle.dc_run.proofs.RoundLemmas.{most_none, none_most}
 use Rattle.dc_run.proofs.Saying.{none_said}
 
@@ -304,30 +304,29 @@ has_command (word ∷ words) used named = command_of word words used named
 -- ---- a run
 
 module _ (used : Tool) (settings : Settings) (old new : World) (outcome : Outcome) (how : End) where
-  pub ended_before : EndsBefore used settings.conf_path old.stock.files new.stock how → new.links ≡ old.links → HasSaid (end_line how) old.err new.err → outcome ≡ record { status = status_of how 0; end = how; last_code = 0 }
-      → HasRunTool used settings old new outcome []
+  pub ended_before : EndsBefore used settings.conf_path (ground_in old).sources (ground_in new) how → new.links.child ≡ old.links.child → HasSaid (end_line how) old.err new.err
+      → outcome ≡ record { status = status_of how 0; end = how; last_code = 0 } → HasRunTool used settings old new outcome []
   ended_before before same said is =
-      subst (λ (o : Outcome). HasRunTool used settings old new o []) (sym is) (inl (before, record { links_are = same; said = said; code_is = refl; status_is = refl }, refl))
+      subst (λ (o : Outcome). HasRunTool used settings old new o []) (sym is) (inl (before, record { child_is = same; said = said; code_is = refl; status_is = refl }, refl))
 
-  pub ended_after : (mid : Stock) (roots : Roots) (ahead : TypeAhead) (left : RunState) (answer : ToolAnswer) (inner : List Save) (saved : End) (status : ℕ) → ahead ≡ nothing_typed → HasStarted used settings.conf_path old.stock.files mid roots
-      → HasDone used roots settings (run_state old.links.io old.links.child old.err mid.files mid.used ahead 0) left answer inner → (commits : (last : List Save) × Commits (keeps_changes used && comes_to_save answer.ended) answer.ended left.world.stock new.stock last saved)
-      → new.links.io ≡ left.world.links.io → Awaits answer.is_started left.world.links.child new.links.child saved how answer.status status → HasSaid (end_line how) left.world.err new.err
+  pub ended_after : (mid : Ground) (roots : Roots) (ahead : TypeAhead) (left : RunState) (answer : ToolAnswer) (inner : List Save) (saved : End) (status : ℕ) → ahead ≡ nothing_typed → HasStarted used settings.conf_path (ground_in old).sources mid roots
+      → HasDone used roots settings (run_state mid.sources.link old.links.child old.err mid.sources.files mid.used ahead 0) left answer inner → (commits : (last : List Save) × Commits (keeps_changes used && comes_to_save answer.ended) answer.ended (ground_in left.world) (ground_in new) last saved)
+      → Awaits answer.is_started left.world.links.child new.links.child saved how answer.status status → HasSaid (end_line how) left.world.err new.err
       → outcome ≡ record { status = status_of how status; end = how; last_code = answer.last_code } → HasRunTool used settings old new outcome ((inner ++ commits.0) ++ [])
-  ended_after mid roots ahead left answer inner saved status none started does commits io awaits said is =
-      let done : HasDone used roots settings (before_rounds (record old { stock = mid })) left answer inner
-      = subst (λ (a : TypeAhead). HasDone used roots settings (run_state old.links.io old.links.child old.err mid.files mid.used a 0) left answer inner) none does in
+  ended_after mid roots ahead left answer inner saved status none started does commits awaits said is =
+      let done : HasDone used roots settings (before_rounds (on_ground old mid)) left answer inner
+      = subst (λ (a : TypeAhead). HasDone used roots settings (run_state mid.sources.link old.links.child old.err mid.sources.files mid.used a 0) left answer inner) none does in
       let after : RunState = record { world = record { stock = new.stock; links = new.links; err = left.world.err }; ahead = left.ahead; code = left.code } in
       let round : Round = record { job = Whole used; answer = answer; left = left; inner = inner; last = commits.0; finish = saved; status = status; how = how; new = after } in
       subst (λ (o : Outcome). HasRunTool used settings old new o ((inner ++ commits.0) ++ [])) (sym is) (inr (record {
-        mid = record old { stock = mid };
+        mid = mid;
         roots = roots;
         started = started;
-        mid_is = refl;
         left = after;
         status = status;
         does = record {
           found = Ok (Whole used ∷ []);
-          ready = before_rounds (record old { stock = mid });
+          ready = before_rounds (on_ground old mid);
           first = 0;
           finds = (refl, refl, refl);
           later = status;
@@ -341,7 +340,6 @@ module _ (used : Tool) (settings : Settings) (old new : World) (outcome : Outcom
                 commits = commits.1;
                 awaits = awaits;
                 told = none_said left.world.err;
-                io_is = io;
                 ahead_is = refl;
                 code_is = refl;
               },
@@ -365,17 +363,20 @@ module _ (used : Tool) (settings : Settings) (old new : World) (outcome : Outcom
 -- ---- the words
 
 module _ (words : List (List ℕ)) (settings : Settings) (old new : World) (outcome : Outcome) where
-  pub refused_words : (word : ℕ) → AreRefusedAt words word → new.stock ≡ old.stock → new.links ≡ old.links → HasSaid (end_line (end.Usage word)) old.err new.err
+  pub refused_words : (word : ℕ) → AreRefusedAt words word → ground_in new ≡ ground_in old → new.links.child ≡ old.links.child → HasSaid (end_line (end.Usage word)) old.err new.err
       → outcome ≡ record { status = status_of (end.Usage word) 0; end = end.Usage word; last_code = 0 } → HasRunWords words settings old new outcome []
   refused_words word refused untouched same said is = subst (λ (o : Outcome). HasRunWords words settings old new o []) (sym is)
-      (inl (record { word = word; end_is = refl; refused = refused; silent = record { links_are = same; said = said; code_is = refl; status_is = refl }; untouched = untouched }, refl))
+      (inl (record { word = word; end_is = refl; refused = refused; silent = record { child_is = same; said = said; code_is = refl; status_is = refl }; untouched = untouched }, refl))
 
   -- memory ran out as the words were read
-  pub unread_words : IsToolWords words → new.stock ≡ old.stock → new.links ≡ old.links → HasSaid (end_line end.OutOfMemory) old.err new.err
+  pub unread_words : IsToolWords words → ground_in new ≡ ground_in old → new.links.child ≡ old.links.child → HasSaid (end_line end.OutOfMemory) old.err new.err
       → outcome ≡ record { status = status_of end.OutOfMemory 0; end = end.OutOfMemory; last_code = 0 } → HasRunWords words settings old new outcome []
   unread_words named untouched same said is = inr (
     named.0,
     named.1,
     ended_before named.0 settings old new outcome end.OutOfMemory
-        (inl (record { end_is = refl; begun = inl (record { files_are = ap (λ (s : Stock). s.files.view) untouched; counts = inl (ap (λ (s : Stock). s.files.counts) untouched) }) })) same said is,
+        (inl (
+          inl (record { end_is = refl; begun = inl (record { files_are = ap (λ (g : Ground). g.sources.files.view) untouched; counts = inl (ap (λ (g : Ground). g.sources.files.counts) untouched) }) }),
+          ap (λ (g : Ground). g.sources.link) untouched,
+        )) same said is,
   )

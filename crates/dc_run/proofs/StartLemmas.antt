@@ -1,10 +1,10 @@
 -- What a run does before its tool.
-use Rattle.std.proofs.Common.{◌≡◌, ℕ, zero, suc, take, drop, ◌++◌, Bool, true, false, List, [], ◌∷◌, length, Option, Some, None, Ok, refl, sym, ap, subst, inl, inr, arith, if◌then◌else◌}
-use Rattle.std.specs.Prelude.{Result, Err, option_map, option_to_list}
-use Rattle.std.specs.List.{AllByRecursion}
-use Rattle.dc_outside.specs.Counts.{Counts}
+use Rattle.std.proofs.Common.{◌≡◌, ℕ, zero, suc, take, drop, ◌++◌, Bool, true, false, List, [], ◌∷◌, length, Option, Some, None, Ok, cond, refl, sym, ap, subst, ◌∙◌, inl, inr, arith, if◌then◌else◌}
+use Rattle.std.specs.Prelude.{Result, Err, is_some, option_map, option_to_list}
+use Rattle.std.specs.List.{AllByRecursion, find, list_all}
+use Rattle.std.proofs.lemmas.Bool.{and_parts}
 use Rattle.dc_outside.specs.Disk.{Disk}
-use Rattle.dc_outside.specs.State.{FilesState, FilesView}
+use Rattle.dc_outside.specs.State.{FilesState}
 use Rattle.dc_conf.specs.Configuration.{AreDisjoint, Configuration, HavePlans, IsAnswer, IsOnce}
 use Rattle.dc_conf.specs.declared.faults.ConfError.{ConfError}
 use Rattle.dc_outside.specs.Disk.{bytes_at}
@@ -18,15 +18,17 @@ use Rattle.dc_conf.specs.declared.plans.Plan.{Plan}
 use Rattle.dc_conf.specs.declared.plans.Resolved.{Resolved}
 use Rattle.dc_conf.specs.declared.spec.LayerSpec.{LayerSpec}
 use Rattle.dc_layer.specs.Patterns.{Sought}
-use Rattle.dc_layer.specs.State.{LayerState}
-use Rattle.dc_save.specs.declared.loading.LoadError.{LoadError}
-use Rattle.dc_shelf.specs.Shelves.{LoadsAll, all_patterns, all_set_up}
+use Rattle.dc_conf.specs.Nodes.{driver_line_of}
+use Rattle.dc_layer.specs.State.{LayerState, is_pipe}
+use Rattle.dc_shelf.specs.Shelves.{LoadsAll, Sources, all_patterns, all_set_up, sources_of}
+use Rattle.dc_shelf.specs.declared.loading.SourceError.{SourceError}
+use Rattle.dc_cli.specs.declared.tool.CopyWords.{CopyWords}
 use Rattle.dc_cli.specs.declared.tool.Tool.{Tool}
 use Rattle.dc_cli.specs.declared.tool.Tool.TheVariants.{Communicate, LoadTemplate, Run, Show, CopyDb, SetSelections, GetSelections, Drill}
-use Rattle.dc_run.specs.Inside.{AreApartIn, ArePatternsOf, IsCopyBy, IsResolvedFor, IsUnbuilt, plans_of}
-use Rattle.dc_run.specs.Starting.{AreApart, AreDisjointFor, AreOver, EndsBefore, ReadsConf, HasEachOnce, HasLoaded, HasReadConf, HasStarted, IsConfiguration, IsCopyIn, IsCopyOver, IsFit, IsPlanIn, are_patterns, conf_read, conf_text, databases_of, dest_of, has_files, pattern_words, roots, source_of}
+use Rattle.dc_run.specs.Inside.{AreApartIn, ArePatternsOf, IsCopyBy, IsMisusedIn, IsResolvedFor, IsUnbuilt, plans_of}
+use Rattle.dc_run.specs.Starting.{AreApart, AreDisjointFor, AreOver, EndsUnloaded, ReadsConf, HasEachOnce, HasLoaded, HasReadConf, HasStarted, IsConfiguration, IsCopyIn, IsCopyOver, IsFit, IsPlanIn, are_patterns, conf_read_in, conf_text, databases_of, dest_of, has_files, misused_among, pattern_words, roots, source_of}
 use Rattle.dc_run.specs.Ends.{end_of_conf}
-use Rattle.dc_run.specs.World.{stock_of}
+use Rattle.dc_run.specs.World.{Ground}
 use Rattle.dc_run.specs.declared.outcome.End.{End}
 use Rattle.dc_run.specs.Roots.{shaped, shaped_copy}
 use Rattle.dc_run.specs.declared.starting.CopyRoots.{CopyRoots as CopyRootsOf}
@@ -44,24 +46,26 @@ whole_slice (x ∷ new) (y ∷ old) (suc count) same long = ap (λ (l : List _).
 -- ---- what is loaded
 
 -- the configuration of a tool whose words are right
-pub fit : (used : Tool) (disk : Option Disk) (path : List ℕ) (conf : Configuration) (resolved : Resolved) → IsConfiguration used disk path conf → IsResolvedFor used conf resolved → are_patterns (pattern_words used) ≡ true → IsFit used disk path conf
-fit used disk path conf resolved conf_is is patterns = record { conf_is = record { conf_is = conf_is; databases = is.right }; patterns = patterns }
+pub fit : (used : Tool) (disk : Option Disk) (path : List ℕ) (conf : Configuration) (resolved : Resolved) → IsConfiguration used disk path conf → IsResolvedFor used conf resolved → misused_among used resolved.specs ≡ None → are_patterns (pattern_words used) ≡ true
+    → IsFit used disk path conf
+fit used disk path conf resolved conf_is is unmisused patterns =
+    record { conf_is = record { conf_is = conf_is; databases = is.right }; unmisused = ap (misused_among used) (sym is.specs_are) ∙ unmisused; patterns = patterns }
 
-module _ (used : Tool) (path : List ℕ) (conf : Configuration) (old mid files : FilesState) (specs : List LayerSpec) (set made : List LayerState) (result : Result (Unit {0}) LoadError) where
-  abbrev Loaded : List LayerSpec → List LayerState → FilesView → Counts → Type 0
-  Loaded all from view counts = LoadsAll (if has_files used then all else []) from made view files.view counts files.counts result
+module _ (used : Tool) (path : List ℕ) (conf : Configuration) (old : Sources) (mid : FilesState) (left : Sources) (specs : List LayerSpec) (set made : List LayerState) (result : Result (Unit {0}) SourceError) where
+  abbrev Loaded : List LayerSpec → List LayerState → Sources → Type 0
+  Loaded all begin from = LoadsAll (if has_files used then all else []) begin made from left result
 
-  -- the layers of a configuration were loaded, where they are kept in files
-  pub loaded_by : IsFit used old.view.disk path conf → HasReadConf used path old mid → specs ≡ databases_of used conf → all_patterns specs ≡ true → set ≡ all_set_up specs → Loaded specs set mid.view mid.counts
-      → HasLoaded used path conf old (stock_of files made) result
+  -- the layers of a configuration were loaded, where they are kept
+  pub loaded_by : IsFit used old.files.view.disk path conf → HasReadConf used path old.files mid → specs ≡ databases_of used conf → all_patterns specs ≡ true → set ≡ all_set_up specs → Loaded specs set (sources_of mid old.link)
+      → HasLoaded used path conf old (record { sources = left; used = made }) result
   loaded_by conf_is read are built set_is loads =
-      let after_set : Loaded specs (all_set_up specs) mid.view mid.counts = subst (λ (l : List LayerState). Loaded specs l mid.view mid.counts) set_is loads in
-      let of_conf : Loaded (databases_of used conf) (all_set_up (databases_of used conf)) mid.view mid.counts = subst (λ (s : List LayerSpec). Loaded s (all_set_up s) mid.view mid.counts) are after_set in
-      let from : Loaded (databases_of used conf) (all_set_up (databases_of used conf)) (conf_read used old.view path) mid.counts = subst (λ (t : FilesView). Loaded (databases_of used conf) (all_set_up (databases_of used conf)) t mid.counts) read.files_are of_conf in
+      let after_set : Loaded specs (all_set_up specs) (sources_of mid old.link) = subst (λ (l : List LayerState). Loaded specs l (sources_of mid old.link)) set_is loads in
+      let of_conf : Loaded (databases_of used conf) (all_set_up (databases_of used conf)) (sources_of mid old.link) = subst (λ (s : List LayerSpec). Loaded s (all_set_up s) (sources_of mid old.link)) are after_set in
+      let same : mid ≡ (conf_read_in used path old).files = λ i. record { view = read.files_are i; counts = read.counts i } in
       record {
         conf_is = conf_is;
         patterns = subst (λ (s : List LayerSpec). all_patterns s ≡ true) are built;
-        loads = subst (λ (n : Counts). Loaded (databases_of used conf) (all_set_up (databases_of used conf)) (conf_read used old.view path) n) read.counts from;
+        loads = subst (λ (f : FilesState). Loaded (databases_of used conf) (all_set_up (databases_of used conf)) (sources_of f old.link)) same of_conf;
       }
 
 -- ---- a tool that has a configuration of its own
@@ -103,11 +107,11 @@ own_refused used path text old error how none reads is =
 
 -- ---- the ends before the tool
 
-module _ (used : Tool) (path : List ℕ) (conf : Configuration) (old mid : FilesState) (layers : List LayerState) (how : End) where
+module _ (used : Tool) (path : List ℕ) (conf : Configuration) (old mid : FilesState) (how : End) where
   -- a word isn't built
-  pub unbuilt_ends : (resolved : Resolved) → IsConfiguration used old.view.disk path conf → HasReadConf used path old mid → IsResolvedFor used conf resolved → IsUnbuilt (pattern_words used) how → EndsBefore used path old (stock_of mid layers) how
+  pub unbuilt_ends : (resolved : Resolved) → IsConfiguration used old.view.disk path conf → HasReadConf used path old mid → IsResolvedFor used conf resolved → IsUnbuilt (pattern_words used) how → EndsUnloaded used path old mid how
   unbuilt_ends resolved conf_is read is (inl e) = inl (record { end_is = e; begun = inr read })
-  unbuilt_ends resolved conf_is read is (inr at) = inr (inr (inr (inr (inl (record {
+  unbuilt_ends resolved conf_is read is (inr at) = inr (inr (inr (inr (inr (inl (record {
     error = at.error;
     before = at.before;
     word = at.word;
@@ -118,6 +122,20 @@ module _ (used : Tool) (path : List ℕ) (conf : Configuration) (old mid : Files
     words_are = at.words_are;
     built = at.built;
     refused = at.refused;
+    read = read;
+  }))))))
+
+  -- a pipe is misused
+  pub misused_ends : (resolved : Resolved) (specs : List LayerSpec) → specs ≡ resolved.specs → IsConfiguration used old.view.disk path conf → HasReadConf used path old mid → IsResolvedFor used conf resolved → IsMisusedIn used conf specs how
+      → EndsUnloaded used path old mid how
+  misused_ends resolved specs are conf_is read is at = inr (inr (inr (inr (inl (record {
+    spec = at.spec;
+    line = at.line;
+    end_is = at.end_is;
+    conf = conf;
+    conf_is = record { conf_is = conf_is; databases = is.right };
+    misused = ap (misused_among used) (sym (are ∙ is.specs_are)) ∙ at.misused;
+    line_is = at.line_is;
     read = read;
   })))))
 
@@ -203,12 +221,11 @@ module _ (used : Tool) (conf : Configuration) (resolved : Resolved) (by_name by_
   pub apart_used : (count : ℕ) → count ≡ length resolved.specs → AreApart used (shaped taken) count
   apart_used count same = apart_by used by_name by_owner taken count are.copy_is (all_over count same) (of_taken (AreApartIn used) is.apart)
 
-  pub started : (path : List ℕ) (old files : FilesState) (layers : List LayerState) → ArePatternsOf used by_name by_owner
-      → HasLoaded used path conf old (stock_of files layers) (Ok tt) → HasStarted used path old (stock_of files layers) (shaped taken)
-  started path old files layers patterns loaded =
+  pub started : (path : List ℕ) (old : Sources) (new : Ground) → ArePatternsOf used by_name by_owner → HasLoaded used path conf old new (Ok tt) → HasStarted used path old new (shaped taken)
+  started path old new patterns loaded =
       let once = of_taken (AllByRecursion IsOnce) is.once in
       record {
-        loaded = subst (λ found. HasLoaded used path found old (stock_of files layers) (Ok tt)) (sym are.conf_is) loaded;
+        loaded = subst (λ found. HasLoaded used path found old new (Ok tt)) (sym are.conf_is) loaded;
         config_is = subst (λ found. IsPlanIn used found (shape taken.config) (source_of used found)) (sym are.conf_is) have.0;
         templates_is = subst (λ found. IsPlanIn used found (shape taken.templates) found.templates) (sym are.conf_is) have.1.0;
         copy_is = subst (λ found. IsCopyIn used found (option_map shaped_copy taken.copy)) (sym are.conf_is) (copied used conf by_name by_owner taken.copy patterns are.copy_is have.1.1);
@@ -222,3 +239,38 @@ as_many nodes specs [] [] have = refl
 as_many nodes specs [] (name ∷ names) have = ap length (sym have)
 as_many nodes specs (plan ∷ plans) [] have = absurd have
 as_many nodes specs (plan ∷ plans) (name ∷ names) have = let rest = as_many nodes specs plans names have.1 in omega (arith, rest)
+
+-- ---- databases through pipes
+
+-- of a tool that doesn't copy the first pipe is misused
+pub other_misuses : (used : Tool) (specs : List LayerSpec) → ((copy : CopyWords) → used ≡ CopyDb copy → ⊥) → misused_among used specs ≡ find (λ spec. is_pipe spec.sort) specs
+other_misuses (Communicate owner) specs none = refl
+other_misuses (LoadTemplate owner paths) specs none = refl
+other_misuses (Run owner frontend priority command) specs none = refl
+other_misuses (Show database shown) specs none = refl
+other_misuses (CopyDb copy) specs none = absurd (none copy refl)
+other_misuses (SetSelections verbose check unseen) specs none = refl
+other_misuses GetSelections specs none = refl
+other_misuses (Drill count) specs none = refl
+
+-- what is found is one of them, and so is what is said of all
+found_is : (P Q : LayerSpec → Bool) (specs : List LayerSpec) (spec : LayerSpec) → find P specs ≡ Some spec → list_all Q specs ≡ true → Q spec ≡ true
+found_is P Q [] spec found all = cc
+found_is P Q (first ∷ specs) spec found all =
+    let both = and_parts (Q first) (list_all Q specs) all in
+    elim (P first) as (λ b. cond b (Some first) (find P specs) ≡ Some spec → Q spec ≡ true) [
+      | true ↦ λ is. (let same : first ≡ spec = cc in ap Q (sym same) ∙ both.0)
+      | false ↦ λ is. found_is P Q specs spec is both.1
+    ] found
+
+some_misused : (used : Tool) (specs : List LayerSpec) (spec : LayerSpec) → misused_among used specs ≡ Some spec → (copy : CopyWords) → used ≡ CopyDb copy → ⊥
+some_misused used specs spec found copy is = let wrong : None ≡ Some spec = ap (λ (u : Tool). misused_among u specs) (sym is) ∙ found in cc
+
+-- the line of the driver of what is misused is known
+pub misused_line : (used : Tool) (nodes : List Node) (specs : List LayerSpec) (spec : LayerSpec) → misused_among used specs ≡ Some spec → list_all (λ s. is_some (driver_line_of nodes s.name)) specs ≡ true
+    → is_some (driver_line_of nodes spec.name) ≡ true
+misused_line used nodes specs spec found made =
+    found_is (λ s. is_pipe s.sort) (λ s. is_some (driver_line_of nodes s.name)) specs spec (sym (other_misuses used specs (some_misused used specs spec found)) ∙ found) made
+
+pub no_line : (line : Option ℕ) → line ≡ None → is_some line ≡ true → ⊥
+no_line line none some = let wrong : false ≡ true = sym (ap is_some none) ∙ some in cc

@@ -16,13 +16,13 @@ use Rattle.dc_run.specs.Rounds.{Job, Whole, Round, HasDone, Works, IsRound, is_s
 use Rattle.dc_run.specs.Running.{Awaits}
 use Rattle.dc_run.specs.Saves.{Save, Commits}
 use Rattle.dc_run.specs.Starting.{HasStarted, keeps_changes}
-use Rattle.dc_run.specs.World.{Stock, World, RunState, before_rounds}
+use Rattle.dc_run.specs.World.{Ground, Stock, World, RunState, before_rounds, ground_in, ground_of, on_ground}
 use Rattle.dc_run.proofs.Saying.{said_then}
 use Rattle.dc_run.proofs.RoundLemmas.{finishes_where, one_round, jobs_had}
 
-module _ (used : Tool) (settings : Settings) (roots : Roots) (old : World) (mid : Stock) (job : Job) (given : ToolAnswer) (left : RunState) (inner last : List Save) (finish : End) (status : ℕ) (how : End) (after : RunState) (job_is : job ≡ Whole used) where
+module _ (used : Tool) (settings : Settings) (roots : Roots) (old : World) (mid : Ground) (job : Job) (given : ToolAnswer) (left : RunState) (inner last : List Save) (finish : End) (status : ℕ) (how : End) (after : RunState) (job_is : job ≡ Whole used) where
   abbrev start : RunState
-  start = before_rounds (record old { stock = mid })
+  start = before_rounds (on_ground old mid)
 
   abbrev this : Round
   this = record { job = job; answer = given; left = left; inner = inner; last = last; finish = finish; status = status; how = how; new = after }
@@ -31,13 +31,13 @@ module _ (used : Tool) (settings : Settings) (roots : Roots) (old : World) (mid 
     works : HasDone used roots settings start left given inner
     works = subst (λ (j : Job). Works j roots settings start left given inner) job_is is.works
 
-    commits : Commits (keeps_changes used && comes_to_save given.ended) given.ended left.world.stock after.world.stock last finish
-    commits = subst (λ (j : Job). Commits (is_saved_at j given.ended) given.ended left.world.stock after.world.stock last finish) job_is is.commits
+    commits : Commits (keeps_changes used && comes_to_save given.ended) given.ended (ground_in left.world) (ground_in after.world) last finish
+    commits = subst (λ (j : Job). Commits (is_saved_at j given.ended) given.ended (ground_in left.world) (ground_in after.world) last finish) job_is is.commits
 
     told : HasSaid [] left.world.err after.world.err
     told = subst (λ (j : Job). HasSaid (report j how status) left.world.err after.world.err) job_is is.told
 
-    pub used_once : (outcome : Outcome) (new : World) → HasStarted used settings.conf_path old.stock.files mid roots → outcome.end ≡ how → HasSaid (end_line outcome.end) after.world.err new.err → new ≡ record after.world { err = new.err }
+    pub used_once : (outcome : Outcome) (new : World) → HasStarted used settings.conf_path (ground_in old).sources mid roots → outcome.end ≡ how → HasSaid (end_line outcome.end) after.world.err new.err → new ≡ record after.world { err = new.err }
         → outcome.last_code ≡ after.code → outcome.status ≡ status_of outcome.end status → HasUsed used settings old new outcome
     used_once outcome new started end_is said rest code_is status_is =
         let behind = said_then [] (end_line outcome.end) left.world.err after.world.err new.err told said in
@@ -52,9 +52,9 @@ module _ (used : Tool) (settings : Settings) (roots : Roots) (old : World) (mid 
           inner = inner;
           uses = works.uses;
           how = finish;
-          finishes = subst (λ (s : Stock). FinishesWhere (keeps_changes used) s.used new.stock.used given.ended s.files new.stock.files finish) works.stock_is
-              (subst (λ (s : Stock). FinishesWhere (keeps_changes used) left.world.stock.used s.used given.ended left.world.stock.files s.files finish) (sym (ap (λ (w : World). w.stock) rest)) (finishes_where left.world.stock after.world.stock last finish (keeps_changes used) given.ended commits));
-          io_is = ap (λ (w : World). w.links.io) rest ∙ is.io_is;
+          finishes = subst (λ (s : Stock). FinishesWhere (keeps_changes used) (ground_of s.files left.world.links.io s.used) (ground_in new) given.ended finish) works.stock_is
+              (subst (λ (w : World). FinishesWhere (keeps_changes used) (ground_in left.world) (ground_in w) given.ended finish) (sym rest)
+              (finishes_where (ground_in left.world) (ground_in after.world) last finish (keeps_changes used) given.ended commits));
           status = status;
           awaits = subst (λ (h : End). Awaits given.is_started left.world.links.child new.links.child finish h given.status status) (sym end_is)
               (subst (λ (l : LinkState). Awaits given.is_started left.world.links.child l finish how given.status status) (sym (ap (λ (w : World). w.links.child) rest)) is.awaits);
@@ -66,11 +66,11 @@ module _ (used : Tool) (settings : Settings) (roots : Roots) (old : World) (mid 
 -- a run of a tool is one round
 pub as_used : (used : Tool) (settings : Settings) (old new : World) (outcome : Outcome) (saves : List Save) → HasWorked used settings old new outcome saves → HasUsed used settings old new outcome
 as_used used settings old new outcome saves worked =
-    let start : RunState = before_rounds worked.mid in
+    let start : RunState = before_rounds (on_ground old worked.mid) in
     let one = one_round worked.roots settings (Whole used) start worked.left outcome.end worked.status saves (jobs_had used worked.roots settings start worked.left outcome.end worked.status saves worked.does) in
     let r = one.round in
-    used_once used settings worked.roots old worked.mid.stock r.job r.answer r.left r.inner r.last r.finish r.status r.how r.new one.job_is
-    (subst (λ (w : World). IsRound worked.roots settings (before_rounds w) r) worked.mid_is one.is) outcome new worked.started one.how_is
+    used_once used settings worked.roots old worked.mid r.job r.answer r.left r.inner r.last r.finish r.status r.how r.new one.job_is
+    one.is outcome new worked.started one.how_is
     (subst (λ (s : RunState). HasSaid (end_line outcome.end) s.world.err new.err) one.new_is worked.said)
     (worked.rest_is ∙ ap (λ (s : RunState). record s.world { err = new.err }) one.new_is)
     (worked.code_is ∙ ap (λ (s : RunState). s.code) one.new_is)

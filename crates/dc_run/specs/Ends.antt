@@ -1,12 +1,17 @@
 -- The ends of a run, their statuses and the counts that go with them.
-use Rattle.std.specs.Prelude.{◌≡◌, ◌⊎◌, ℕ, Bool, true, false, Result, Ok, Err}
+use Rattle.std.specs.Prelude.{◌≡◌, ◌⊎◌, ℕ, codes, Bool, true, false, Result, Ok, Err}
 use Rattle.dc_outside.specs.Counts.{Rose, FaultRose, RefusalRose}
 use Rattle.dc_outside.specs.Counts.{Counts}
+use Rattle.dc_outside.specs.State.{LinkState}
 use Rattle.dc_conf.specs.declared.faults.ConfError.{ConfError}
 use Rattle.dc_conf.specs.declared.faults.ConfError.TheVariants as conf
 use Rattle.dc_layer.specs.declared.pattern.PatternError.{PatternError}
 use Rattle.dc_layer.specs.declared.pattern.PatternError.TheVariants as pattern
-use Rattle.dc_save.specs.declared.loading.LoadError.{LoadError}
+use Rattle.dc_outside.specs.declared.link.LinkError.{LinkError}
+use Rattle.dc_outside.specs.declared.link.LinkError.TheVariants.{Failed, OutOfMemory}
+use Rattle.dc_save.specs.declared.pipe_loading.PipeError.TheVariants as pipe
+use Rattle.dc_shelf.specs.declared.loading.SourceError.{SourceError}
+use Rattle.dc_shelf.specs.declared.loading.SourceError.TheVariants as source
 use Rattle.dc_save.specs.declared.loading.LoadError.TheVariants as load
 use Rattle.dc_save.specs.declared.saving.SaveError.{SaveError}
 use Rattle.dc_save.specs.declared.saving.SaveError.TheVariants as save
@@ -54,11 +59,20 @@ end_of_pattern at pattern.OutOfMemory = end.OutOfMemory
 abbrev pub end_of_patterns : NotSetUp → End
 end_of_patterns refused = end_of_pattern (Database refused.place) refused.error
 
--- the end of a run of which a layer isn't loaded
-abbrev pub end_of_load : LoadError → End
-end_of_load (load.Failed path) = end.FilesFault path
-end_of_load (load.Damaged path line) = end.Damaged path line
-end_of_load load.OutOfMemory = end.OutOfMemory
+-- the end of a run of which a layer isn't loaded; the path of what comes through a pipe is `-`
+abbrev pub end_of_load : SourceError → End
+end_of_load (source.Files (load.Failed path)) = end.FilesFault path
+end_of_load (source.Files (load.Damaged path line)) = end.Damaged path line
+end_of_load (source.Files load.OutOfMemory) = end.OutOfMemory
+end_of_load (source.Pipe pipe.Failed) = end.LinkFault
+end_of_load (source.Pipe (pipe.Damaged line)) = end.Damaged (codes "-") line
+end_of_load (source.Pipe pipe.TooLong) = end.TooLong
+end_of_load (source.Pipe pipe.OutOfMemory) = end.OutOfMemory
+
+-- the end of a run of which a text wasn't sent through a pipe
+abbrev pub end_unsent : LinkError → End
+end_unsent Failed = end.LinkFault
+end_unsent OutOfMemory = end.OutOfMemory
 
 -- how a tool ended that serves a session with its saves, by the end of the link
 abbrev pub tool_end_of : LinkEnd SavingBreak → ToolEnd
@@ -142,6 +156,16 @@ LinksCount end.LinkFault before now = Both FaultRose Stays before now ⊎ Both S
 LinksCount end.TermFault before now = Both FaultRose Stays before now
 LinksCount end.OutOfMemory before now = Both MayRise MayRise before now
 LinksCount how before now = Both Stays Stays before now
+
+-- how the loads of a run are counted on the program's own link: as a fault where what comes through a pipe was left out, and else not at all
+abbrev pub CountsLoads : Counts → Counts → Type 0
+CountsLoads before now = (now ≡ before) ⊎ FaultRose before now
+
+-- how the links count all calls of a run: those of its loads, and by its end those behind them
+pub record CountsCalls (how : End) (before now : Links) : Type 0 where
+  pub mid : LinkState
+  pub loads : CountsLoads before.io.counts mid.counts
+  pub behind : LinksCount how (record before { io = mid }) now
 
 -- how often a start of the program or a wait for it failed: never where the run did all, and once where that is its end
 abbrev pub ProgramCounts : End → ℕ → ℕ → Type 0

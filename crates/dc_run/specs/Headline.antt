@@ -9,32 +9,31 @@ use Rattle.dc_cli.specs.Tools.{Names, AreRefusedAt}
 use Rattle.dc_cli.specs.declared.tool.Tool.{Tool}
 use Rattle.dc_run.specs.Crashes.{KeepsDatabases}
 use Rattle.dc_run.specs.EndLines.{end_line, HasSaid}
-use Rattle.dc_run.specs.Ends.{status_of, LinksCount, ProgramCounts}
+use Rattle.dc_run.specs.Ends.{status_of, CountsCalls, ProgramCounts}
 use Rattle.dc_run.specs.Rounds.{HasDoneJobs}
 use Rattle.dc_run.specs.Saves.{Save}
 use Rattle.dc_run.specs.Starting.{HasStarted, EndsBefore}
-use Rattle.dc_run.specs.World.{Links, RunState, World, before_rounds, stock_of}
+use Rattle.dc_run.specs.World.{Ground, Links, RunState, World, before_rounds, ground_in, on_ground, stock_of}
 use Rattle.dc_layer.specs.State.{LayerState}
 use Rattle.dc_outside.specs.State.{FilesState, LinkState}
 
 -- ---- a run of a tool
 
--- no link was used, and no tool told anything
+-- no program was started, and no tool told anything
 pub record IsSilent (old new : World) (outcome : Outcome) : Type 0 where
-  pub links_are : new.links ≡ old.links
+  pub child_is : new.links.child ≡ old.links.child
   pub said : HasSaid (end_line outcome.end) old.err new.err
   pub code_is : outcome.last_code ≡ 0
   pub status_is : outcome.status ≡ status_of outcome.end 0
 
 -- The layers were loaded, the jobs of the tool were found and had their rounds over them, and the end is told behind all else.
 pub record HasWorked (tool : Tool) (settings : Settings) (old new : World) (outcome : Outcome) (saves : List Save) : Type 0 where
-  pub mid : World
+  pub mid : Ground
   pub roots : Roots
-  pub started : HasStarted tool settings.conf_path old.stock.files mid.stock roots
-  pub mid_is : mid ≡ record old { stock = mid.stock }
+  pub started : HasStarted tool settings.conf_path (ground_in old).sources mid roots
   pub left : RunState
   pub status : ℕ
-  pub does : HasDoneJobs tool roots settings (before_rounds mid) left outcome.end status saves
+  pub does : HasDoneJobs tool roots settings (before_rounds (on_ground old mid)) left outcome.end status saves
   pub said : HasSaid (end_line outcome.end) left.world.err new.err
   pub rest_is : new ≡ record left.world { err = new.err }
   pub code_is : outcome.last_code ≡ left.code
@@ -43,18 +42,18 @@ pub record HasWorked (tool : Tool) (settings : Settings) (old new : World) (outc
 -- a run of a tool under these settings, with the saves that it began
 abbrev pub HasRunTool : Tool → Settings → World → World → Outcome → List Save → Type 0
 HasRunTool tool settings old new outcome saves =
-    (EndsBefore tool settings.conf_path old.stock.files new.stock outcome.end × IsSilent old new outcome × (saves ≡ []))
+    (EndsBefore tool settings.conf_path (ground_in old).sources (ground_in new) outcome.end × IsSilent old new outcome × (saves ≡ []))
     ⊎ HasWorked tool settings old new outcome saves
 
 -- ---- the program
 
--- the words are refused at a place, which the end tells, and nothing was done
+-- the words are refused at a place, which the end tells, and nothing else was done
 pub record AreRefused (words : List (List ℕ)) (old new : World) (outcome : Outcome) : Type 0 where
   pub word : ℕ
   pub end_is : outcome.end ≡ end.Usage word
   pub refused : AreRefusedAt words word
   pub silent : IsSilent old new outcome
-  pub untouched : new.stock ≡ old.stock
+  pub untouched : ground_in new ≡ ground_in old
 
 -- What the program does with its words, under these settings: they are refused, or the tool that they name ran, and began these saves.
 abbrev pub HasRunWords : List (List ℕ) → Settings → World → World → Outcome → List Save → Type 0
@@ -65,7 +64,7 @@ HasRunWords words settings old new outcome saves =
 pub record IsRun (words : List (List ℕ)) (settings : Settings) (old new : World) (outcome : Outcome) : Type 0 where
   pub saves : List Save
   pub ran : HasRunWords words settings old new outcome saves
-  pub links_count : LinksCount outcome.end old.links new.links
+  pub links_count : CountsCalls outcome.end old.links new.links
   pub program_counts : ProgramCounts outcome.end old.links.child.program.failures new.links.child.program.failures
   pub keeps : KeepsDatabases words settings.conf_path old.stock.files new.stock.files outcome.end saves
 

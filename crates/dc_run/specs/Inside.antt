@@ -1,13 +1,15 @@
 -- What the inner functions of a run promise. No public clause cites these.
 use Rattle.std.specs.Prelude.{◌≡◌, ◌⊎◌, ℕ, ◌==◌, nat_lt, Bool, true, false, List, [], ◌∷◌, ◌++◌, ◌<◌, ◌≤◌, length, Option, Some, None, is_some, option_map, option_to_list, Result, Ok, Err, codes, decimal, if◌then◌else◌}
 use Rattle.std.specs.Option.{option_map_or}
-use Rattle.std.specs.List.{AllByRecursion, flat_map}
+use Rattle.std.specs.List.{AllByRecursion, flat_map, list_all}
 use Rattle.dc_conf.specs.Configuration.{AreDisjoint, Configuration, HavePlans, IsOnce}
+use Rattle.dc_conf.specs.Nodes.{driver_line_of}
 use Rattle.dc_conf.specs.Plans.{IsOver, are_disjoint}
 use Rattle.dc_conf.specs.Trees.{shape}
+use Rattle.dc_conf.specs.declared.faults.ConfKind.TheVariants.{PipeUse}
 use Rattle.dc_conf.specs.declared.plans.Plan.{Plan}
 use Rattle.dc_conf.specs.declared.plans.Resolved.{Resolved}
-use Rattle.dc_conf.specs.declared.spec.LayerSort.TheVariants.{File, Tree as InTree, Pack}
+use Rattle.dc_conf.specs.declared.spec.LayerSort.TheVariants.{File, Tree as InTree, Pack, Pipe}
 use Rattle.dc_conf.specs.declared.spec.LayerSpec.{LayerSpec}
 use Rattle.dc_shelf.specs.Shelves.{count_of}
 use Rattle.dc_layer.specs.Patterns.{Sought}
@@ -54,7 +56,7 @@ use Rattle.dc_frontend.specs.declared.frontend.Frontend.TheVariants.{Noninteract
 use Rattle.dc_session.specs.SessionState.{TerminalState}
 use Rattle.dc_run.specs.declared.settings.Settings.{Settings}
 use Rattle.dc_run.specs.declared.outcome.ToolEnd.TheVariants as tool
-use Rattle.dc_run.specs.Starting.{IsRefusedFor, IsWrongWord, chosen, session_at, are_patterns, databases_of, roots, sought}
+use Rattle.dc_run.specs.Starting.{IsRefusedFor, IsWrongWord, chosen, session_at, are_patterns, databases_of, misused_among, roots, sought}
 use Rattle.dc_run.specs.declared.outcome.End.{End}
 use Rattle.dc_run.specs.declared.outcome.End.TheVariants as end
 use Rattle.dc_run.specs.declared.outcome.PatternAt.TheVariants.{Word}
@@ -178,11 +180,12 @@ AreApartIn (CopyDb copy) (source ∷ templates ∷ dest ∷ []) = are_disjoint (
 AreApartIn (CopyDb copy) plans = ⊥
 AreApartIn used plans = AreDisjoint plans
 
--- at most sixteen databases are of each sort
+-- at most sixteen databases are of each sort that is kept in files, and one comes through a pipe
 pub record AreFew (specs : List LayerSpec) : Type 0 where
   pub files : count_of File specs ≤ 16
   pub trees : count_of InTree specs ≤ 16
   pub packs : count_of Pack specs ≤ 16
+  pub pipes : count_of Pipe specs ≤ 1
 
 -- the databases that a tool reaches, and the plan of each of its roots
 pub record IsResolvedFor (used : Tool) (conf : Configuration) (resolved : Resolved) : Type 0 where
@@ -191,6 +194,7 @@ pub record IsResolvedFor (used : Tool) (conf : Configuration) (resolved : Resolv
   pub over : AllByRecursion (λ plan. IsOver (shape plan) (length resolved.specs)) resolved.plans
   pub once : AllByRecursion IsOnce resolved.plans
   pub few : AreFew resolved.specs
+  pub made : list_all (λ spec. is_some (driver_line_of conf.nodes spec.name)) resolved.specs ≡ true
   pub right : IsWrongWord used conf None
   pub apart : AreApartIn used resolved.plans
 
@@ -208,6 +212,14 @@ unknown_end used root = end.OutOfMemory
 abbrev pub overlap_in : Tool → List Plan → Option ℕ
 overlap_in (CopyDb copy) (source ∷ templates ∷ dest ∷ []) = if are_disjoint (shape source) (shape dest) then None else Some copy.dest.place
 overlap_in used plans = None
+
+-- one of these databases comes or goes through a pipe, and the tool doesn't copy
+pub record IsMisusedIn (used : Tool) (conf : Configuration) (specs : List LayerSpec) (how : End) : Type 0 where
+  pub spec : LayerSpec
+  pub line : ℕ
+  pub end_is : how ≡ end.ConfRefused line PipeUse
+  pub misused : misused_among used specs ≡ Some spec
+  pub line_is : driver_line_of conf.nodes spec.name ≡ Some line
 
 -- ---- the patterns of a tool
 

@@ -1,7 +1,7 @@
 -- The words of a configuration's faults, as they are told.
 use Rattle.std.specs.Prelude.{ℕ, List, codes}
 use Rattle.dc_conf.specs.declared.faults.ConfKind.{ConfKind}
-use Rattle.dc_conf.specs.declared.faults.ConfKind.TheVariants.{NoColon, Twice, TooMany, NoConfig, NoTemplates, NoName, NoDriver, UnknownDriver, MissingField, BadValue, SamePlace, UnknownDatabase, Cycle, SharedDatabase}
+use Rattle.dc_conf.specs.declared.faults.ConfKind.TheVariants.{NoColon, Twice, TooMany, NoConfig, NoTemplates, NoName, NoDriver, UnknownDriver, MissingField, BadValue, SamePlace, UnknownDatabase, Cycle, SharedDatabase, PipeUse}
 
 abbrev pub kind_word : ConfKind → List ℕ
 kind_word NoColon = codes "NoColon"
@@ -18,3 +18,4 @@ kind_word SamePlace = codes "SamePlace"
 kind_word UnknownDatabase = codes "UnknownDatabase"
 kind_word Cycle = codes "Cycle"
 kind_word SharedDatabase = codes "SharedDatabase"
+kind_word PipeUse = codes "PipeUse"

@@ -14,23 +14,22 @@ use Rattle.dc_run.specs.Jobs.{Uses}
 use Rattle.dc_run.specs.Running.{Awaits}
 use Rattle.dc_run.specs.Saves.{Save}
 use Rattle.dc_run.specs.Starting.{HasStarted, begun, keeps_changes}
-use Rattle.dc_run.specs.World.{Links, Stock, World, before_rounds}
+use Rattle.dc_run.specs.World.{Ground, Links, World, before_rounds, ground_in, ground_of, on_ground}
 
 -- The layers were loaded, the tool ran over them, perhaps with saves in its middle, and what it left was saved, or not, by how it ended. A program that
 -- was started is waited for then. The end is told behind what the tool told.
 pub record HasUsed (tool : Tool) (settings : Settings) (old new : World) (outcome : Outcome) : Type 0 where
-  pub mid : Stock
+  pub mid : Ground
   pub roots : Roots
-  pub started : HasStarted tool settings.conf_path old.stock.files mid roots
+  pub started : HasStarted tool settings.conf_path (ground_in old).sources mid roots
   pub answer : ToolAnswer
   pub told : List ℕ
   pub left : Resources
   pub links : Links
   pub inner : List Save
-  pub uses : Uses tool roots (begun tool (before_rounds (record old { stock = mid })) roots settings) old.links links 0 answer told left inner
+  pub uses : Uses tool roots (begun tool (before_rounds (on_ground old mid)) roots settings) (on_ground old mid).links links 0 answer told left inner
   pub how : End
-  pub finishes : FinishesWhere (keeps_changes tool) left.layers new.stock.used answer.ended left.files new.stock.files how
-  pub io_is : new.links.io ≡ links.io
+  pub finishes : FinishesWhere (keeps_changes tool) (ground_of left.files links.io left.layers) (ground_in new) answer.ended how
   pub status : ℕ
   pub awaits : Awaits answer.is_started links.child new.links.child how outcome.end answer.status status
   pub said : HasSaid (told ++ end_line outcome.end) left.err new.err

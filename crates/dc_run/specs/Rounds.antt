@@ -13,7 +13,7 @@ use Rattle.dc_run.specs.Jobs.{Uses}
 use Rattle.dc_run.specs.Running.{Awaits}
 use Rattle.dc_run.specs.Saves.{Save, Commits}
 use Rattle.dc_run.specs.Starting.{begun, keeps_changes}
-use Rattle.dc_run.specs.World.{RunState, stock_of}
+use Rattle.dc_run.specs.World.{RunState, ground_in, stock_of}
 use Rattle.dc_session.specs.Serving.{Resources}
 
 -- the work of one round: all that a tool does
@@ -71,10 +71,9 @@ pub record Round : Type 0 where
 -- for, and what is to be told of it was told. Nothing else was done.
 pub record IsRound (roots : Roots) (settings : Settings) (old : RunState) (round : Round) : Type 0 where
   pub works : Works round.job roots settings old round.left round.answer round.inner
-  pub commits : Commits (is_saved_at round.job round.answer.ended) round.answer.ended round.left.world.stock round.new.world.stock round.last round.finish
+  pub commits : Commits (is_saved_at round.job round.answer.ended) round.answer.ended (ground_in round.left.world) (ground_in round.new.world) round.last round.finish
   pub awaits : Awaits round.answer.is_started round.left.world.links.child round.new.world.links.child round.finish round.how round.answer.status round.status
   pub told : HasSaid (report round.job round.how round.status) round.left.world.err round.new.world.err
-  pub io_is : round.new.world.links.io ≡ round.left.world.links.io
   pub ahead_is : round.new.ahead ≡ round.left.ahead
   pub code_is : round.new.code ≡ round.left.code
 

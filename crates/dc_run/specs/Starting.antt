@@ -13,8 +13,11 @@ use Rattle.dc_conf.specs.Configuration.{Configuration, IsAnswer, IsPlan, is_amon
 use Rattle.dc_conf.specs.Plans.{IsOver, all_places, are_disjoint, stand_once}
 use Rattle.dc_conf.specs.Trees.{Tree}
 use Rattle.dc_conf.specs.declared.faults.ConfError.{ConfError}
+use Rattle.dc_conf.specs.declared.faults.ConfKind.TheVariants.{PipeUse}
+use Rattle.dc_conf.specs.Nodes.{driver_line_of}
 use Rattle.dc_conf.specs.declared.spec.LayerSpec.{LayerSpec}
 use Rattle.dc_layer.specs.Patterns.{Sought, is_pattern, is_plain}
+use Rattle.dc_layer.specs.State.{is_pipe}
 use Rattle.dc_layer.specs.declared.pattern.PatternError.{PatternError}
 use Rattle.dc_layer.specs.declared.pattern.PatternError.TheVariants as pattern
 use Rattle.dc_frontend.specs.Frontends.{frontend_of}
@@ -24,10 +27,10 @@ use Rattle.dc_proto.specs.Priorities.{priority_of}
 use Rattle.dc_proto.specs.declared.priority.Priority.{Priority}
 use Rattle.dc_question.specs.Questions.{QuestionContext}
 use Rattle.dc_save.specs.Loading.{IsTextAt}
-use Rattle.dc_save.specs.declared.loading.LoadError.{LoadError}
 use Rattle.dc_session.specs.Serving.{Resources, resources_of, session_over}
 use Rattle.dc_session.specs.SessionState.{FilesState, SessionState, nowhere, terminal_at}
-use Rattle.dc_shelf.specs.Shelves.{all_patterns, all_set_up, IsRefusedAt, LoadsAll}
+use Rattle.dc_shelf.specs.Shelves.{Sources, all_patterns, all_set_up, IsRefusedAt, LoadsAll}
+use Rattle.dc_shelf.specs.declared.loading.SourceError.{SourceError}
 use Rattle.dc_shelf.specs.declared.shelf.NotSetUp.{NotSetUp}
 use Rattle.dc_run.specs.declared.outcome.End.{End}
 use Rattle.dc_run.specs.declared.outcome.End.TheVariants as end
@@ -36,7 +39,7 @@ use Rattle.dc_run.specs.declared.outcome.PatternAt.TheVariants.{Word}
 use Rattle.dc_run.specs.Roots.{CopyRoots, Roots, plans_in, shaped}
 use Rattle.dc_run.specs.declared.starting.Roots.{Roots as RootsOf}
 use Rattle.dc_run.specs.Ends.{end_of_conf, end_of_pattern, end_of_patterns, end_of_load}
-use Rattle.dc_run.specs.World.{RunState, Stock}
+use Rattle.dc_run.specs.World.{Ground, RunState}
 use Rattle.dc_cli.specs.Tools.{owner_of}
 use Rattle.dc_cli.specs.declared.tool.Tool.{Tool}
 use Rattle.dc_cli.specs.declared.tool.Tool.TheVariants.{Run, Show, CopyDb, SetSelections, Drill}
@@ -138,6 +141,21 @@ IsWrongWord (Show database shown) conf word = word ≡ first_unknown conf (optio
 IsWrongWord (CopyDb copy) conf word = IsWrongCopy (first_unknown conf (copy.source ∷ copy.dest ∷ [])) conf copy word
 IsWrongWord used conf word = word ≡ None
 
+-- ---- databases through pipes
+
+-- a tool that doesn't copy
+abbrev pub IsOther : Tool → Type 0
+IsOther (CopyDb copy) = ⊥
+IsOther used = Unit {0}
+
+-- the first of these databases that comes or goes through a pipe, where the tool isn't the one that copies
+abbrev pub misused_among : Tool → List LayerSpec → Option LayerSpec
+misused_among (CopyDb copy) specs = None
+misused_among used specs = find (λ spec. is_pipe spec.sort) specs
+
+abbrev pub misused_pipe : Tool → Configuration → Option LayerSpec
+misused_pipe used conf = misused_among used (databases_of used conf)
+
 -- ---- the words that are patterns
 
 -- two words that may be given, in the order of their places
@@ -167,6 +185,10 @@ IsRefusedFor word pattern.OutOfMemory = ⊥
 -- the files once a tool's configuration was read
 abbrev pub conf_read : Tool → FilesView → List ℕ → FilesView
 conf_read used files path = if has_files used then after_look files Read path true else files
+
+-- the same with the link, which wasn't used
+abbrev pub conf_read_in : Tool → List ℕ → Sources → Sources
+conf_read_in used path old = record old { files = record old.files { view = conf_read used old.files.view path } }
 
 -- the plans of questions and of templates are over so many layers
 pub record AreOver (roots : Roots) (count : ℕ) : Type 0 where
@@ -238,7 +260,7 @@ pub record HasNotBegun (old new : FilesState) : Type 0 where
   pub files_are : new.view ≡ old.view
   pub counts : (new.counts ≡ old.counts) ⊎ RefusalRose old.counts new.counts
 
--- there was no memory before the first layer was set up
+-- there was no memory before the first load
 pub record IsOutOfMemory (used : Tool) (path : List ℕ) (old new : FilesState) (how : End) : Type 0 where
   pub end_is : how ≡ end.OutOfMemory
   pub begun : HasNotBegun old new ⊎ HasReadConf used path old new
@@ -273,6 +295,17 @@ pub record IsChosen (used : Tool) (disk : Option Disk) (path : List ℕ) (conf :
   pub conf_is : IsConfiguration used disk path conf
   pub databases : IsWrongWord used conf None
 
+-- a tool other than the one that copies works on a database that comes or goes through a pipe, which is told at the line of its driver
+pub record IsMisused (used : Tool) (path : List ℕ) (old new : FilesState) (how : End) : Type 0 where
+  pub spec : LayerSpec
+  pub line : ℕ
+  pub end_is : how ≡ end.ConfRefused line PipeUse
+  pub conf : Configuration
+  pub conf_is : IsChosen used old.view.disk path conf
+  pub misused : misused_pipe used conf ≡ Some spec
+  pub line_is : driver_line_of conf.nodes spec.name ≡ Some line
+  pub read : HasReadConf used path old new
+
 -- a word of the tool is refused as a pattern, and those before it are patterns
 pub record IsWrongPattern (used : Tool) (path : List ℕ) (old new : FilesState) (how : End) : Type 0 where
   pub error : PatternError
@@ -287,9 +320,10 @@ pub record IsWrongPattern (used : Tool) (path : List ℕ) (old new : FilesState)
   pub refused : IsRefusedFor word.word error
   pub read : HasReadConf used path old new
 
--- the same configuration, and the patterns among the tool's words are patterns
+-- the same configuration, of which the tool misuses no pipe, and the patterns among the tool's words are patterns
 pub record IsFit (used : Tool) (disk : Option Disk) (path : List ℕ) (conf : Configuration) : Type 0 where
   pub conf_is : IsChosen used disk path conf
+  pub unmisused : misused_pipe used conf ≡ None
   pub patterns : are_patterns (pattern_words used) ≡ true
 
 -- the patterns of a database of the configuration are refused
@@ -302,25 +336,30 @@ pub record IsNotSetUp (used : Tool) (path : List ℕ) (old new : FilesState) (ho
   pub read : HasReadConf used path old new
 
 -- All patterns of the databases of the configuration are patterns, and a layer of each was set up. The loads of these, which had this answer,
--- left the layers and the files so.
-pub record HasLoaded (used : Tool) (path : List ℕ) (conf : Configuration) (old : FilesState) (new : Stock) (result : Result (Unit {0}) LoadError) : Type 0 where
-  pub conf_is : IsFit used old.view.disk path conf
+-- left the layers, the files and the link so.
+pub record HasLoaded (used : Tool) (path : List ℕ) (conf : Configuration) (old : Sources) (new : Ground) (result : Result (Unit {0}) SourceError) : Type 0 where
+  pub conf_is : IsFit used old.files.view.disk path conf
   pub patterns : all_patterns (databases_of used conf) ≡ true
-  pub loads : LoadsAll (loaded_of used conf) (all_set_up (databases_of used conf)) new.used
-      (conf_read used old.view path) new.files.view old.counts new.files.counts result
+  pub loads : LoadsAll (loaded_of used conf) (all_set_up (databases_of used conf)) new.used (conf_read_in used path old) new.sources result
 
 -- a load was refused
-pub record IsNotLoaded (used : Tool) (path : List ℕ) (old : FilesState) (new : Stock) (how : End) : Type 0 where
-  pub error : LoadError
+pub record IsNotLoaded (used : Tool) (path : List ℕ) (old : Sources) (new : Ground) (how : End) : Type 0 where
+  pub error : SourceError
   pub end_is : how ≡ end_of_load error
   pub conf : Configuration
   pub loaded : HasLoaded used path conf old new (Err error)
 
-abbrev pub EndsBefore : Tool → List ℕ → FilesState → Stock → End → Type 0
+-- before a layer was loaded
+abbrev pub EndsUnloaded : Tool → List ℕ → FilesState → FilesState → End → Type 0
+EndsUnloaded used path old new how =
+    IsOutOfMemory used path old new how ⊎ IsUnread used path old new how ⊎ IsRefused used path old new how
+    ⊎ IsWrongDatabase used path old new how ⊎ IsMisused used path old new how ⊎ IsWrongPattern used path old new how
+    ⊎ IsNotSetUp used path old new how
+
+-- Before that the link wasn't used. A load may have read what comes through a pipe.
+abbrev pub EndsBefore : Tool → List ℕ → Sources → Ground → End → Type 0
 EndsBefore used path old new how =
-    IsOutOfMemory used path old new.files how ⊎ IsUnread used path old new.files how ⊎ IsRefused used path old new.files how
-    ⊎ IsWrongDatabase used path old new.files how ⊎ IsWrongPattern used path old new.files how
-    ⊎ IsNotSetUp used path old new.files how ⊎ IsNotLoaded used path old new how
+    (EndsUnloaded used path old.files new.sources.files how × (new.sources.link ≡ old.link)) ⊎ IsNotLoaded used path old new how
 
 -- ---- what is done before the tool, by the answer
 
@@ -347,7 +386,7 @@ abbrev pub HasEachOnce : Tree → Type 0
 HasEachOnce plan = stand_once (all_places plan) ≡ true
 
 -- all layers were loaded, and these are the configuration, the plans of the tool's databases, and what it copies by
-pub record HasStarted (used : Tool) (path : List ℕ) (old : FilesState) (new : Stock) (roots : Roots) : Type 0 where
+pub record HasStarted (used : Tool) (path : List ℕ) (old : Sources) (new : Ground) (roots : Roots) : Type 0 where
   pub loaded : HasLoaded used path roots.conf old new (Ok tt)
   pub config_is : IsPlanIn used roots.conf roots.config (source_of used roots.conf)
   pub templates_is : IsPlanIn used roots.conf roots.templates roots.conf.templates
@@ -355,7 +394,7 @@ pub record HasStarted (used : Tool) (path : List ℕ) (old : FilesState) (new : 
   pub once : AllByRecursion HasEachOnce (plans_in roots)
   pub apart : AreDisjointFor used roots
 
-abbrev pub Starts : Tool → List ℕ → FilesState → Stock → Result RootsOf End → Type 0
+abbrev pub Starts : Tool → List ℕ → Sources → Ground → Result RootsOf End → Type 0
 Starts used path old new (Ok roots) = HasStarted used path old new (shaped roots)
 Starts used path old new (Err how) = EndsBefore used path old new how
 

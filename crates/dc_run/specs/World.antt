@@ -1,16 +1,21 @@
 -- What a run finds and leaves.
 use Rattle.std.specs.Prelude.{◌≡◌, ◌≤◌, ℕ, List, [], length, map as each}
-use Rattle.dc_conf.specs.declared.spec.LayerSort.TheVariants.{File, Tree, Pack}
+use Rattle.dc_conf.specs.declared.spec.LayerSort.TheVariants.{File, Tree, Pack, Pipe}
 use Rattle.dc_layer.specs.State.{LayerState}
 use Rattle.dc_outside.specs.State.{LinkState, FilesState}
 use Rattle.dc_session.specs.SessionState.{nothing_typed}
-use Rattle.dc_shelf.specs.Shelves.{AreBlank}
+use Rattle.dc_shelf.specs.Shelves.{AreBlank, Sources, sources_of}
 use Rattle.dc_shelf.specs.declared.shelf.Shelf.{Shelf}
 use Rattle.dc_teletype.specs.TerminalLines.{TypeAhead}
 
 -- the files, and the layers that are used
 pub record Stock : Type 0 where
   pub files : FilesState
+  pub used : List LayerState
+
+-- what databases are loaded from and saved to, and the layers that are used
+pub record Ground : Type 0 where
+  pub sources : Sources
   pub used : List LayerState
 
 -- the links that tools use: the program's own, and the one to the program that it starts
@@ -23,6 +28,15 @@ pub record World : Type 0 where
   pub stock : Stock
   pub links : Links
   pub err : LinkState
+
+-- of a world: its files, the program's own link, and its layers
+abbrev pub ground_in : World → Ground
+ground_in world = record { sources = record { files = world.stock.files; link = world.links.io }; used = world.stock.used }
+
+-- a world with this ground
+abbrev pub on_ground : World → Ground → World
+on_ground world found =
+    record world { stock = record { files = found.sources.files; used = found.used }; links = record { io = found.sources.link; child = world.links.child } }
 
 -- what one round of a run hands to the next: the world, what was typed on the terminal and isn't used yet, and the code of the last reply
 pub record RunState : Type 0 where
@@ -37,6 +51,10 @@ before_rounds world = record { world = world; ahead = nothing_typed; code = 0 }
 -- these files and layers
 abbrev pub stock_of : FilesState → List LayerState → Stock
 stock_of files used = record { files = files; used = used }
+
+-- these files, this link and these layers
+abbrev pub ground_of : FilesState → LinkState → List LayerState → Ground
+ground_of files link used = record { sources = sources_of files link; used = used }
 
 -- these links
 abbrev pub links_of : LinkState → LinkState → Links
@@ -62,17 +80,23 @@ trees_in state shelf = each (λ b. state (b.vtable, b.value)) shelf.trees.items
 abbrev pub packs_in : {X : Type 0} {F : X → Type 0} → ((x : X) × F x → LayerState) → Shelf X F → List LayerState
 packs_in state shelf = each (λ b. state (b.vtable, b.value)) shelf.packs.items
 
+abbrev pub pipes_in : {X : Type 0} {F : X → Type 0} → ((x : X) × F x → LayerState) → Shelf X F → List LayerState
+pipes_in state shelf = each (λ b. state (b.vtable, b.value)) shelf.pipes.items
+
 abbrev pub used_in : {X : Type 0} {F : X → Type 0} → ((x : X) × F x → LayerState) → Shelf X F → List LayerState
 used_in state shelf = each (λ b. state (b.vtable, b.value)) shelf.used.items
 
--- sixteen blank boxes of each sort at least, since a configuration may have as many databases, and none is used yet
+-- sixteen blank boxes of each sort that is kept in files at least, and one for what comes through a pipe, since a configuration may have as many
+-- databases; and none is used yet
 pub record IsReady {X : Type 0} {F : X → Type 0} (state : (x : X) × F x → LayerState) (shelf : Shelf X F) : Type 0 where
   pub files : AreBlank File (files_in state shelf)
   pub trees : AreBlank Tree (trees_in state shelf)
   pub packs : AreBlank Pack (packs_in state shelf)
+  pub pipes : AreBlank Pipe (pipes_in state shelf)
   pub some_files : 16 ≤ length shelf.files.items
   pub some_trees : 16 ≤ length shelf.trees.items
   pub some_packs : 16 ≤ length shelf.packs.items
+  pub some_pipes : 1 ≤ length shelf.pipes.items
   pub none_used : shelf.used.items ≡ []
 
 -- what stands: the links, the files, and the used boxes

@@ -39,7 +39,8 @@ use std::alloc::Global;
 /// `communicate [OWNER]` serves the commands that come on the link, as debconf-communicate(1) does, and answers each line
 /// before it reads more. `loadtemplate OWNER FILE ...` loads the templates of files, as debconf-loadtemplate(1) does. `run COMMAND` starts a
 /// program behind the link `child` and serves its commands, as debconf(1) does, with the user asked on `io`. `show` prints what a database holds,
-/// as debconf-show(1) does, and `copydb` copies items from one database into another, as debconf-copydb(1) does. `set-selections` answers questions
+/// as debconf-show(1) does, and `copydb` copies items from one database into another, as debconf-copydb(1) does; one of these may come through `io`, and
+/// the other go out on it. `set-selections` answers questions
 /// before they are asked, as debconf-set-selections(1) does, by the lines that come on the link, and `get-selections` prints such lines of all answers, as
 /// debconf-get-selections(1) does. Then what changed in the layers is saved, and the
 /// program waited for. `drill N` serves many valid commands over databases of its own, which are nowhere kept, and counts them. An end other
@@ -70,7 +71,7 @@ pub fn run_words<L: Link, E: Link, C: Child, F: Files>(
     }
 }
 
-// The databases are loaded, the tool works on them, what it changed is saved, and the program that it started is waited for.
+// The databases are loaded, the tool works on them, what it changed is sent and saved, and the program that it started is waited for.
 fn run_tool<L: Link, E: Link, C: Child, F: Files>(
     alloc: Global,
     tool: &Tool,
@@ -89,7 +90,7 @@ fn run_tool<L: Link, E: Link, C: Child, F: Files>(
         (world (L.link io.new) (C.link child.new) (E.link err.new) (F.files files.new) state shelf.new)
         result saves }
 {
-    match start(alloc, tool, &settings.conf_path, files, shelf) {
+    match start(alloc, tool, &settings.conf_path, io, files, shelf) {
         Err(end) => end_run(err, end, 0, 0),
         Ok(roots) => {
             let mut teletype = Teletype::new(alloc);
@@ -112,7 +113,14 @@ fn run_tool<L: Link, E: Link, C: Child, F: Files>(
                 last_code,
                 status,
             } = answer;
-            let how = finish_used(alloc, keeps_changes(tool), ended, files, &mut shelf.used);
+            let how = finish_used(
+                alloc,
+                keeps_changes(tool),
+                ended,
+                io,
+                files,
+                &mut shelf.used,
+            );
             let (end, status) = await_program(child, is_started, how, status);
             end_run(err, end, last_code, status)
         }

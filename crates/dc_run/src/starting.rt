@@ -1,31 +1,34 @@
 // What a run does before its tool.
-ghost use Rattle.std.specs.Prelude.{◌≡◌, ◌++◌, [], if◌then◌else◌, length, map as each, IfOk, IfErr, OnOk, true, option_and_then};
+ghost use Rattle.std.specs.Prelude.{◌≡◌, ◌++◌, [], if◌then◌else◌, length, map as each, IfOk, IfErr, OnOk, None, true, codes, is_some, option_and_then};
+ghost use Rattle.std.specs.List.{find, list_all};
 ghost use Rattle.std.specs.Option.{option_copied, option_or};
 ghost use Rattle.dc_cli.specs.declared.tool.Tool.TheVariants.{CopyDb};
 ghost use Rattle.dc_frontend.specs.Frontends.{frontend_of};
 ghost use Rattle.dc_conf.specs.Configuration.{IsAnswer};
+ghost use Rattle.dc_conf.specs.Nodes.{driver_line_of};
+ghost use Rattle.dc_layer.specs.State.{is_pipe as is_pipe_of};
 ghost use Rattle.dc_proto.specs.Priorities.{priority_of};
-ghost use Rattle.dc_shelf.specs.Shelves.{LoadsAll, all_set_up};
+ghost use Rattle.dc_shelf.specs.Shelves.{LoadsAll, all_set_up, sources_of};
 ghost use Rattle.dc_save.specs.Loading.{text_in};
 ghost use Rattle.dc_run.specs.Ends.{end_of_conf as end_of_conf_by, end_of_patterns as end_of_patterns_by, end_of_load as end_of_load_by};
-ghost use Rattle.dc_run.specs.Inside.{ArePatternsOf, IsCopyBy, IsUnbuilt, plans_of};
+ghost use Rattle.dc_run.specs.Inside.{ArePatternsOf, IsCopyBy, IsMisusedIn, IsUnbuilt, plans_of};
 ghost use Rattle.dc_run.specs.Roots.{shaped};
-ghost use Rattle.dc_run.specs.Starting.{AreApart, AreOver, Starts, ReadsConf, added_line, are_patterns, chosen as chosen_of, conf_text, has_files as has_files_in, keeps_changes as keeps_changes_of, pattern_words, roots};
-ghost use Rattle.dc_run.specs.World.{IsReady, stock_of, used_in};
+ghost use Rattle.dc_run.specs.Starting.{AreApart, AreOver, Starts, ReadsConf, added_line, are_patterns, chosen as chosen_of, conf_text, has_files as has_files_in, keeps_changes as keeps_changes_of, misused_among, pattern_words, roots};
+ghost use Rattle.dc_run.specs.World.{IsReady, ground_of, used_in};
 
 use crate::databases::resolve;
 use crate::outcome::{End, PatternAt, end_of_pattern};
 use crate::settings::Settings;
 use crate::word_patterns::both_patterns;
 use dc_cli::{ConfigLine, CopyWords, Tool, is_name_field};
-use dc_conf::spec::LayerSpec;
-use dc_conf::{Conf, ConfError, Plan, Resolved, read_conf};
+use dc_conf::spec::{LayerSort, LayerSpec};
+use dc_conf::{Conf, ConfError, ConfKind, Plan, Resolved, read_conf};
 use dc_frontend::Frontend;
 use dc_layer::{Layer, Pattern};
-use dc_outside::{Files, FilesError};
+use dc_outside::{Files, FilesError, Link};
 use dc_proto::Priority;
-use dc_save::LoadError;
-use dc_shelf::{NotSetUp, Shelf, load_all, set_up_all};
+use dc_save::{LoadError, PipeError};
+use dc_shelf::{NotSetUp, Shelf, SourceError, load_all, set_up_all};
 use dc_text::{List, Mem, Text};
 use std::alloc::Global;
 
@@ -52,31 +55,79 @@ pub struct CopyRoots {
     pub by_owner: Option<Pattern>,
 }
 
-/// Reads the configuration, builds the patterns among the tool's words, and sets up and loads a layer for each database that its roots reach.
-pub fn start<F: Files>(
+/// Reads the configuration, builds the patterns among the tool's words, and sets up and loads a layer for each database that its roots reach. What
+/// comes through a pipe is read from the link.
+pub fn start<L: Link, F: Files>(
     alloc: Global,
     used: &Tool,
     path: &Text,
+    io: &mut L,
     files: &mut F,
     shelf: &mut Shelf,
 ) -> Result<Roots, End>
     requires { IsReady state shelf.old }
-    ensures starts { Starts used.now path.now (F.files files.old) (stock_of (F.files files.new) (used_in state shelf.new)) result }
+    ensures starts { Starts used.now path.now (sources_of (F.files files.old) (L.link io.old))
+        (ground_of (F.files files.new) (L.link io.new) (used_in state shelf.new)) result }
     ensures over { IfOk result (λ roots. AreOver (shaped roots) (length shelf.new.used.items)) }
     ensures apart { IfOk result (λ roots. AreApart used.now (shaped roots) (length shelf.new.used.items)) }
 {
     let conf = read_configuration(alloc, used, path, files)?;
     let resolved = resolve(alloc, used, &conf)?;
+    refuse_misuse(used, &conf, resolved.specs.as_slice())?;
     let (by_name, by_owner) = patterns_of(alloc, used)?;
     let Resolved { specs, plans } = resolved;
     match set_up_all(shelf, specs.as_slice()) {
         Ok(()) => {}
         Err(refused) => return Err(end_of_patterns(refused)),
     }
-    match load_used(alloc, used, files, specs.as_slice(), &mut shelf.used) {
+    let dash = match Text::from_bytes(alloc, b"-") {
+        Ok(dash) => dash,
+        Err(_) => return Err(End::OutOfMemory),
+    };
+    match load_used(alloc, used, io, files, specs.as_slice(), &mut shelf.used) {
         Ok(()) => Ok(roots_of(used, conf, plans, by_name, by_owner)),
-        Err(error) => Err(end_of_load(error)),
+        Err(error) => Err(end_of_load(error, dash)),
     }
+}
+
+// Refuses a database that comes or goes through a pipe, where the tool isn't the one that copies.
+fn refuse_misuse(used: &Tool, conf: &Conf, specs: &[LayerSpec]) -> Result<(), End>
+    requires { list_all (λ spec. is_some (driver_line_of conf.now.nodes spec.name)) specs.now ≡ true }
+    ensures unmisused { OnOk result (misused_among used.now specs.now ≡ None) }
+    ensures misused { IfErr result (IsMisusedIn used.now conf.now specs.now) }
+{
+    match misused_pipe(used, specs) {
+        None => Ok(()),
+        Some(spec) => match conf.driver_line(&spec.name) {
+            None => unreachable!(),
+            Some(line) => Err(End::ConfRefused {
+                line,
+                kind: ConfKind::PipeUse,
+            }),
+        },
+    }
+}
+
+// The first of the databases that comes or goes through a pipe, where the tool isn't the one that copies.
+fn misused_pipe<'s>(used: &Tool, specs: &'s [LayerSpec]) -> Option<&'s LayerSpec>
+    ensures { option_copied result ≡ misused_among used.now specs.now }
+{
+    match used {
+        Tool::CopyDb(_) => None,
+        _ => first_pipe(specs),
+    }
+}
+
+fn first_pipe(specs: &[LayerSpec]) -> Option<&LayerSpec>
+    ensures { option_copied result ≡ find (λ spec. is_pipe_of spec.sort) specs.now }
+{
+    specs.iter().find(|spec| is_pipe(spec.sort))
+}
+
+fn is_pipe(sort: LayerSort) -> bool
+    ensures { result ≡ is_pipe_of sort }
+{
+    matches!(sort, LayerSort::Pipe)
 }
 
 // The patterns by which a tool copies.
@@ -91,24 +142,25 @@ fn patterns_of(alloc: Global, used: &Tool) -> Result<(Option<Pattern>, Option<Pa
     }
 }
 
-// Loads the layers, each of which was set up, where they are kept in files.
+// Loads the layers, each of which was set up, where the tool has any that are kept.
 #[tactic(auto, using(crate::proofs::StartLemmas::whole_slice))]
-fn load_used<F: Files>(
+fn load_used<L: Link, F: Files>(
     alloc: Global,
     tool: &Tool,
+    io: &mut L,
     files: &mut F,
     specs: &[LayerSpec],
     used: &mut Vec<Box<dyn Layer>>,
-) -> Result<(), LoadError>
+) -> Result<(), SourceError>
     requires { each state used.old.items ≡ all_set_up specs.now }
     ensures loads { LoadsAll (if has_files_in tool.now then specs.now else []) (each state used.old.items) (each state used.new.items)
-        (F.files files.old).view (F.files files.new).view (F.files files.old).counts (F.files files.new).counts result }
+        (sources_of (F.files files.old) (L.link io.old)) (sources_of (F.files files.new) (L.link io.new)) result }
     ensures count { length used.new.items ≡ length specs.now }
 {
     if !has_files(tool) {
         return Ok(());
     }
-    load_all(alloc, files, specs, used.as_mut_slice())
+    load_all(alloc, files, io, specs, used.as_mut_slice())
 }
 
 // Whether a tool works on databases that are kept in files.
@@ -305,12 +357,18 @@ fn end_of_patterns(refused: NotSetUp) -> End
     end_of_pattern(PatternAt::Database(refused.place), refused.error)
 }
 
-fn end_of_load(error: LoadError) -> End
+// The end of a run of which a layer isn't loaded. The path of what comes through a pipe is `-`, which is handed in.
+fn end_of_load(error: SourceError, dash: Text) -> End
+    requires { dash ≡ codes "-" }
     ensures { result ≡ end_of_load_by error }
 {
     match error {
-        LoadError::Failed { path } => End::FilesFault { path },
-        LoadError::Damaged { path, line } => End::Damaged { path, line },
-        LoadError::OutOfMemory => End::OutOfMemory,
+        SourceError::Files(LoadError::Failed { path }) => End::FilesFault { path },
+        SourceError::Files(LoadError::Damaged { path, line }) => End::Damaged { path, line },
+        SourceError::Files(LoadError::OutOfMemory) => End::OutOfMemory,
+        SourceError::Pipe(PipeError::Failed) => End::LinkFault,
+        SourceError::Pipe(PipeError::Damaged { line }) => End::Damaged { path: dash, line },
+        SourceError::Pipe(PipeError::TooLong) => End::TooLong,
+        SourceError::Pipe(PipeError::OutOfMemory) => End::OutOfMemory,
     }
 }

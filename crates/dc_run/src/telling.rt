@@ -190,5 +190,6 @@ fn kind_word(kind: ConfKind) -> &'static [u8]
         ConfKind::UnknownDatabase => b"UnknownDatabase",
         ConfKind::Cycle => b"Cycle",
         ConfKind::SharedDatabase => b"SharedDatabase",
+        ConfKind::PipeUse => b"PipeUse",
     }
 }

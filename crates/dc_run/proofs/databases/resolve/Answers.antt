@@ -7,7 +7,7 @@ use Rattle.dc_run.proofs.databases.resolve.Goals as goal
 pub returns-in-None-clause-resolved : goal.returns-in-None-clause-resolved
 returns-in-None-clause-resolved c =
     let told = c.in-Ok-resolve.ensures in
-    resolved_for c.args.used.now c.args.conf.now c.in-Ok.roots c.in-Ok.ensures _ c.requires told.answer told.over told.once told.disjoint
+    resolved_for c.args.used.now c.args.conf.now c.in-Ok.roots c.in-Ok.ensures _ c.requires told.answer told.over told.once told.made told.disjoint
     (sym (c.overlap_at.ensures ∙ ap (overlap_in c.args.used.now) c.as_slice.ensures) ∙ c.in-None.is)
 
 pub returns-in-Ok-resolve-clause-wrong : goal.returns-in-Ok-resolve-clause-wrong
