@@ -1,5 +1,6 @@
 -- Where no failure of the files was counted and a run did all, each line has the reply of its row.
-use Rattle.std.proofs.Common.{◌≡◌, ℕ, Bool, true, false, inl, inr, List, [], ◌∷◌, refl, ap, sym, subst, ◌∙◌, arith}
+use Rattle.dc_run.proofs.PipeLemmas.{io_stays, io_unused}
+use Rattle.std.proofs.Common.{◌≡◌, ℕ, Bool, true, false, inl, inr, List, [], ◌∷◌, ap, sym, subst, ◌∙◌, arith}
 use Rattle.std.specs.Prelude.{◌≤◌, ◌≢◌, Option, Some, None}
 use Rattle.std.specs.Io.KnownBytes.{prepend_known}
 use Rattle.dc_words.specs.declared.stream.Line.{Line}
@@ -29,7 +30,7 @@ use Rattle.dc_run.specs.OneRound.{HasUsed}
 use Rattle.dc_run.specs.Running.{IsStarted}
 use Rattle.dc_run.specs.SavingSession.{HandlesBy, TakesSaving}
 use Rattle.dc_run.specs.Starting.{begun, keeps_changes}
-use Rattle.dc_run.specs.World.{World, before_rounds}
+use Rattle.dc_run.specs.World.{World, before_rounds, ground_in, ground_of, on_ground}
 use Rattle.dc_run.specs.declared.outcome.End.TheVariants as end
 use Rattle.dc_run.specs.declared.outcome.Outcome.{Outcome}
 use Rattle.dc_run.specs.declared.settings.Settings.{Settings}
@@ -104,12 +105,12 @@ module _ (start : SessionState) (left : Resources) (old new : LinkState) (code :
 -- ---- the run
 
 module _ (used : Tool) (settings : Settings) (old new : World) (outcome : Outcome) (run : HasUsed used settings old new outcome) (none : ¬ Rose old.stock.files.counts.faults new.stock.files.counts.faults) where
-  tool_sound : ¬ Rose run.mid.files.counts.faults run.left.files.counts.faults
+  tool_sound : ¬ Rose run.mid.sources.files.counts.faults run.left.files.counts.faults
   tool_sound rose =
       none
-      (rose_between old.stock.files.counts.faults run.mid.files.counts.faults run.left.files.counts.faults new.stock.files.counts.faults
-      (start_later used settings.conf_path old.stock.files run.mid run.roots run.started).0 rose
-      (end_of_later run.left.layers new.stock.used run.left.files new.stock.files run.how (keeps_changes used) run.answer.ended run.finishes).0)
+      (rose_between old.stock.files.counts.faults run.mid.sources.files.counts.faults run.left.files.counts.faults new.stock.files.counts.faults
+      (start_later used settings.conf_path (ground_in old).sources run.mid run.roots run.started).0 rose
+      (end_of_later (ground_of run.left.files run.links.io run.left.layers) (ground_in new) run.how (keeps_changes used) run.answer.ended run.finishes).0)
 
 with_links : (start : SessionState) (old from mid new : LinkState) → from.talk ≡ old.talk → from.input ≡ old.input → new.talk ≡ mid.talk → new.input ≡ mid.input → AnswersAll start from mid → AnswersAll start old new
 with_links start old from mid new from_talk from_input talk input all = record {
@@ -126,12 +127,15 @@ with_links start old from mid new from_talk from_input talk input all = record {
 }
 
 pub communicate_answered : (owner : List ℕ) (settings : Settings) (old new : World) (outcome : Outcome) (run : HasUsed (Communicate owner) settings old new outcome) → outcome.end ≡ end.Done
-    → ¬ Rose old.stock.files.counts.faults new.stock.files.counts.faults → AnswersAll (begun (Communicate owner) (before_rounds (record old { stock = run.mid })) run.roots settings) old.links.io new.links.io
+    → ¬ Rose old.stock.files.counts.faults new.stock.files.counts.faults → AnswersAll (begun (Communicate owner) (before_rounds (on_ground old run.mid)) run.roots settings) old.links.io new.links.io
 communicate_answered owner settings old new outcome run done none =
-    let start = begun (Communicate owner) (before_rounds (record old { stock = run.mid })) run.roots settings in
-    let served = was_served start run.left old.links.io run.links.io run.uses.0.ended 0 run.answer.last_code (sym run.uses.0.ended_is ∙ (at_save (Communicate owner) settings old new outcome run done).0) run.uses.0.served.by in
-    with_links start old.links.io old.links.io run.links.io new.links.io refl refl (ap (λ (l : LinkState). l.talk) run.io_is) (ap (λ (l : LinkState). l.input) run.io_is)
-    (all_answered start run.left old.links.io run.links.io run.answer.last_code served (tool_sound (Communicate owner) settings old new outcome run none))
+    let start = begun (Communicate owner) (before_rounds (on_ground old run.mid)) run.roots settings in
+    let served = was_served start run.left run.mid.sources.link run.links.io run.uses.0.ended 0 run.answer.last_code (sym run.uses.0.ended_is ∙ (at_save (Communicate owner) settings old new outcome run done).0) run.uses.0.served.by in
+    let found = io_unused (Communicate owner) tt settings old new outcome run in
+    let stays = io_stays (Communicate owner) tt settings old new outcome run in
+    with_links start old.links.io run.mid.sources.link run.links.io new.links.io (ap (λ (l : LinkState). l.talk) found) (ap (λ (l : LinkState). l.input) found)
+    (ap (λ (l : LinkState). l.talk) stays) (ap (λ (l : LinkState). l.input) stays)
+    (all_answered start run.left run.mid.sources.link run.links.io run.answer.last_code served (tool_sound (Communicate owner) settings old new outcome run none))
 
 module _ (owner : List ℕ) (frontend : Option Frontend) (priority : Option Priority) (command : List (List ℕ)) (settings : Settings) (old new : World) (outcome : Outcome)
     (run : HasUsed (Run owner frontend priority command) settings old new outcome) (done : outcome.end ≡ end.Done) (none : ¬ Rose old.stock.files.counts.faults new.stock.files.counts.faults) where
@@ -139,9 +143,9 @@ module _ (owner : List ℕ) (frontend : Option Frontend) (priority : Option Prio
   Used = Run owner frontend priority command
 
   abbrev start : SessionState
-  start = begun Used (before_rounds (record old { stock = run.mid })) run.roots settings
+  start = begun Used (before_rounds (on_ground old run.mid)) run.roots settings
 
-  started_answered : IsStarted command start old.links run.links 0 run.answer run.left run.inner → AnswersAll start old.links.child new.links.child
+  started_answered : IsStarted command start (on_ground old run.mid).links run.links 0 run.answer run.left run.inner → AnswersAll start old.links.child new.links.child
   started_answered started =
       let served = was_served start run.left started.mid run.links.child started.ended 0 run.answer.last_code (sym started.ended_is ∙ (at_save Used settings old new outcome run done).0) started.served.by in
       let same = waited_link run.answer.is_started run.links.child new.links.child run.how outcome.end run.answer.status run.status run.awaits in

@@ -1,4 +1,5 @@
 -- At an end without a save the layers aren't behind the replies.
+use Rattle.dc_run.proofs.PipeLemmas.{io_stays, io_unused}
 use Rattle.std.proofs.Common.{◌≡◌, ◌⊎◌, inl, inr, ℕ, zero, suc, Bool, true, false, List, [], ◌∷◌, ◌++◌, refl, ap, sym, subst, ◌∙◌, append-nil, arith}
 use Rattle.std.specs.Io.KnownBytes.{prepend_known}
 use Rattle.dc_outside.specs.LinkCalls.{Starts}
@@ -10,7 +11,7 @@ use Rattle.dc_words.specs.declared.stream.Line.{Line}
 use Rattle.dc_words.specs.declared.stream.Line.TheVariants.{Whole, TooLong}
 use Rattle.dc_item.specs.Item.{ItemParts}
 use Rattle.dc_item.specs.declared.op.Op.TheVariants.{SetFlag}
-use Rattle.dc_outside.specs.State.{FilesState, LinkState}
+use Rattle.dc_outside.specs.State.{LinkState}
 use Rattle.dc_outside.specs.declared.link.LinkError.{LinkError}
 use Rattle.dc_outside.specs.declared.link.LinkError.TheVariants.{Failed, OutOfMemory}
 use Rattle.dc_outside.specs.declared.link.Piece.{Piece}
@@ -48,7 +49,7 @@ use Rattle.dc_run.specs.OneRound.{HasUsed}
 use Rattle.dc_run.specs.Running.{Awaits}
 use Rattle.dc_run.specs.SavingSession.{BreaksSaving, TakesSaving}
 use Rattle.dc_run.specs.Starting.{begun}
-use Rattle.dc_run.specs.World.{World, before_rounds}
+use Rattle.dc_run.specs.World.{World, before_rounds, Ground, ground_in, ground_of, on_ground}
 use Rattle.dc_run.specs.declared.outcome.End.{End}
 use Rattle.dc_run.specs.declared.outcome.End.TheVariants as end
 use Rattle.dc_run.specs.declared.outcome.Outcome.{Outcome}
@@ -321,25 +322,28 @@ none_up start old new talk input = record {
 -- ---- the run
 
 -- without a save what the tool left is what is used
-module _ (layers used : List LayerState) (files new : FilesState) (how : End) (unsaved : EndsEarly how) where
+module _ (left new : Ground) (how : End) (unsaved : EndsEarly how) where
   saved_not : (ended : ToolEnd) → how ≡ end_of ended → (EndsEarly (end_of ended) → ⊥) → ⊥
   saved_not ended is never = never (subst EndsEarly is unsaved)
 
-  used_stays : (ended : ToolEnd) → Finishes layers used ended files new how → used ≡ layers
+  used_stays : (ended : ToolEnd) → Finishes left new ended how → new.used ≡ left.used
   used_stays tool.Done (inl saved) = absurd (saved_not tool.Done saved.end_is (λ never. never))
   used_stays tool.Done (inr (inl failed)) = failed.used_are
-  used_stays tool.Done (inr (inr none)) = none.used_are
+  used_stays tool.Done (inr (inr (inl none))) = none.used_are
+  used_stays tool.Done (inr (inr (inr unsent))) = unsent.used_are
   used_stays tool.LinkFault (inl saved) = absurd (saved_not tool.LinkFault saved.end_is (λ never. never))
   used_stays tool.LinkFault (inr (inl failed)) = failed.used_are
-  used_stays tool.LinkFault (inr (inr none)) = none.used_are
+  used_stays tool.LinkFault (inr (inr (inl none))) = none.used_are
+  used_stays tool.LinkFault (inr (inr (inr unsent))) = unsent.used_are
   used_stays tool.TooLong (inl saved) = absurd (saved_not tool.TooLong saved.end_is (λ never. never))
   used_stays tool.TooLong (inr (inl failed)) = failed.used_are
-  used_stays tool.TooLong (inr (inr none)) = none.used_are
-  used_stays tool.PrintFault broken = broken.used_are
-  used_stays tool.TermFault broken = broken.used_are
-  used_stays tool.ChildFault broken = broken.used_are
-  used_stays tool.OutOfMemory broken = broken.used_are
-  used_stays (tool.FilesFault path) broken = broken.used_are
+  used_stays tool.TooLong (inr (inr (inl none))) = none.used_are
+  used_stays tool.TooLong (inr (inr (inr unsent))) = unsent.used_are
+  used_stays tool.PrintFault broken = ap (λ (g : Ground). g.used) broken.stays
+  used_stays tool.TermFault broken = ap (λ (g : Ground). g.used) broken.stays
+  used_stays tool.ChildFault broken = ap (λ (g : Ground). g.used) broken.stays
+  used_stays tool.OutOfMemory broken = ap (λ (g : Ground). g.used) broken.stays
+  used_stays (tool.FilesFault path) broken = ap (λ (g : Ground). g.used) broken.stays
 
 unwaited_unsaved : (how : End) → EndsEarly (end_unwaited how) → EndsEarly how
 unwaited_unsaved end.Done is = is
@@ -376,17 +380,20 @@ with_program start old mid new layers same up =
     record { pieces = here.pieces; told_is = here.told_is; took = here.took; stand = here.stand }
 
 pub communicate_up : (owner : List ℕ) (settings : Settings) (old new : World) (outcome : Outcome) (run : HasUsed (Communicate owner) settings old new outcome) → EndsEarly outcome.end
-    → KeepUp (begun (Communicate owner) (before_rounds (record old { stock = run.mid })) run.roots settings) old.links.io new.links.io new.stock.used
+    → KeepUp (begun (Communicate owner) (before_rounds (on_ground old run.mid)) run.roots settings) old.links.io new.links.io new.stock.used
 communicate_up owner settings old new outcome run unsaved =
-    let start = begun (Communicate owner) (before_rounds (record old { stock = run.mid })) run.roots settings in
+    let start = begun (Communicate owner) (before_rounds (on_ground old run.mid)) run.roots settings in
     let finish = awaited_unsaved run.answer.is_started run.links.child new.links.child run.how outcome.end run.answer.status run.status run.awaits unsaved in
-    let used = used_stays run.left.layers new.stock.used run.left.files new.stock.files run.how finish run.answer.ended run.finishes in
-    with_link start old.links.io run.links.io new.links.io new.stock.used (ap (λ (l : LinkState). l.talk) run.io_is) (ap (λ (l : LinkState). l.input) run.io_is)
-    (subst (λ (l : List LayerState). KeepUp start old.links.io run.links.io l) (sym used) (served_up start run.left old.links.io run.links.io run.uses.0.ended 0 run.answer.last_code run.uses.0.served.by))
+    let used = used_stays (ground_of run.left.files run.links.io run.left.layers) (ground_in new) run.how finish run.answer.ended run.finishes in
+    let found = io_unused (Communicate owner) tt settings old new outcome run in
+    let stays = io_stays (Communicate owner) tt settings old new outcome run in
+    with_link start old.links.io run.links.io new.links.io new.stock.used (ap (λ (l : LinkState). l.talk) stays) (ap (λ (l : LinkState). l.input) stays)
+    (subst (λ (l : LinkState). KeepUp start l run.links.io new.stock.used) found
+    (subst (λ (l : List LayerState). KeepUp start run.mid.sources.link run.links.io l) (sym used) (served_up start run.left run.mid.sources.link run.links.io run.uses.0.ended 0 run.answer.last_code run.uses.0.served.by)))
 
 module _ (owner : List ℕ) (frontend : Option Frontend) (priority : Option Priority) (command : List (List ℕ)) (settings : Settings) (old new : World) (outcome : Outcome) (run : HasUsed (Run owner frontend priority command) settings old new outcome) where
   abbrev start : SessionState
-  start = begun (Run owner frontend priority command) (before_rounds (record old { stock = run.mid })) run.roots settings
+  start = begun (Run owner frontend priority command) (before_rounds (on_ground old run.mid)) run.roots settings
 
   -- the start isn't done
   unstarted_up : (error : LinkError) → Starts {T = Unit {0}} command old.links.child run.links.child (Err error) → KeepUp start old.links.child run.links.child start.store.layers
@@ -402,6 +409,6 @@ module _ (owner : List ℕ) (frontend : Option Frontend) (priority : Option Prio
   pub run_up : EndsEarly outcome.end → KeepUp start old.links.child new.links.child new.stock.used
   run_up unsaved =
       let finish = awaited_unsaved run.answer.is_started run.links.child new.links.child run.how outcome.end run.answer.status run.status run.awaits unsaved in
-      let used = used_stays run.left.layers new.stock.used run.left.files new.stock.files run.how finish run.answer.ended run.finishes in
+      let used = used_stays (ground_of run.left.files run.links.io run.left.layers) (ground_in new) run.how finish run.answer.ended run.finishes in
       let same = waited_link run.answer.is_started run.links.child new.links.child run.how outcome.end run.answer.status run.status run.awaits in
       with_link start old.links.child run.links.child new.links.child new.stock.used same.0 same.1 (subst (λ (l : List LayerState). KeepUp start old.links.child run.links.child l) (sym used) program_up)

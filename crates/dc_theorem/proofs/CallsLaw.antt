@@ -4,7 +4,6 @@ use Rattle.std.specs.Prelude.{◌≢◌, Option, Some, None, unwrap_or, Result, 
 use Rattle.std.specs.List.{AllByRecursion}
 use Rattle.dc_words.specs.declared.stream.Line.{Line}
 use Rattle.dc_words.specs.declared.stream.Line.TheVariants.{Whole, TooLong}
-use Rattle.dc_outside.specs.Counts.{Counts}
 use Rattle.dc_outside.specs.Disk.{Disk}
 use Rattle.dc_outside.specs.State.{FilesState, FilesView, LinkState}
 use Rattle.dc_outside.specs.Steps.{Step, Writing, Syncing, Renaming, SyncingNames, Removing, after_look, after_step, call_of, then_calls}
@@ -19,7 +18,7 @@ use Rattle.dc_proto.specs.declared.command.Command.TheVariants.{Version, Capb, S
 use Rattle.dc_proto.specs.declared.command.Heard.{Heard}
 use Rattle.dc_proto.specs.declared.command.Heard.TheVariants.{Nothing, Known, Refused}
 use Rattle.dc_conf.specs.declared.spec.LayerSort.{LayerSort}
-use Rattle.dc_conf.specs.declared.spec.LayerSort.TheVariants.{File, Tree, Pack}
+use Rattle.dc_conf.specs.declared.spec.LayerSort.TheVariants.{File, Tree, Pack, Pipe}
 use Rattle.dc_conf.specs.declared.spec.LayerSpec.{LayerSpec}
 use Rattle.dc_layer.specs.State.{LayerState}
 use Rattle.dc_layer.specs.declared.image.Image.{Image}
@@ -29,8 +28,9 @@ use Rattle.dc_save.specs.Saving.{after_images, image_steps}
 use Rattle.dc_save.specs.Steps.{after_steps}
 use Rattle.dc_save.specs.declared.loading.Loaded.{Loaded}
 use Rattle.dc_save.specs.declared.loading.Loaded.TheVariants.{Here, LeftOut}
-use Rattle.dc_save.specs.declared.loading.LoadError.{LoadError}
-use Rattle.dc_shelf.specs.Shelves.{GoesOn, LoadsAll}
+use Rattle.dc_shelf.specs.Shelves.{GoesOn, LoadAnswer, LoadsAll, LoadsOne, Sources}
+use Rattle.dc_shelf.specs.declared.loading.SourceError.{SourceError}
+use Rattle.dc_shelf.specs.declared.loading.SourceError.TheVariants as source
 use Rattle.dc_serve.specs.Execution.{Transition, IsExecution, state_after}
 use Rattle.dc_serve.specs.declared.machine.Response.{Response}
 use Rattle.dc_session.specs.Answers.{CommandInputs, answer, loading}
@@ -47,14 +47,18 @@ use Rattle.dc_cli.specs.declared.tool.Tool.TheVariants.{Communicate, LoadTemplat
 use Rattle.dc_run.specs.Finishing.{images_of}
 use Rattle.dc_run.specs.OneRound.{HasUsed}
 use Rattle.dc_run.specs.SavingSession.{TakesSaving}
-use Rattle.dc_run.specs.Starting.{begun, conf_read, has_files, keeps_changes, loaded_of}
+use Rattle.dc_run.specs.Starting.{begun, conf_read, conf_read_in, has_files, keeps_changes, loaded_of}
 use Rattle.dc_run.specs.TemplateLoading.{FileTurn, IsFileCourse, EndsAt, state_after as file_state}
-use Rattle.dc_run.specs.World.{World, before_rounds}
+use Rattle.dc_run.specs.World.{World, before_rounds, ground_in, ground_of, on_ground}
+use Rattle.dc_run.specs.declared.outcome.End.{End}
 use Rattle.dc_run.specs.declared.outcome.End.TheVariants as end
 use Rattle.dc_run.specs.declared.outcome.Outcome.{Outcome}
 use Rattle.dc_run.specs.declared.outcome.ToolEnd.{ToolEnd}
 use Rattle.dc_run.specs.declared.outcome.ToolEnd.TheVariants as tool
 use Rattle.dc_run.specs.declared.settings.Settings.{Settings}
+use Rattle.dc_run.proofs.CountLemmas.{used_links}
+use Rattle.dc_run.proofs.PipeLemmas.{io_stays, io_unused}
+use Rattle.dc_run.specs.Ends.{LinksCount}
 use Rattle.dc_theorem.specs.Completeness.{AddCalls, AreItsTurns, FailsAtMost, IsOfAny, IsOfOptional, IsReadBy, IsReadIn}
 use Rattle.dc_theorem.proofs.CountsLater.{copied_files}
 use Rattle.dc_theorem.proofs.SavingLines.{TakesSave, save_files, line_or_save}
@@ -164,37 +168,49 @@ module _ (spec : LayerSpec) (optional : spec.required ≡ false) where
   out_adds File old new is = adds_fault (IsOfOptional spec) old new Read spec.place (of_place Read) is
   out_adds Tree old new is = fails_on is.0 old new is.1
   out_adds Pack old new is = fails_on is.0 old new is.1
+  out_adds Pipe old new is = absurd is
 
 here_adds : (So : FilesCall → Type 0) (spec : LayerSpec) (sort : LayerSort) (old new : FilesView) → LoadsFilesBy sort old new spec (Ok Here) → AddCalls So old new
 here_adds So spec File old new is = adds_look So old new Read spec.place is
 here_adds So spec Tree old new is = subst (AddCalls So old) (sym is.2) (adds_folder So old spec (its_files spec is.0))
 here_adds So spec Pack old new is = subst (AddCalls So old) (sym is.2) (adds_folder So old spec (its_files spec is.0))
+here_adds So spec Pipe old new is = absurd is
 
 out_optional : (sort : LayerSort) (disk : Option Disk) (spec : LayerSpec) (layer made : LayerState) → LoadsBy sort disk spec layer made (Ok LeftOut) → spec.required ≡ false
 out_optional File disk spec layer made is = is.0
 out_optional Tree disk spec layer made is = is.0
 out_optional Pack disk spec layer made is = is.0
+out_optional Pipe disk spec layer made is = absurd is
 
 load_adds : (spec : LayerSpec) (layer made : LayerState) (files mid : FilesView) (loaded : Loaded) → LoadsLayer files.disk spec layer made (Ok loaded) → LoadsFiles files mid spec (Ok loaded) → AddCalls (IsOfOptional spec) files mid
 load_adds spec layer made files mid Here loads looks = here_adds (IsOfOptional spec) spec spec.sort files mid looks
 load_adds spec layer made files mid LeftOut loads looks = out_adds spec (out_optional spec.sort files.disk spec layer made loads) spec.sort files mid looks
 
-no_error : (error : LoadError) → ◌≡◌ {A = Result (Unit {0}) LoadError} (Ok tt) (Err error) → ⊥
+no_error : (error : SourceError) → ◌≡◌ {A = Result (Unit {0}) SourceError} (Ok tt) (Err error) → ⊥
 no_error error is = cc
 
-module _ (spec : LayerSpec) (specs : List LayerSpec) (layer made : LayerState) (files mid new : FilesView) (more last : Type 0) (rest : more → AddCalls (IsOfAny specs) mid new) where
-  goes_add : (first : Result Loaded LoadError) → LoadsLayer files.disk spec layer made first → LoadsFiles files mid spec first → GoesOn first (Ok tt) more last → AddCalls (IsOfAny (spec ∷ specs)) files new
-  goes_add (Ok loaded) loads looks goes =
-      adds_then (IsOfAny (spec ∷ specs)) files mid new (so_weaker (IsOfOptional spec) (IsOfAny (spec ∷ specs)) files mid (λ call so. inl so) (load_adds spec layer made files mid loaded loads looks))
-      (so_weaker (IsOfAny specs) (IsOfAny (spec ∷ specs)) mid new (λ call so. inr so) (rest goes))
-  goes_add (Err error) loads looks goes = absurd (no_error error goes.0)
+module _ (spec : LayerSpec) (specs : List LayerSpec) (layer made : LayerState) (from mid left : Sources) (more last : Type 0) (rest : more → AddCalls (IsOfAny specs) mid.files.view left.files.view) where
+  abbrev Among : FilesCall → Type 0
+  Among = IsOfAny (spec ∷ specs)
 
-pub loads_add : (specs : List LayerSpec) (old new : List LayerState) (files files_new : FilesView) (before now : Counts) → LoadsAll specs old new files files_new before now (Ok tt) → AddCalls (IsOfAny specs) files files_new
-loads_add [] old new files files_new before now loads = adds_none (IsOfAny []) files files_new loads.2
-loads_add (spec ∷ specs) [] new files files_new before now loads = absurd loads
-loads_add (spec ∷ specs) (layer ∷ old) [] files files_new before now loads = absurd loads
-loads_add (spec ∷ specs) (layer ∷ old) (made ∷ new) files files_new before now loads =
-    goes_add spec specs layer made files loads.1 files_new _ _ (loads_add specs old new loads.1 files_new loads.2 now) loads.0 loads.3 loads.4 loads.6
+  -- those of the other loads behind those of this one
+  adds_here : AddCalls Among from.files.view mid.files.view → more → AddCalls Among from.files.view left.files.view
+  adds_here first goes = adds_then Among from.files.view mid.files.view left.files.view first
+      (so_weaker (IsOfAny specs) Among mid.files.view left.files.view (λ call so. inr so) (rest goes))
+
+  goes_add : (first : LoadAnswer) → LoadsOne spec layer made from mid first → GoesOn first (Ok tt) more last → AddCalls Among from.files.view left.files.view
+  goes_add (LoadAnswer.OfFiles (Ok loaded)) is goes =
+      adds_here (so_weaker (IsOfOptional spec) Among from.files.view mid.files.view (λ call so. inl so) (load_adds spec layer made from.files.view mid.files.view loaded is.0 is.1)) goes
+  goes_add (LoadAnswer.OfPipe (Ok loaded)) is goes = adds_here (adds_none Among from.files.view mid.files.view (ap (λ (f : FilesState). f.view) is.2)) goes
+  goes_add (LoadAnswer.OfFiles (Err error)) is goes = absurd (no_error (source.Files error) goes.0)
+  goes_add (LoadAnswer.OfPipe (Err error)) is goes = absurd (no_error (source.Pipe error) goes.0)
+
+pub loads_add : (specs : List LayerSpec) (old new : List LayerState) (from left : Sources) → LoadsAll specs old new from left (Ok tt) → AddCalls (IsOfAny specs) from.files.view left.files.view
+loads_add [] old new from left loads = adds_none (IsOfAny []) from.files.view left.files.view (ap (λ (s : Sources). s.files.view) loads.2)
+loads_add (spec ∷ specs) [] new from left loads = absurd loads
+loads_add (spec ∷ specs) (layer ∷ old) [] from left loads = absurd loads
+loads_add (spec ∷ specs) (layer ∷ old) (made ∷ new) from left loads =
+    goes_add spec specs layer made from loads.1 left _ _ (loads_add specs old new loads.1 left) loads.0 loads.2 loads.3
 
 -- ---- turns
 
@@ -331,68 +347,74 @@ module _ (used : Tool) (settings : Settings) (old new : World) (outcome : Outcom
   specs = loaded_of used run.roots.conf
 
   abbrev start : SessionState
-  start = begun used (before_rounds (record old { stock = run.mid })) run.roots settings
+  start = begun used (before_rounds (on_ground old run.mid)) run.roots settings
 
   -- how it ended before the wait, and what the wait left of the link
   at_wait : (run.how ≡ end.Done) × (new.links.child.talk ≡ run.links.child.talk)
   at_wait = waited run.answer.is_started run.links.child new.links.child run.how outcome.end run.answer.status run.status done run.awaits
 
   pub at_save : (run.answer.ended ≡ tool.Done) × HasKept (keeps_changes used) run.left.layers new.stock.used run.left.files new.stock.files
-  at_save = kept_so run.left.layers new.stock.used run.left.files new.stock.files run.how at_wait.0 (keeps_changes used) run.answer.ended run.finishes
+  at_save = kept_so (ground_of run.left.files run.links.io run.left.layers) (ground_in new) run.how at_wait.0 (keeps_changes used) run.answer.ended run.finishes
 
-  begins_adding : (So : FilesCall → Type 0) → ((call : FilesCall) → IsOfAny specs call → So call) → AddCalls So old.stock.files.view run.mid.files.view
+  begins_adding : (So : FilesCall → Type 0) → ((call : FilesCall) → IsOfAny specs call → So call) → AddCalls So old.stock.files.view run.mid.sources.files.view
   begins_adding So among =
       let mid : FilesView = conf_read used old.stock.files.view settings.conf_path in
-      adds_then So old.stock.files.view mid run.mid.files.view (adds_conf So (has_files used) old.stock.files.view settings.conf_path)
-      (so_weaker (IsOfAny specs) So mid run.mid.files.view among (loads_add specs _ _ mid run.mid.files.view _ _ run.started.loaded.loads))
+      adds_then So old.stock.files.view mid run.mid.sources.files.view (adds_conf So (has_files used) old.stock.files.view settings.conf_path)
+      (so_weaker (IsOfAny specs) So mid run.mid.sources.files.view among (loads_add specs _ _ (conf_read_in used settings.conf_path (ground_in old).sources) run.mid.sources run.started.loaded.loads))
 
   abbrev SoOf : List (Transition SessionState) → FilesCall → Type 0
   SoOf turns call = IsOfAny specs call ⊎ IsReadIn start turns call
 
   -- the tool added these
-  pub fails_by : (turns : List (Transition SessionState)) → AreItsTurns used start turns old.links new.links → AddCalls (IsReadIn start turns) run.mid.files.view run.left.files.view → FailsAtMost used specs start old new
+  pub fails_by : (turns : List (Transition SessionState)) → AreItsTurns used start turns old.links new.links → AddCalls (IsReadIn start turns) run.mid.sources.files.view run.left.files.view → FailsAtMost used specs start old new
   fails_by turns are adds = record {
     turns = turns;
     are = are;
-    adds = adds_then (SoOf turns) old.stock.files.view run.mid.files.view new.stock.files.view (begins_adding (SoOf turns) (λ call so. inl so))
-        (adds_then (SoOf turns) run.mid.files.view run.left.files.view new.stock.files.view (so_weaker (IsReadIn start turns) (SoOf turns) run.mid.files.view run.left.files.view (λ call so. inr so) adds)
+    adds = adds_then (SoOf turns) old.stock.files.view run.mid.sources.files.view new.stock.files.view (begins_adding (SoOf turns) (λ call so. inl so))
+        (adds_then (SoOf turns) run.mid.sources.files.view run.left.files.view new.stock.files.view (so_weaker (IsReadIn start turns) (SoOf turns) run.mid.sources.files.view run.left.files.view (λ call so. inr so) adds)
         (kept_adds (SoOf turns) (keeps_changes used) run.left.files.view new.stock.files.view (images_of run.left.layers) at_save.1.files_are));
   }
 
   -- the tool used no files
-  fails_without : AreItsTurns used start [] old.links new.links → run.left.files ≡ run.mid.files → FailsAtMost used specs start old new
-  fails_without are same = fails_by [] are (adds_none (IsReadIn start []) run.mid.files.view run.left.files.view (ap (λ (f : FilesState). f.view) same))
+  fails_without : AreItsTurns used start [] old.links new.links → run.left.files ≡ run.mid.sources.files → FailsAtMost used specs start old new
+  fails_without are same = fails_by [] are (adds_none (IsReadIn start []) run.mid.sources.files.view run.left.files.view (ap (λ (f : FilesState). f.view) same))
 
   -- a session was served
-  served_adds : (from to : LinkState) (code : ℕ) → (served : WasServed start run.left from to 0 code) → AddCalls (IsReadIn start served.ran.transitions) run.mid.files.view run.left.files.view
+  served_adds : (from to : LinkState) (code : ℕ) → (served : WasServed start run.left from to 0 code) → AddCalls (IsReadIn start served.ran.transitions) run.mid.sources.files.view run.left.files.view
   served_adds from to code served =
-      subst (λ (f : FilesState). AddCalls (IsReadIn start served.ran.transitions) run.mid.files.view f.view) (sym (served.files_are ∙ ap (λ (s : SessionState). s.files) served.ran.answered.are_said.state_is))
+      subst (λ (f : FilesState). AddCalls (IsReadIn start served.ran.transitions) run.mid.sources.files.view f.view) (sym (served.files_are ∙ ap (λ (s : SessionState). s.files) served.ran.answered.are_said.state_is))
       (turns_add start served.ran.transitions served.ran.course)
 
 pub fails_at_most : (used : Tool) (settings : Settings) (old new : World) (outcome : Outcome) (run : HasUsed used settings old new outcome) → outcome.end ≡ end.Done
-    → FailsAtMost used (loaded_of used run.roots.conf) (begun used (before_rounds (record old { stock = run.mid })) run.roots settings) old new
+    → FailsAtMost used (loaded_of used run.roots.conf) (begun used (before_rounds (on_ground old run.mid)) run.roots settings) old new
 fails_at_most (Communicate owner) settings old new outcome run done =
     let Used : Tool = Communicate owner in
-    let begins = begun Used (before_rounds (record old { stock = run.mid })) run.roots settings in
-    let served = was_served begins run.left old.links.io run.links.io run.uses.0.ended 0 run.answer.last_code (sym run.uses.0.ended_is ∙ (at_save Used settings old new outcome run done).0) run.uses.0.served.by in
+    let begins = begun Used (before_rounds (on_ground old run.mid)) run.roots settings in
+    let served = was_served begins run.left run.mid.sources.link run.links.io run.uses.0.ended 0 run.answer.last_code (sym run.uses.0.ended_is ∙ (at_save Used settings old new outcome run done).0) run.uses.0.served.by in
     let ran = served.ran in
-    fails_by Used settings old new outcome run done ran.transitions
-    (ran.course, record { pieces = ran.pieces; told_is = ap (λ (l : LinkState). l.talk) run.io_is ∙ ran.told_is; replied = ran.answered.are_said.pieces_are })
-    (served_adds Used settings old new outcome run done old.links.io run.links.io run.answer.last_code served)
+    fails_by Used settings old new outcome run done ran.transitions (
+      ran.course,
+      record {
+        pieces = ran.pieces;
+        told_is = ap (λ (l : LinkState). l.talk) (io_stays Used tt settings old new outcome run) ∙ ran.told_is ∙ ap (λ (l : LinkState). then_pieces l.talk ran.pieces) (io_unused Used tt settings old new outcome run);
+        replied = ran.answered.are_said.pieces_are;
+      },
+    )
+    (served_adds Used settings old new outcome run done run.mid.sources.link run.links.io run.answer.last_code served)
 fails_at_most (LoadTemplate owner paths) settings old new outcome run done =
     let Used : Tool = LoadTemplate owner paths in
-    let begins = begun Used (before_rounds (record old { stock = run.mid })) run.roots settings in
+    let begins = begun Used (before_rounds (on_ground old run.mid)) run.roots settings in
     let loads = run.uses.0.loaded in
     let ends : run.uses.0.state ≡ file_state begins loads.turns
     = (subst (λ (e : ToolEnd). EndsAt e (file_state begins loads.turns) loads.rest run.uses.0.state) (at_save Used settings old new outcome run done).0 loads.ends).1 in
     fails_by Used settings old new outcome run done [] refl
-    (subst (λ (f : FilesState). AddCalls (IsReadIn begins []) run.mid.files.view f.view) (sym (ap (λ (l : Resources). l.files) run.uses.0.left_is ∙ ap (λ (s : SessionState). s.files) ends))
+    (subst (λ (f : FilesState). AddCalls (IsReadIn begins []) run.mid.sources.files.view f.view) (sym (ap (λ (l : Resources). l.files) run.uses.0.left_is ∙ ap (λ (s : SessionState). s.files) ends))
     (files_add (IsReadIn begins []) begins loads.turns loads.course))
 fails_at_most (Run owner frontend priority command) settings old new outcome run done = elim run.uses.0 [
   | inl none ↦ absurd (unstarted_other none.error (sym none.ended_is ∙ (at_save (Run owner frontend priority command) settings old new outcome run done).0))
   | inr started ↦
       let Used : Tool = Run owner frontend priority command in
-      let begins = begun Used (before_rounds (record old { stock = run.mid })) run.roots settings in
+      let begins = begun Used (before_rounds (on_ground old run.mid)) run.roots settings in
       let served = was_served begins run.left started.mid run.links.child started.ended 0 run.answer.last_code (sym started.ended_is ∙ (at_save Used settings old new outcome run done).0) started.served.by in
       let ran = served.ran in
       fails_by Used settings old new outcome run done ran.transitions (
@@ -409,8 +431,15 @@ fails_at_most (Show database shown) settings old new outcome run done =
     fails_without (Show database shown) settings old new outcome run done refl (ap (λ (l : Resources). l.files) run.uses.0.left_is)
 fails_at_most (CopyDb copy) settings old new outcome run done =
     fails_without (CopyDb copy) settings old new outcome run done refl
-    (copied_files run.roots.copy (begun (CopyDb copy) (before_rounds (record old { stock = run.mid })) run.roots settings) old.links run.links 0 run.answer run.told run.left run.uses.0)
+    (copied_files run.roots.copy (begun (CopyDb copy) (before_rounds (on_ground old run.mid)) run.roots settings) (on_ground old run.mid).links run.links 0 run.answer run.told run.left run.uses.0)
 fails_at_most (SetSelections verbose check unseen) settings old new outcome run done =
     fails_without (SetSelections verbose check unseen) settings old new outcome run done refl (ap (λ (l : Resources). l.files) run.uses.0.left_is)
 fails_at_most GetSelections settings old new outcome run done = fails_without GetSelections settings old new outcome run done refl (ap (λ (l : Resources). l.files) run.uses.0.left_is)
 fails_at_most (Drill count) settings old new outcome run done = fails_without (Drill count) settings old new outcome run done refl (ap (λ (l : Resources). l.files) run.uses.0.left_is)
+
+-- behind its loads no call on its link failed
+pub behind_stays : (used : Tool) (settings : Settings) (old new : World) (outcome : Outcome) (run : HasUsed used settings old new outcome) → outcome.end ≡ end.Done → new.links.io.counts ≡ run.mid.sources.link.counts
+behind_stays used settings old new outcome run done =
+    let links : LinksCount end.Done (on_ground old run.mid).links new.links
+    = subst (λ (e : End). LinksCount e (on_ground old run.mid).links new.links) done (used_links used settings old new outcome run) in
+    links.on_io

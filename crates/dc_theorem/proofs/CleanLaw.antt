@@ -1,8 +1,10 @@
 -- How a run ends at which nothing outside failed.
-use Rattle.std.proofs.Common.{◌≡◌, ◌⊎◌, ◌||◌, ◌&&◌, if◌then◌else◌, inl, inr, ℕ, Bool, true, false, List, [], ◌∷◌, ◌++◌, length, refl, ap, sym, subst, ◌∙◌, arith, map as each}
+use Rattle.dc_run.proofs.PipeLemmas.{io_stays, io_unused}
+use Rattle.std.proofs.Common.{◌≡◌, ◌⊎◌, ◌+◌, cond, ◌||◌, ◌&&◌, if◌then◌else◌, inl, inr, ℕ, Bool, true, false, List, [], ◌∷◌, ◌++◌, length, refl, ap, sym, subst, ◌∙◌, arith, map as each}
 use Rattle.std.specs.Prelude.{◌≤◌, ◌<◌, ◌^◌, Option, Some, None, Result, Ok, Err}
 use Rattle.std.specs.Io.KnownBytes.{prepend_known}
 use Rattle.std.specs.List.{AllByRecursion, list_all}
+use Rattle.std.proofs.lemmas.List.Sums.{sum_by-cons}
 use Rattle.dc_text.specs.declared.memory.OutOfMemory.{OutOfMemory as NoMemory}
 use Rattle.dc_outside.specs.Counts.{Counts, FaultRose, Rose}
 use Rattle.dc_outside.specs.Disk.{Disk}
@@ -19,7 +21,7 @@ use Rattle.dc_conf.specs.Stanzas.{stanzas, fields_of}
 use Rattle.dc_conf.specs.declared.faults.ConfError.{ConfError}
 use Rattle.dc_conf.specs.declared.faults.ConfError.TheVariants as conf_error
 use Rattle.dc_conf.specs.declared.spec.LayerSort.{LayerSort}
-use Rattle.dc_conf.specs.declared.spec.LayerSort.TheVariants.{File, Tree, Pack}
+use Rattle.dc_conf.specs.declared.spec.LayerSort.TheVariants.{File, Tree, Pack, Pipe}
 use Rattle.dc_conf.specs.declared.spec.LayerSpec.{LayerSpec}
 use Rattle.dc_conf.proofs.LeastLemmas.{not_both}
 use Rattle.dc_layer.specs.Patterns.{is_pattern, is_plain}
@@ -27,12 +29,16 @@ use Rattle.dc_layer.specs.Rules.{rules_of, are_patterns, are_plain, is_absent_or
 use Rattle.dc_layer.specs.State.{LayerState}
 use Rattle.dc_layer.specs.declared.pattern.PatternError.{PatternError}
 use Rattle.dc_layer.specs.declared.pattern.PatternError.TheVariants as pattern
-use Rattle.dc_save.specs.Loading.{IsTextAt, LoadCountsBy, LoadsLayer, LoadCounts}
-use Rattle.dc_save.specs.declared.loading.Loaded.{Loaded}
+use Rattle.dc_save.specs.Loading.{IsTextAt, LoadCountsBy, LoadsLayer}
 use Rattle.dc_save.specs.declared.loading.LoadError.{LoadError}
 use Rattle.dc_save.specs.declared.loading.LoadError.TheVariants as load
 use Rattle.dc_save.specs.declared.saving.SaveError.TheVariants as save
-use Rattle.dc_shelf.specs.Shelves.{AreRefusedFor, GoesOn, LoadsAll, all_set_up}
+use Rattle.dc_save.specs.PipeLoading.{LoadsPipe}
+use Rattle.dc_save.specs.declared.pipe_loading.PipeError.{PipeError}
+use Rattle.dc_save.specs.declared.pipe_loading.PipeError.TheVariants as pipe
+use Rattle.dc_shelf.specs.Shelves.{AreRefusedFor, GoesOn, LoadAnswer, LoadsAll, LoadsOne, Sources, all_set_up, count_of, is_sort}
+use Rattle.dc_shelf.specs.declared.loading.SourceError.{SourceError}
+use Rattle.dc_shelf.specs.declared.loading.SourceError.TheVariants as source
 use Rattle.dc_serve.specs.Execution.{state_after}
 use Rattle.dc_serve.specs.LinkRun.{Answered}
 use Rattle.dc_serve.specs.declared.outcome.LinkEnd.{LinkEnd}
@@ -47,7 +53,7 @@ use Rattle.dc_cli.specs.declared.tool.PlacedWord.{PlacedWord}
 use Rattle.dc_cli.specs.declared.tool.Tool.{Tool}
 use Rattle.dc_cli.specs.declared.tool.Tool.TheVariants.{Communicate, LoadTemplate, Run, Show, CopyDb, SetSelections, GetSelections, Drill}
 use Rattle.dc_cli.proofs.AnswerLemmas.{one_tool}
-use Rattle.dc_run.specs.Ends.{LinksCount, ProgramCounts, end_of, end_of_conf, end_of_load, end_of_pattern, end_unwaited, tool_end_of}
+use Rattle.dc_run.specs.Ends.{CountsLoads, LinksCount, ProgramCounts, end_of, end_of_conf, end_of_load, end_of_pattern, end_unsent, end_unwaited, tool_end_of}
 use Rattle.dc_run.specs.Finishing.{Finishes, FinishesWhere}
 use Rattle.dc_run.specs.Headline.{HasRunTool, HasRunWords}
 use Rattle.dc_run.specs.Jobs.{Copies, CopiesBy, HasTaken, Prints, PrintsMade, Uses, copying, selections_end}
@@ -57,9 +63,9 @@ use Rattle.dc_run.specs.Saves.{Save}
 use Rattle.dc_run.specs.SavingSession.{BreaksSaving, FailsToSave, TakesSaving}
 use Rattle.dc_run.specs.declared.saving_session.SavingBreak.{SavingBreak}
 use Rattle.dc_run.specs.declared.saving_session.SavingBreak.TheVariants as saving
-use Rattle.dc_run.specs.Starting.{EndsBefore, HasLoaded, IsConfiguration, IsRefusedFor, IsWrongWord, begun, conf_read, conf_text, databases_of, has_files, keeps_changes, loaded_of, pattern_words}
+use Rattle.dc_run.specs.Starting.{EndsBefore, EndsUnloaded, HasLoaded, IsConfiguration, IsOther, IsRefusedFor, IsWrongWord, begun, conf_read_in, conf_text, databases_of, has_files, keeps_changes, loaded_of, misused_pipe, pattern_words, roots}
 use Rattle.dc_run.specs.TemplateLoading.{EndsAt, state_after as file_state}
-use Rattle.dc_run.specs.World.{Links, World, before_rounds}
+use Rattle.dc_run.specs.World.{Links, World, before_rounds, ground_in, ground_of, on_ground, Ground}
 use Rattle.dc_run.specs.declared.outcome.End.{End}
 use Rattle.dc_run.specs.declared.outcome.End.TheVariants as end
 use Rattle.dc_run.specs.declared.outcome.Outcome.{Outcome}
@@ -70,12 +76,16 @@ use Rattle.dc_run.specs.declared.outcome.ToolEnd.TheVariants as tool
 use Rattle.dc_run.specs.declared.settings.Settings.{Settings}
 use Rattle.dc_run.specs.Roots.{CopyRoots, Roots}
 use Rattle.dc_run.proofs.CountLemmas.{links_counted, program_counted}
+use Rattle.dc_run.proofs.LoadCounts.{pipe_counts}
 use Rattle.dc_run.proofs.CrashLemmas.{load_reads}
 use Rattle.dc_run.proofs.DatabaseLemmas.{right_not_wrong}
+use Rattle.dc_run.proofs.FewLemmas.{few_reached}
 use Rattle.dc_run.proofs.RunLemmas.{ends_so}
 use Rattle.dc_run.proofs.UsedLemmas.{as_used}
-use Rattle.dc_theorem.specs.Completeness.{IsUndisturbed, IsReadable, EndsWell, FewCame, FewServed}
-use Rattle.dc_theorem.proofs.CountsLater.{Later, course_kept, rose_behind, rose_between, later_so, later_then, load_kept, turns_kept, tool_later, start_later, end_of_later}
+use Rattle.dc_theorem.specs.Completeness.{IsUndisturbed, IsPipeReadable, IsReadable, EndsWell, FewCame, FewServed}
+use Rattle.dc_theorem.proofs.CountsLater.{Later, course_kept, rose_behind, rose_between, later_so, later_then, load_kept, turns_kept, tool_later, start_later, end_of_later, unmoved}
+use Rattle.dc_theorem.proofs.CountLemmas.{still}
+use Rattle.dc_theorem.proofs.StartLaws.{piped_later}
 
 -- ---- patterns
 
@@ -139,37 +149,101 @@ failed_load : (sort : LayerSort) (files mid : FilesView) (before now : Counts) (
 failed_load File files mid before now path counted = counted.faults
 failed_load Tree files mid before now path counted = counted.faults
 failed_load Pack files mid before now path counted = counted.faults
+failed_load Pipe files mid before now path counted = absurd counted
 
-other_result : (error : LoadError) → ◌≡◌ {A = Result (Unit {0}) LoadError} (Err error) (Ok tt) → ⊥
+-- the same of the files or of the link
+abbrev SourceTells : SourceError → Sources → Sources → Type 0
+SourceTells (source.Files error) from left = LoadTells error from.files.counts left.files.counts
+SourceTells (source.Pipe pipe.Failed) from left = Rose from.link.counts.faults left.link.counts.faults
+SourceTells (source.Pipe (pipe.Damaged line)) from left = ⊥
+SourceTells (source.Pipe pipe.TooLong) from left = ⊥
+SourceTells (source.Pipe pipe.OutOfMemory) from left = Unit {0}
+
+source_later : (error : SourceError) (from mid left : Sources) → Later from.files.counts mid.files.counts → from.link.counts.faults ≤ mid.link.counts.faults → SourceTells error mid left → SourceTells error from left
+source_later (source.Files error) from mid left later link tells = later_tells error from.files.counts mid.files.counts left.files.counts later tells
+source_later (source.Pipe pipe.Failed) from mid left later link rose = rose_behind from.link.counts.faults mid.link.counts.faults left.link.counts.faults link rose
+source_later (source.Pipe (pipe.Damaged line)) from mid left later link none = none
+source_later (source.Pipe pipe.TooLong) from mid left later link none = none
+source_later (source.Pipe pipe.OutOfMemory) from mid left later link tells = tells
+
+other_result : (error : SourceError) → ◌≡◌ {A = Result (Unit {0}) SourceError} (Err error) (Ok tt) → ⊥
 other_result error is = cc
 
-module _ (disk : Disk) where
-  fault_tells : (spec : LayerSpec) (layer made : LayerState) (files mid : FilesView) (before counts : Counts) → files.disk ≡ Some disk → IsReadable disk spec
-      → (fault : LoadError) → LoadsLayer files.disk spec layer made (Err fault) → LoadCounts spec files mid (Err fault) before counts → LoadTells fault before counts
-  fault_tells spec layer made files mid before counts told readable (load.Failed path) loads counted = failed_load spec.sort files mid before counts path counted
-  fault_tells spec layer made files mid before counts told readable (load.Damaged path line) loads counted =
-      readable layer made path line (subst (λ (d : Option Disk). LoadsLayer d spec layer made (Err (load.Damaged path line))) told loads)
-  fault_tells spec layer made files mid before counts told readable load.OutOfMemory loads counted = tt
+-- how many databases are pipes: the first, and the others
+piped_here : (spec : LayerSpec) (specs : List LayerSpec) → spec.sort ≡ Pipe → 1 + count_of Pipe specs ≡ count_of Pipe (spec ∷ specs)
+piped_here spec specs is = ap (λ (s : LayerSort). cond (is_sort Pipe s) 1 0 + count_of Pipe specs) (sym is) ∙ sym (sum_by-cons (λ (x : LayerSpec). cond (is_sort Pipe x.sort) 1 0) spec specs)
 
-  load_tells : (spec : LayerSpec) (layer made : LayerState) (files mid : FilesView) (before counts now : Counts) (error : LoadError) (more last : Type 0) → files.disk ≡ Some disk → IsReadable disk spec
-      → (more → LoadTells error counts now) → (last → now ≡ counts)
-      → (first : Result Loaded LoadError) → LoadsLayer files.disk spec layer made first → LoadCounts spec files mid first before counts → GoesOn first (Err error) more last → LoadTells error before now
-  load_tells spec layer made files mid before counts now error more last told readable rest stays (Ok loaded) loads counted goes =
-      later_tells error before counts now (later_so before counts (load_kept spec.sort files mid before counts loaded counted)) (rest goes)
-  load_tells spec layer made files mid before counts now error more last told readable rest stays (Err fault) loads counted goes =
-      let same : error ≡ fault = cc in
-      subst (λ (e : LoadError). LoadTells e before now) (sym same)
-      (subst (λ (c : Counts). LoadTells fault before c) (sym (stays goes.1)) (fault_tells spec layer made files mid before counts told readable fault loads counted))
+piped_rest : (spec : LayerSpec) (specs : List LayerSpec) → count_of Pipe specs ≤ count_of Pipe (spec ∷ specs)
+piped_rest spec specs =
+    let all : count_of Pipe (spec ∷ specs) ≡ cond (is_sort Pipe spec.sort) 1 0 + count_of Pipe specs = sum_by-cons (λ (x : LayerSpec). cond (is_sort Pipe x.sort) 1 0) spec specs in
+    omega arith
 
-  loads_tell : (specs : List LayerSpec) (old new : List LayerState) (files files_new : FilesView) (before now : Counts) (error : LoadError) → files.disk ≡ Some disk → AllByRecursion (IsReadable disk) specs
-      → LoadsAll specs old new files files_new before now (Err error) → LoadTells error before now
-  loads_tell [] old new files files_new before now error told readable loads = absurd (other_result error loads.0)
-  loads_tell (spec ∷ specs) [] new files files_new before now error told readable loads = absurd loads
-  loads_tell (spec ∷ specs) (layer ∷ old) [] files files_new before now error told readable loads = absurd loads
-  loads_tell (spec ∷ specs) (layer ∷ old) (made ∷ new) files files_new before now error told readable loads =
-      load_tells spec layer made files loads.1 before loads.2 now error (LoadsAll specs old new loads.1 files_new loads.2 now (Err error)) ((new ≡ old) × (files_new ≡ loads.1) × (now ≡ loads.2)) told readable.0
-      (loads_tell specs old new loads.1 files_new loads.2 now error (load_reads files loads.1 spec loads.0 loads.4 ∙ told) readable.1) (λ last. last.2)
-      loads.0 loads.3 loads.5 loads.6
+-- the link is this one until the one pipe is loaded
+abbrev IsFound : LinkState → List LayerSpec → LinkState → Type 0
+IsFound link specs now = ((now ≡ link) × (count_of Pipe specs ≤ 1)) ⊎ (count_of Pipe specs ≤ 0)
+
+module _ (link : LinkState) (spec : LayerSpec) (specs : List LayerSpec) (from mid : LinkState) where
+  found_on : mid ≡ from → IsFound link (spec ∷ specs) from → IsFound link specs mid
+  found_on same (inl found) = let few = found.1 in let rest = piped_rest spec specs in inl (same ∙ found.0, omega (arith, few, rest))
+  found_on same (inr none) = let rest = piped_rest spec specs in inr (omega (arith, none, rest))
+
+  found_then : spec.sort ≡ Pipe → IsFound link (spec ∷ specs) from → IsFound link specs mid
+  found_then is (inl found) = let few = found.1 in let all = piped_here spec specs is in inr (omega (arith, few, all))
+  found_then is (inr none) = let all = piped_here spec specs is in inr (omega (arith, none, all))
+
+  found_here : spec.sort ≡ Pipe → IsFound link (spec ∷ specs) from → from ≡ link
+  found_here is (inl found) = found.0
+  found_here is (inr none) = let all = piped_here spec specs is in absurd (none_here (count_of Pipe specs) (count_of Pipe (spec ∷ specs)) all none) where
+    none_here : (rest all : ℕ) → 1 + rest ≡ all → all ≤ 0 → ⊥
+    none_here rest all is none = omega (arith, is, none)
+
+module _ (disk : Disk) (link : LinkState) where
+  fault_tells : (spec : LayerSpec) (layer made : LayerState) (from mid : Sources) → from.files.view.disk ≡ Some disk → IsReadable disk spec
+      → (fault : LoadError) → LoadsOne spec layer made from mid (LoadAnswer.OfFiles (Err fault)) → LoadTells fault from.files.counts mid.files.counts
+  fault_tells spec layer made from mid told readable (load.Failed path) is = failed_load spec.sort from.files.view mid.files.view from.files.counts mid.files.counts path is.2
+  fault_tells spec layer made from mid told readable (load.Damaged path line) is =
+      readable layer made path line (subst (λ (d : Option Disk). LoadsLayer d spec layer made (Err (load.Damaged path line))) told is.0)
+  fault_tells spec layer made from mid told readable load.OutOfMemory is = tt
+
+  piped_tells : (spec : LayerSpec) (layer made : LayerState) (from mid : Sources) → from.link ≡ link → IsPipeReadable link spec
+      → (fault : PipeError) → LoadsPipe spec layer made from.link mid.link (Err fault) → SourceTells (source.Pipe fault) from mid
+  piped_tells spec layer made from mid same readable pipe.Failed is = (pipe_counts spec.infd spec layer made from.link mid.link (Err pipe.Failed) is).faults
+  piped_tells spec layer made from mid same readable (pipe.Damaged line) is =
+      readable.reads layer made mid.link line (subst (λ (l : LinkState). LoadsPipe spec layer made l mid.link (Err (pipe.Damaged line))) same is)
+  piped_tells spec layer made from mid same readable pipe.TooLong is =
+      readable.fits layer made mid.link (subst (λ (l : LinkState). LoadsPipe spec layer made l mid.link (Err pipe.TooLong)) same is)
+  piped_tells spec layer made from mid same readable pipe.OutOfMemory is = tt
+
+  module _ (spec : LayerSpec) (specs : List LayerSpec) (layer made : LayerState) (from mid left : Sources) (error : SourceError) (more last : Type 0) (told : from.files.view.disk ≡ Some disk)
+      (found : IsFound link (spec ∷ specs) from.link) (readable : IsReadable disk spec) (piped : IsPipeReadable link spec)
+      (rest : mid.files.view.disk ≡ Some disk → IsFound link specs mid.link → more → SourceTells error mid left) (stays : last → left ≡ mid) where
+    fault_here : (fault : SourceError) → error ≡ fault → last → SourceTells fault from mid → SourceTells error from left
+    fault_here fault same at tells =
+        subst (λ (e : SourceError). SourceTells e from left) (sym same) (subst (λ (s : Sources). SourceTells fault from s) (sym (stays at)) tells)
+
+    load_tells : (first : LoadAnswer) → LoadsOne spec layer made from mid first → GoesOn first (Err error) more last → SourceTells error from left
+    load_tells (LoadAnswer.OfFiles (Ok loaded)) is goes =
+        source_later error from mid left (later_so from.files.counts mid.files.counts (load_kept spec.sort from.files.view mid.files.view from.files.counts mid.files.counts loaded is.2))
+        (still from.link.counts mid.link.counts (ap (λ (l : LinkState). l.counts) is.3))
+        (rest (load_reads from.files.view mid.files.view spec (Ok loaded) is.1 ∙ told) (found_on link spec specs from.link mid.link is.3 found) goes)
+    load_tells (LoadAnswer.OfPipe (Ok loaded)) is goes =
+        source_later error from mid left (later_so from.files.counts mid.files.counts (unmoved from.files.counts mid.files.counts (ap (λ (f : FilesState). f.counts) is.2)))
+        (piped_later loaded from.link.counts mid.link.counts (pipe_counts spec.infd spec layer made from.link mid.link (Ok loaded) is.1))
+        (rest (ap (λ (f : FilesState). f.view.disk) is.2 ∙ told) (found_then link spec specs from.link mid.link is.0 found) goes)
+    load_tells (LoadAnswer.OfFiles (Err fault)) is goes = let same : error ≡ source.Files fault = cc in fault_here (source.Files fault) same goes.1 (fault_tells spec layer made from mid told readable fault is)
+    load_tells (LoadAnswer.OfPipe (Err fault)) is goes =
+        let same : error ≡ source.Pipe fault = cc in
+        fault_here (source.Pipe fault) same goes.1 (piped_tells spec layer made from mid (found_here link spec specs from.link mid.link is.0 found) piped fault is.1)
+
+  loads_tell : (specs : List LayerSpec) (old new : List LayerState) (from left : Sources) (error : SourceError) → from.files.view.disk ≡ Some disk → IsFound link specs from.link → AllByRecursion (IsReadable disk) specs
+      → AllByRecursion (IsPipeReadable link) specs → LoadsAll specs old new from left (Err error) → SourceTells error from left
+  loads_tell [] old new from left error told found readable piped loads = absurd (other_result error loads.0)
+  loads_tell (spec ∷ specs) [] new from left error told found readable piped loads = absurd loads
+  loads_tell (spec ∷ specs) (layer ∷ old) [] from left error told found readable piped loads = absurd loads
+  loads_tell (spec ∷ specs) (layer ∷ old) (made ∷ new) from left error told found readable piped loads =
+      load_tells spec specs layer made from loads.1 left error (LoadsAll specs old new loads.1 left (Err error)) ((new ≡ old) × (left ≡ loads.1)) told found readable.0 piped.0
+      (λ told_then found_then more. loads_tell specs old new loads.1 left error told_then found_then readable.1 piped.1 more) (λ last. last.1)
+      loads.0 loads.2 loads.3
 
 -- ---- tools
 
@@ -330,24 +404,37 @@ ComesOf end.TooLong ended before now = ended ≡ tool.TooLong
 ComesOf (end.FilesFault path) ended before now = (ended ≡ tool.FilesFault path) ⊎ Rose before.faults now.faults
 ComesOf how ended before now = ⊥
 
-module _ (layers used : List LayerState) (files new : FilesState) (how : End) where
-  saved_comes : (ended : ToolEnd) → Finishes layers used ended files new how → ComesOf how ended files.counts new.counts
+unsent_comes : (error : LinkError) (ended : ToolEnd) (before now : Counts) → ComesOf (end_unsent error) ended before now
+unsent_comes Failed ended before now = tt
+unsent_comes OutOfMemory ended before now = tt
+
+module _ (left new : Ground) (how : End) where
+  abbrev found : Counts
+  found = left.sources.files.counts
+
+  abbrev now : Counts
+  now = new.sources.files.counts
+
+  saved_comes : (ended : ToolEnd) → Finishes left new ended how → ComesOf how ended found now
   saved_comes tool.Done (inl saved) = rw saved.end_is tt
   saved_comes tool.Done (inr (inl unsaved)) = rw unsaved.end_is (inr unsaved.counts.faults)
-  saved_comes tool.Done (inr (inr none)) = rw none.end_is tt
+  saved_comes tool.Done (inr (inr (inl none))) = rw none.end_is tt
+  saved_comes tool.Done (inr (inr (inr unsent))) = rw unsent.end_is (unsent_comes unsent.error tool.Done found now)
   saved_comes tool.LinkFault (inl saved) = rw saved.end_is tt
   saved_comes tool.LinkFault (inr (inl unsaved)) = rw unsaved.end_is tt
-  saved_comes tool.LinkFault (inr (inr none)) = rw none.end_is tt
+  saved_comes tool.LinkFault (inr (inr (inl none))) = rw none.end_is tt
+  saved_comes tool.LinkFault (inr (inr (inr unsent))) = rw unsent.end_is (unsent_comes unsent.error tool.LinkFault found now)
   saved_comes tool.TooLong (inl saved) = rw saved.end_is refl
   saved_comes tool.TooLong (inr (inl unsaved)) = rw unsaved.end_is refl
-  saved_comes tool.TooLong (inr (inr none)) = rw none.end_is tt
+  saved_comes tool.TooLong (inr (inr (inl none))) = rw none.end_is tt
+  saved_comes tool.TooLong (inr (inr (inr unsent))) = rw unsent.end_is (unsent_comes unsent.error tool.TooLong found now)
   saved_comes tool.PrintFault broken = rw broken.end_is tt
   saved_comes tool.TermFault broken = rw broken.end_is tt
   saved_comes tool.ChildFault broken = rw broken.end_is tt
   saved_comes tool.OutOfMemory broken = rw broken.end_is tt
   saved_comes (tool.FilesFault path) broken = rw broken.end_is (inl refl)
 
-  unsaved_comes : (ended : ToolEnd) → ComesOf (end_of ended) ended files.counts new.counts
+  unsaved_comes : (ended : ToolEnd) → ComesOf (end_of ended) ended found now
   unsaved_comes tool.Done = tt
   unsaved_comes tool.LinkFault = tt
   unsaved_comes tool.TooLong = refl
@@ -357,7 +444,7 @@ module _ (layers used : List LayerState) (files new : FilesState) (how : End) wh
   unsaved_comes tool.OutOfMemory = tt
   unsaved_comes (tool.FilesFault path) = inl refl
 
-  comes_of : (keeps : Bool) (ended : ToolEnd) → FinishesWhere keeps layers used ended files new how → ComesOf how ended files.counts new.counts
+  comes_of : (keeps : Bool) (ended : ToolEnd) → FinishesWhere keeps left new ended how → ComesOf how ended found now
   comes_of true ended finishes = saved_comes ended finishes
   comes_of false ended broken = rw broken.end_is (unsaved_comes ended)
 
@@ -396,15 +483,20 @@ too_many n few long = omega (arith, few, long)
 few_long : (old mid new : LinkState) → (new.talk ≡ mid.talk) × (new.input ≡ mid.input) → FewCame old new → CameLong old mid → ⊥
 few_long old mid new same few long = too_many (length (got long.0)) (few long.0 (same.0 ∙ long.1) (long.2 ∙ ap (prepend_known (got long.0)) (sym same.1))) long.3
 
-few_served : (used : Tool) (old mid new : Links) → new.io ≡ mid.io → (new.child.talk ≡ mid.child.talk) × (new.child.input ≡ mid.child.input) → FewServed used old new → LongServed used old mid → ⊥
-few_served (Communicate owner) old mid new io child few long = few_long old.io mid.io new.io (own_link mid.io new.io io) few long
-few_served (LoadTemplate owner paths) old mid new io child few long = long
-few_served (Run owner frontend priority command) old mid new io child few long = few_long old.child mid.child new.child child few long
-few_served (Show database shown) old mid new io child few long = long
-few_served (CopyDb copy) old mid new io child few long = long
-few_served (SetSelections verbose check unseen) old mid new io child few long = few_long old.io mid.io new.io (own_link mid.io new.io io) few long
-few_served GetSelections old mid new io child few long = long
-few_served (Drill count) old mid new io child few long = long
+module _ (old start mid new : Links) (child_start : start.child ≡ old.child) (child : (new.child.talk ≡ mid.child.talk) × (new.child.input ≡ mid.child.input)) where
+  -- where the tool isn't the one that copies, the link is the same at its start and behind its end
+  few_own : (new.io ≡ mid.io) × (start.io ≡ old.io) → FewCame old.io new.io → CameLong start.io mid.io → ⊥
+  few_own io few long = few_long start.io mid.io new.io (own_link mid.io new.io io.0) (subst (λ (l : LinkState). FewCame l new.io) (sym io.1) few) long
+
+  few_served : (used : Tool) → (IsOther used → (new.io ≡ mid.io) × (start.io ≡ old.io)) → FewServed used old new → LongServed used start mid → ⊥
+  few_served (Communicate owner) io few long = few_own (io tt) few long
+  few_served (LoadTemplate owner paths) io few long = long
+  few_served (Run owner frontend priority command) io few long = few_long start.child mid.child new.child child (subst (λ (l : LinkState). FewCame l new.child) (sym child_start) few) long
+  few_served (Show database shown) io few long = long
+  few_served (CopyDb copy) io few long = long
+  few_served (SetSelections verbose check unseen) io few long = few_own (io tt) few long
+  few_served GetSelections io few long = long
+  few_served (Drill count) io few long = long
 
 -- ---- the whole run
 
@@ -438,91 +530,120 @@ module _ (words : List (List ℕ)) (used : Tool) (conf : Configuration) (setting
   database_well before spec after place whole place_is pattern.TooLarge refused = record { before = before; spec = spec; after = after; whole = whole; place_is = place_is; not_plain = refused }
   database_well before spec after place whole place_is pattern.OutOfMemory refused = tt
 
-  unloaded_well : (error : LoadError) → LoadTells error files.counts new.stock.files.counts → EndsWell used conf (end_of_load error)
-  unloaded_well (load.Failed path) rose = clean.none_rose.files rose
-  unloaded_well (load.Damaged path line) none = none
-  unloaded_well load.OutOfMemory tells = tt
+  unloaded_well : (error : SourceError) → SourceTells error (ground_in old).sources (ground_in new).sources → EndsWell used conf (end_of_load error)
+  unloaded_well (source.Files (load.Failed path)) rose = clean.none_rose.files rose
+  unloaded_well (source.Files (load.Damaged path line)) none = none
+  unloaded_well (source.Files load.OutOfMemory) tells = tt
+  unloaded_well (source.Pipe pipe.Failed) rose = clean.none_rose.io rose
+  unloaded_well (source.Pipe (pipe.Damaged line)) none = none
+  unloaded_well (source.Pipe pipe.TooLong) none = none
+  unloaded_well (source.Pipe pipe.OutOfMemory) tells = tt
 
-  loads_well : (other : Configuration) (error : LoadError) → HasLoaded used settings.conf_path other files new.stock (Err error) → EndsWell used conf (end_of_load error)
+  -- at most one database is a pipe
+  few_loaded : count_of Pipe (loaded_of used conf) ≤ 1
+  few_loaded = by_files (has_files used) where
+    by_files : (is : Bool) → count_of Pipe (if is then databases_of used conf else []) ≤ 1
+    by_files true = (few_reached (conf_text used clean.conf_is.conf_is.text) conf (roots used conf) clean.conf_is.conf_is.reads).pipes
+    by_files false = let none : count_of Pipe [] ≡ 0 = refl in omega (arith, none)
+
+  loads_well : (other : Configuration) (error : SourceError) → HasLoaded used settings.conf_path other (ground_in old).sources (ground_in new) (Err error) → EndsWell used conf (end_of_load error)
   loads_well other error loaded =
       let same = same_conf other loaded.conf_is.conf_is.conf_is in
+      let found : Sources = (ground_in old).sources in
       unloaded_well error
-      (loads_tell clean.disk (loaded_of used other) (all_set_up (databases_of used other)) new.stock.used (conf_read used files.view settings.conf_path) new.stock.files.view files.counts new.stock.files.counts error
-      (read_disk (has_files used) files.view settings.conf_path ∙ clean.told) (subst (λ (c : Configuration). AllByRecursion (IsReadable clean.disk) (loaded_of used c)) (sym same) clean.readable) loaded.loads)
+      (source_later error found (conf_read_in used settings.conf_path found) (ground_in new).sources (later_so files.counts files.counts (unmoved files.counts files.counts refl)) (still old.links.io.counts old.links.io.counts refl)
+      (loads_tell clean.disk old.links.io (loaded_of used other) (all_set_up (databases_of used other)) new.stock.used (conf_read_in used settings.conf_path found) (ground_in new).sources error
+      (read_disk (has_files used) files.view settings.conf_path ∙ clean.told) (inl (refl, subst (λ (c : Configuration). count_of Pipe (loaded_of used c) ≤ 1) (sym same) few_loaded))
+      (subst (λ (c : Configuration). AllByRecursion (IsReadable clean.disk) (loaded_of used c)) (sym same) clean.readable)
+      (subst (λ (c : Configuration). AllByRecursion (IsPipeReadable old.links.io) (loaded_of used c)) (sym same) clean.piped) loaded.loads))
 
-  before_well : (how : End) → EndsBefore used settings.conf_path files new.stock how → EndsWell used conf how
-  before_well how (inl none) = rw none.end_is tt
-  before_well how (inr (inl unread)) = absurd (clean.none_rose.files unread.counts.faults)
-  before_well how (inr (inr (inl refused))) =
+  misused_well : (other : Configuration) (spec : LayerSpec) → other ≡ conf → misused_pipe used other ≡ Some spec → ⊥
+  misused_well other spec same is = let wrong : None ≡ Some spec = sym clean.unmisused ∙ ap (misused_pipe used) (sym same) ∙ is in cc
+
+  start_well : (how : End) → EndsUnloaded used settings.conf_path files new.stock.files how → EndsWell used conf how
+  start_well how (inl none) = rw none.end_is tt
+  start_well how (inr (inl unread)) = absurd (clean.none_rose.files unread.counts.faults)
+  start_well how (inr (inr (inl refused))) =
       rw refused.end_is
       (refused_well refused.text refused.error (clean.conf_is.conf_is.text_is ∙ sym (subst (λ (d : Option Disk). IsTextAt d settings.conf_path refused.text) clean.told refused.text_is)) refused.refused)
-  before_well how (inr (inr (inr (inl wrong)))) = absurd
+  start_well how (inr (inr (inr (inl wrong)))) = absurd
       (right_not_wrong used conf wrong.word clean.conf_is.databases (subst (λ (c : Configuration). IsWrongWord used c (Some wrong.word)) (same_conf wrong.conf wrong.conf_is) wrong.wrong))
-  before_well how (inr (inr (inr (inr (inl at))))) = rw at.end_is (word_well at.before at.word at.after at.words_are at.error at.refused)
-  before_well how (inr (inr (inr (inr (inr (inl at)))))) =
+  start_well how (inr (inr (inr (inr (inl misused))))) = absurd (misused_well misused.conf misused.spec (same_conf misused.conf misused.conf_is.conf_is) misused.misused)
+  start_well how (inr (inr (inr (inr (inr (inl at)))))) = rw at.end_is (word_well at.before at.word at.after at.words_are at.error at.refused)
+  start_well how (inr (inr (inr (inr (inr (inr at)))))) =
       let same = same_conf at.conf at.conf_is.conf_is.conf_is in
       rw at.end_is
       (database_well at.refused_at.before at.refused_at.spec at.refused_at.after at.refused.place (ap (λ (c : Configuration). databases_of used c) (sym same) ∙ at.refused_at.whole) at.refused_at.place_is
       at.refused.error at.refused_at.refused)
-  before_well how (inr (inr (inr (inr (inr (inr at)))))) = rw at.end_is (loads_well at.conf at.error at.loaded)
+
+  before_well : (how : End) → EndsBefore used settings.conf_path (ground_in old).sources (ground_in new) how → EndsWell used conf how
+  before_well how (inl unloaded) = start_well how unloaded.0
+  before_well how (inr at) = rw at.end_is (loads_well at.conf at.error at.loaded)
 
   module _ (outcome : Outcome) (run : HasUsed used settings old new outcome) where
     abbrev start : SessionState
-    start = begun used (before_rounds (record old { stock = run.mid })) run.roots settings
+    start = begun used (before_rounds (on_ground old run.mid)) run.roots settings
 
-    tells : EndTells run.answer.ended (LongServed used old.links run.links) run.mid.files.counts run.left.files.counts
-    tells = tool_tells used run.roots start old.links run.links 0 run.answer run.told run.left run.inner run.uses
+    tells : EndTells run.answer.ended (LongServed used (on_ground old run.mid).links run.links) run.mid.sources.files.counts run.left.files.counts
+    tells = tool_tells used run.roots start (on_ground old run.mid).links run.links 0 run.answer run.told run.left run.inner run.uses
 
-    never_long : LongServed used old.links run.links → ⊥
+    never_long : LongServed used (on_ground old run.mid).links run.links → ⊥
     never_long long =
-        few_served used old.links run.links new.links run.io_is (waited_link run.answer.is_started run.links.child new.links.child run.how outcome.end run.answer.status run.status run.awaits) clean.few long
+        few_served old.links (on_ground old run.mid).links run.links new.links refl (waited_link run.answer.is_started run.links.child new.links.child run.how outcome.end run.answer.status run.status run.awaits) used
+        (λ is. (io_stays used is settings old new outcome run, io_unused used is settings old new outcome run)) clean.few long
 
-    begins : Later files.counts run.mid.files.counts
-    begins = start_later used settings.conf_path files run.mid run.roots run.started
+    begins : Later files.counts run.mid.sources.files.counts
+    begins = start_later used settings.conf_path (ground_in old).sources run.mid run.roots run.started
 
-    works : Later run.mid.files.counts run.left.files.counts
-    works = tool_later run.roots start old.links run.links 0 run.answer run.told run.left run.inner used run.uses
+    works : Later run.mid.sources.files.counts run.left.files.counts
+    works = tool_later run.roots start (on_ground old run.mid).links run.links 0 run.answer run.told run.left run.inner used run.uses
 
     ends : Later run.left.files.counts new.stock.files.counts
-    ends = end_of_later run.left.layers new.stock.used run.left.files new.stock.files run.how (keeps_changes used) run.answer.ended run.finishes
+    ends = end_of_later (ground_of run.left.files run.links.io run.left.layers) (ground_in new) run.how (keeps_changes used) run.answer.ended run.finishes
 
     never_long_by : run.answer.ended ≡ tool.TooLong → ⊥
-    never_long_by is = never_long (subst (λ (e : ToolEnd). EndTells e (LongServed used old.links run.links) run.mid.files.counts run.left.files.counts) is tells)
+    never_long_by is = never_long (subst (λ (e : ToolEnd). EndTells e (LongServed used (on_ground old run.mid).links run.links) run.mid.sources.files.counts run.left.files.counts) is tells)
 
     never_failed : (path : List ℕ) → (run.answer.ended ≡ tool.FilesFault path) ⊎ Rose run.left.files.counts.faults new.stock.files.counts.faults → ⊥
     never_failed path (inl is) =
         clean.none_rose.files
-        (rose_between files.counts.faults run.mid.files.counts.faults run.left.files.counts.faults new.stock.files.counts.faults begins.0
-        (subst (λ (e : ToolEnd). EndTells e (LongServed used old.links run.links) run.mid.files.counts run.left.files.counts) is tells) ends.0)
+        (rose_between files.counts.faults run.mid.sources.files.counts.faults run.left.files.counts.faults new.stock.files.counts.faults begins.0
+        (subst (λ (e : ToolEnd). EndTells e (LongServed used (on_ground old run.mid).links run.links) run.mid.sources.files.counts run.left.files.counts) is tells) ends.0)
     never_failed path (inr rose) =
         clean.none_rose.files
-        (rose_behind files.counts.faults run.left.files.counts.faults new.stock.files.counts.faults (later_then files.counts run.mid.files.counts run.left.files.counts begins works).0 rose)
+        (rose_behind files.counts.faults run.left.files.counts.faults new.stock.files.counts.faults (later_then files.counts run.mid.sources.files.counts run.left.files.counts begins works).0 rose)
 
-    used_well : (how : End) → ComesOf how run.answer.ended run.left.files.counts new.stock.files.counts → LinksCount how old.links new.links → ProgramCounts how old.links.child.program.failures new.links.child.program.failures → EndsWell used conf how
-    used_well end.Done comes links program = tt
-    used_well end.OutOfMemory comes links program = tt
-    used_well end.LinkFault comes (inl own) program = clean.none_rose.io own.on_io.faults
-    used_well end.LinkFault comes (inr child) program = clean.none_rose.child child.on_child.faults
-    used_well end.TermFault comes links program = clean.none_rose.io links.on_io.faults
-    used_well end.ChildFault comes links program = clean.none_rose.program program
-    used_well end.TooLong comes links program = never_long_by comes
-    used_well (end.FilesFault path) comes links program = never_failed path comes
-    used_well (end.Usage word) none links program = none
-    used_well (end.ConfRefused line kind) none links program = none
-    used_well (end.BadPattern at) none links program = absurd none
-    used_well (end.PatternTooLarge at) none links program = absurd none
-    used_well (end.Damaged path line) none links program = none
+    own_rose : (mid : LinkState) → CountsLoads old.links.io.counts mid.counts → Rose mid.counts.faults new.links.io.counts.faults → ⊥
+    own_rose mid (inl same) rose = clean.none_rose.io (subst (λ (c : Counts). Rose c.faults new.links.io.counts.faults) same rose)
+    own_rose mid (inr first) rose = clean.none_rose.io (rose_behind old.links.io.counts.faults mid.counts.faults new.links.io.counts.faults first.faults.later rose)
+
+    used_well : (how : End) (mid : LinkState) → ComesOf how run.answer.ended run.left.files.counts new.stock.files.counts → CountsLoads old.links.io.counts mid.counts → LinksCount how (record old.links { io = mid }) new.links
+        → ProgramCounts how old.links.child.program.failures new.links.child.program.failures → EndsWell used conf how
+    used_well end.Done mid comes loads links program = tt
+    used_well end.OutOfMemory mid comes loads links program = tt
+    used_well end.LinkFault mid comes loads (inl own) program = own_rose mid loads own.on_io.faults
+    used_well end.LinkFault mid comes loads (inr child) program = clean.none_rose.child child.on_child.faults
+    used_well end.TermFault mid comes loads links program = own_rose mid loads links.on_io.faults
+    used_well end.ChildFault mid comes loads links program = clean.none_rose.program program
+    used_well end.TooLong mid comes loads links program = never_long_by comes
+    used_well (end.FilesFault path) mid comes loads links program = never_failed path comes
+    used_well (end.Usage word) mid none loads links program = none
+    used_well (end.ConfRefused line kind) mid none loads links program = none
+    used_well (end.BadPattern at) mid none loads links program = absurd none
+    used_well (end.PatternTooLarge at) mid none loads links program = absurd none
+    used_well (end.Damaged path line) mid none loads links program = none
 
     comes : ComesOf outcome.end run.answer.ended run.left.files.counts new.stock.files.counts
     comes =
         awaited_comes run.answer.ended run.left.files.counts new.stock.files.counts run.answer.is_started run.links.child new.links.child run.how outcome.end run.answer.status run.status run.awaits
-        (comes_of run.left.layers new.stock.used run.left.files new.stock.files run.how (keeps_changes used) run.answer.ended run.finishes)
+        (comes_of (ground_of run.left.files run.links.io run.left.layers) (ground_in new) run.how (keeps_changes used) run.answer.ended run.finishes)
 
   tool_well : (outcome : Outcome) (saves : List Save) → HasRunTool used settings old new outcome saves → EndsWell used conf outcome.end
   tool_well outcome saves (inl before) = before_well outcome.end before.0
   tool_well outcome saves (inr worked) =
       let run = as_used used settings old new outcome saves worked in
-      used_well outcome run outcome.end (comes outcome run) (links_counted used settings old new outcome saves (inr worked)) (program_counted used settings old new outcome saves (inr worked))
+      let counts = links_counted used settings old new outcome saves (inr worked) in
+      used_well outcome run outcome.end counts.mid (comes outcome run) counts.loads counts.behind (program_counted used settings old new outcome saves (inr worked))
 
   words_well : (outcome : Outcome) (saves : List Save) → HasRunWords words settings old new outcome saves → EndsWell used conf outcome.end
   words_well outcome saves (inl refused) = absurd (refused.0.refused.refused (used, clean.named))

@@ -1,4 +1,5 @@
 -- What comes in determines a run of `communicate`.
+use Rattle.dc_run.proofs.PipeLemmas.{io_stays, io_unused}
 use Rattle.std.proofs.Common.{◌≡◌, ℕ, List, Option, Some, refl, ap, sym, subst, ◌∙◌, arith}
 use Rattle.std.specs.Prelude.{◌≤◌}
 use Rattle.dc_outside.specs.State.{FilesState, LinkState}
@@ -10,7 +11,7 @@ use Rattle.dc_run.specs.Ends.{status_of}
 use Rattle.dc_run.specs.OneRound.{HasUsed}
 use Rattle.dc_run.specs.SavingSession.{BreaksSaving, TakesSaving}
 use Rattle.dc_run.specs.Starting.{begun}
-use Rattle.dc_run.specs.World.{World, before_rounds}
+use Rattle.dc_run.specs.World.{World, before_rounds, ground_of, on_ground}
 use Rattle.dc_run.specs.declared.outcome.Outcome.{Outcome}
 use Rattle.dc_run.specs.declared.settings.Settings.{Settings}
 use Rattle.dc_cli.specs.Tools.{Names}
@@ -30,10 +31,11 @@ use Rattle.dc_theorem.proofs.UsedLemmas.{tool_done, left_sound, starts_low, star
 module _ (words : List (List ℕ)) (owner : List ℕ) (settings : Settings) (disk : Disk) (calls : List FilesCall) (old new : World) (outcome : Outcome) (input : List ℕ) (clean : IsClean words settings disk calls old new outcome)
     (has : HasUsed (Communicate owner) settings old new outcome) (input_is : old.links.io.input ≡ Some input) where
   abbrev start : SessionState
-  start = begun (Communicate owner) (before_rounds (record old { stock = has.mid })) has.roots settings
+  start = begun (Communicate owner) (before_rounds (on_ground old has.mid)) has.roots settings
 
   served : WasServed start has.left old.links.io has.links.io 0 has.answer.last_code
-  served = was_served start has.left old.links.io has.links.io has.uses.0.ended 0 has.answer.last_code (sym has.uses.0.ended_is ∙ tool_done words (Communicate owner) settings disk calls old new outcome clean has) has.uses.0.served.by
+  served = subst (λ (l : LinkState). WasServed start has.left l has.links.io 0 has.answer.last_code) (io_unused (Communicate owner) tt settings old new outcome has)
+      (was_served start has.left has.mid.sources.link has.links.io has.uses.0.ended 0 has.answer.last_code (sym has.uses.0.ended_is ∙ tool_done words (Communicate owner) settings disk calls old new outcome clean has) has.uses.0.served.by)
 
   ran : IsLinkRun TakesSaving BreaksSaving old.links.io.talk has.links.io.talk (Some input) has.links.io.input start link.Done served.state 0 has.answer.last_code
   ran = subst (λ (k : Option (List ℕ)). IsLinkRun TakesSaving BreaksSaving old.links.io.talk has.links.io.talk k has.links.io.input start link.Done served.state 0 has.answer.last_code) input_is served.ran
@@ -41,9 +43,9 @@ module _ (words : List (List ℕ)) (owner : List ℕ) (settings : Settings) (dis
   high : served.state.files.counts.faults ≤ old.stock.files.counts.faults
   high = subst (λ (f : FilesState). f.counts.faults ≤ old.stock.files.counts.faults) served.files_are (left_sound words (Communicate owner) settings disk calls old new outcome clean has)
 
-  mid_high : has.mid.files.counts.faults ≤ old.stock.files.counts.faults
+  mid_high : has.mid.sources.files.counts.faults ≤ old.stock.files.counts.faults
   mid_high =
-      let later : has.mid.files.counts.faults ≤ served.state.files.counts.faults
+      let later : has.mid.sources.files.counts.faults ≤ served.state.files.counts.faults
       = run_later input old.links.io.talk has.links.io.talk has.links.io.input start served.state 0 has.answer.last_code ran in
       let low : served.state.files.counts.faults ≤ old.stock.files.counts.faults = high in
       omega arith
@@ -61,7 +63,7 @@ module _ (words : List (List ℕ)) (owner : List ℕ) (settings : Settings) (dis
     (input_is : one.links.io.input ≡ Some input) (other_input_is : other.links.io.input ≡ Some input) where
   starts : StartAlike has.mid other_has.mid has.roots other_has.roots
   starts =
-      same_start words (Communicate owner) settings disk calls one new other last outcome again clean other_clean has other_has (mid_high words owner settings disk calls one new outcome input clean has input_is)
+      same_start words (Communicate owner) settings disk calls one new other last outcome again clean other_clean has other_has tt (mid_high words owner settings disk calls one new outcome input clean has input_is)
       (mid_high words owner settings disk calls other last again input other_clean other_has other_input_is)
 
   both_alike : CommunicateAlike one new outcome other last again
@@ -69,15 +71,15 @@ module _ (words : List (List ℕ)) (owner : List ℕ) (settings : Settings) (dis
       let first = served words owner settings disk calls one new outcome input clean has input_is in
       let second = served words owner settings disk calls other last again input other_clean other_has other_input_is in
       let one_ran = ran words owner settings disk calls one new outcome input clean has input_is in
-      let begins = begun (Communicate owner) (before_rounds (record one { stock = has.mid })) has.roots settings in
-      let there = begun (Communicate owner) (before_rounds (record other { stock = has.mid })) has.roots settings in
-      let other_begins = begun (Communicate owner) (before_rounds (record other { stock = other_has.mid })) other_has.roots settings in
-      let counts = has.mid.files.counts in
+      let begins = begun (Communicate owner) (before_rounds (on_ground one has.mid)) has.roots settings in
+      let there = begun (Communicate owner) (before_rounds (on_ground other has.mid)) has.roots settings in
+      let other_begins = begun (Communicate owner) (before_rounds (on_ground other other_has.mid)) other_has.roots settings in
+      let counts = has.mid.sources.files.counts in
       let recounted = run_with counts other.stock.files.counts.faults other_clean.none_failed.room other.links.io.talk other_has.links.io.talk (Some input) other_has.links.io.input other_begins second.state 0 other_has.answer.last_code
       (starts_low words (Communicate owner) settings disk calls other last again other_clean other_has) (high words owner settings disk calls other last again input other_clean other_has other_input_is)
       (ran words owner settings disk calls other last again input other_clean other_has other_input_is) in
       let begin : with_counts counts other_begins ≡ there
-      = λ i. begun (Communicate owner) (before_rounds (record other { stock = record { files = record { view = sym starts.told i; counts = counts }; used = sym starts.used i } })) (sym starts.roots_are i) settings in
+      = λ i. begun (Communicate owner) (before_rounds (on_ground other (ground_of (record { view = sym starts.told i; counts = counts }) has.mid.sources.link (sym starts.used i)))) (sym starts.roots_are i) settings in
       let other_ran : IsLinkRun TakesSaving BreaksSaving other.links.io.talk other_has.links.io.talk (Some input) other_has.links.io.input there link.Done (with_counts counts second.state) 0 other_has.answer.last_code
       = subst (λ (s : SessionState). IsLinkRun TakesSaving BreaksSaving other.links.io.talk other_has.links.io.talk (Some input) other_has.links.io.input s link.Done (with_counts counts second.state) 0 other_has.answer.last_code) begin recounted in
       let disk_told = starts_told words (Communicate owner) settings disk calls one new outcome clean has in
@@ -94,8 +96,8 @@ module _ (words : List (List ℕ)) (owner : List ℕ) (settings : Settings) (dis
         replies = record {
           pieces = one_ran.pieces;
           other_pieces = other_ran.pieces;
-          one_is = ap (λ (l : LinkState). l.talk) has.io_is ∙ one_ran.told_is;
-          other_is = ap (λ (l : LinkState). l.talk) other_has.io_is ∙ other_ran.told_is;
+          one_is = ap (λ (l : LinkState). l.talk) (io_stays (Communicate owner) tt settings one new outcome has) ∙ one_ran.told_is;
+          other_is = ap (λ (l : LinkState). l.talk) (io_stays (Communicate owner) tt settings other last again other_has) ∙ other_ran.told_is;
           same = same.replies_are;
         };
         status = status_is words owner settings disk calls other last again input other_clean other_has other_input_is ∙ sym same.code_is ∙ sym (status_is words owner settings disk calls one new outcome input clean has input_is);

@@ -11,15 +11,16 @@ use Rattle.dc_proto.specs.declared.command.Command.{Command}
 use Rattle.dc_proto.specs.declared.command.Heard.{Heard}
 use Rattle.dc_proto.specs.declared.command.Heard.TheVariants.{Nothing, Known, Refused}
 use Rattle.dc_conf.specs.declared.spec.LayerSort.{LayerSort}
-use Rattle.dc_conf.specs.declared.spec.LayerSort.TheVariants.{File, Tree, Pack}
+use Rattle.dc_conf.specs.declared.spec.LayerSort.TheVariants.{File, Tree, Pack, Pipe}
 use Rattle.dc_conf.specs.declared.spec.LayerSpec.{LayerSpec}
 use Rattle.dc_layer.specs.State.{LayerState}
-use Rattle.dc_save.specs.Loading.{LoadCountsBy, LoadCounts}
+use Rattle.dc_save.specs.Loading.{LoadCountsBy}
 use Rattle.dc_save.specs.declared.loading.Loaded.{Loaded}
 use Rattle.dc_save.specs.declared.loading.Loaded.TheVariants.{Here, LeftOut}
-use Rattle.dc_save.specs.declared.loading.LoadError.{LoadError}
 use Rattle.dc_save.specs.declared.saving.SaveError.TheVariants as save
-use Rattle.dc_shelf.specs.Shelves.{GoesOn, LoadsAll}
+use Rattle.dc_shelf.specs.Shelves.{GoesOn, LoadAnswer, LoadsAll, LoadsOne, Sources}
+use Rattle.dc_shelf.specs.declared.loading.SourceError.{SourceError}
+use Rattle.dc_shelf.specs.declared.loading.SourceError.TheVariants as source
 use Rattle.dc_serve.specs.Execution.{Transition, state_after, IsExecution}
 use Rattle.dc_serve.specs.LinkRun.{Answered}
 use Rattle.dc_serve.specs.declared.machine.Response.{Response}
@@ -35,15 +36,15 @@ use Rattle.dc_session.specs.declared.template_files.Found.{Found}
 use Rattle.dc_session.specs.declared.template_files.Found.TheVariants.{Unreadable, Missing, Faulty, Templates}
 use Rattle.dc_cli.specs.declared.tool.Tool.{Tool}
 use Rattle.dc_cli.specs.declared.tool.Tool.TheVariants.{Communicate, LoadTemplate, Run, Show, CopyDb, SetSelections, GetSelections, Drill}
-use Rattle.dc_run.specs.Finishing.{Finishes, FinishesWhere, IsBrokenOff, IsSaved, IsUnsaved, IsWithoutMemory}
+use Rattle.dc_run.specs.Finishing.{Finishes, FinishesWhere, IsBrokenOff, IsSaved, IsUnsaved, IsUnsent, IsWithoutMemory}
 use Rattle.dc_run.specs.Jobs.{CopiesBy, Uses}
 use Rattle.dc_run.specs.Saves.{Save}
 use Rattle.dc_run.specs.SavingSession.{BreaksSaving, FailsToSave, TakesSaving}
-use Rattle.dc_run.specs.Starting.{conf_read, HasStarted}
+use Rattle.dc_run.specs.Starting.{conf_read_in, HasStarted}
 use Rattle.dc_run.specs.declared.saving_session.SavingBreak.{SavingBreak}
 use Rattle.dc_run.specs.declared.saving_session.SavingBreak.TheVariants as saving
 use Rattle.dc_run.specs.TemplateLoading.{FileTurn, IsFileCourse, EndsAt, state_after as file_state}
-use Rattle.dc_run.specs.World.{Links, Stock}
+use Rattle.dc_run.specs.World.{Ground, Links}
 use Rattle.dc_run.specs.Ends.{tool_end_of}
 use Rattle.dc_run.specs.declared.outcome.End.{End}
 use Rattle.dc_run.specs.declared.outcome.End.TheVariants as end
@@ -371,7 +372,7 @@ module _ (roots : Roots) (start : SessionState) (old new : Links) (before : ℕ)
 
 -- ---- loads
 
-no_error : (error : LoadError) → ◌≡◌ {A = Result (Unit {0}) LoadError} (Ok tt) (Err error) → ⊥
+no_error : (error : SourceError) → ◌≡◌ {A = Result (Unit {0}) SourceError} (Ok tt) (Err error) → ⊥
 no_error error is = cc
 
 pub load_kept : (sort : LayerSort) (files mid : FilesView) (before now : Counts) (loaded : Loaded) → LoadCountsBy sort files mid (Ok loaded) before now → Kept before now
@@ -381,39 +382,50 @@ load_kept Pack files mid before now Here counted = unmoved before now counted
 load_kept File files mid before now LeftOut counted = failed before now counted
 load_kept Tree files mid before now LeftOut counted = failed before now counted
 load_kept Pack files mid before now LeftOut counted = failed before now counted
+load_kept Pipe files mid before now loaded counted = absurd counted
 
-goes_kept : (spec : LayerSpec) (files mid : FilesView) (before counts now : Counts) (more last : Type 0) → (more → Kept counts now) → (first : Result Loaded LoadError) → LoadCounts spec files mid first before counts → GoesOn first (Ok tt) more last → Kept before now
-goes_kept spec files mid before counts now more last rest (Ok loaded) counted goes = kept_then before counts now (load_kept spec.sort files mid before counts loaded counted) (rest goes)
-goes_kept spec files mid before counts now more last rest (Err error) counted goes = absurd (no_error error goes.0)
+goes_kept : (spec : LayerSpec) (layer made : LayerState) (from mid : Sources) (now : Counts) (more last : Type 0) → (more → Kept mid.files.counts now) → (first : LoadAnswer) → LoadsOne spec layer made from mid first → GoesOn first (Ok tt) more last → Kept from.files.counts now
+goes_kept spec layer made from mid now more last rest (LoadAnswer.OfFiles (Ok loaded)) is goes =
+    kept_then from.files.counts mid.files.counts now (load_kept spec.sort from.files.view mid.files.view from.files.counts mid.files.counts loaded is.2) (rest goes)
+goes_kept spec layer made from mid now more last rest (LoadAnswer.OfFiles (Err error)) is goes = absurd (no_error (source.Files error) goes.0)
+goes_kept spec layer made from mid now more last rest (LoadAnswer.OfPipe (Ok loaded)) is goes = subst (λ (f : FilesState). Kept f.counts now) is.2 (rest goes)
+goes_kept spec layer made from mid now more last rest (LoadAnswer.OfPipe (Err error)) is goes = absurd (no_error (source.Pipe error) goes.0)
 
-loads_kept : (specs : List LayerSpec) (old new : List LayerState) (files files_new : FilesView) (before now : Counts) → LoadsAll specs old new files files_new before now (Ok tt) → Kept before now
-loads_kept [] old new files files_new before now loads = unmoved before now loads.3
-loads_kept (spec ∷ specs) [] new files files_new before now loads = absurd loads
-loads_kept (spec ∷ specs) (layer ∷ old) [] files files_new before now loads = absurd loads
-loads_kept (spec ∷ specs) (layer ∷ old) (made ∷ new) files files_new before now loads =
-    goes_kept spec files loads.1 before loads.2 now _ _ (loads_kept specs old new loads.1 files_new loads.2 now) loads.0 loads.5 loads.6
+loads_kept : (specs : List LayerSpec) (old new : List LayerState) (from left : Sources) → LoadsAll specs old new from left (Ok tt) → Kept from.files.counts left.files.counts
+loads_kept [] old new from left loads = unmoved from.files.counts left.files.counts (ap (λ (s : Sources). s.files.counts) loads.2)
+loads_kept (spec ∷ specs) [] new from left loads = absurd loads
+loads_kept (spec ∷ specs) (layer ∷ old) [] from left loads = absurd loads
+loads_kept (spec ∷ specs) (layer ∷ old) (made ∷ new) from left loads =
+    goes_kept spec layer made from loads.1 left.files.counts _ _ (loads_kept specs old new loads.1 left) loads.0 loads.2 loads.3
 
-pub start_kept : (used : Tool) (path : List ℕ) (files : FilesState) (mid : Stock) (roots : Roots) → HasStarted used path files mid roots → Kept files.counts mid.files.counts
-start_kept used path files mid roots started = loads_kept _ _ _ (conf_read used files.view path) mid.files.view files.counts mid.files.counts started.loaded.loads
+pub start_kept : (used : Tool) (path : List ℕ) (from : Sources) (mid : Ground) (roots : Roots) → HasStarted used path from mid roots → Kept from.files.counts mid.sources.files.counts
+start_kept used path from mid roots started = loads_kept _ _ _ (conf_read_in used path from) mid.sources started.loaded.loads
 
-pub start_later : (used : Tool) (path : List ℕ) (files : FilesState) (mid : Stock) (roots : Roots) → HasStarted used path files mid roots → Later files.counts mid.files.counts
-start_later used path files mid roots started = later_so files.counts mid.files.counts (start_kept used path files mid roots started)
+pub start_later : (used : Tool) (path : List ℕ) (from : Sources) (mid : Ground) (roots : Roots) → HasStarted used path from mid roots → Later from.files.counts mid.sources.files.counts
+start_later used path from mid roots started = later_so from.files.counts mid.sources.files.counts (start_kept used path from mid roots started)
 
 -- ---- the save
 
-module _ (layers used : List LayerState) (files new : FilesState) (how : End) where
-  broken_kept : (ended : ToolEnd) → IsBrokenOff layers used files new ended how → Kept files.counts new.counts
-  broken_kept ended is = unmoved files.counts new.counts (ap (λ (f : FilesState). f.counts) is.files_are)
+module _ (left new : Ground) (how : End) where
+  abbrev before : Counts
+  before = left.sources.files.counts
+
+  abbrev now : Counts
+  now = new.sources.files.counts
+
+  broken_kept : (ended : ToolEnd) → IsBrokenOff left new ended how → Kept before now
+  broken_kept ended is = unmoved before now (ap (λ (g : Ground). g.sources.files.counts) is.stays)
 
   abbrev IsAtSave : ToolEnd → Type 0
-  IsAtSave ended = IsSaved layers used files new ended how ⊎ IsUnsaved layers used files new ended how ⊎ IsWithoutMemory layers used files new how
+  IsAtSave ended = IsSaved left new ended how ⊎ IsUnsaved left new ended how ⊎ IsWithoutMemory left new ended how ⊎ IsUnsent left new ended how
 
-  saved_kept : (ended : ToolEnd) → (how ≡ end.OutOfMemory → ⊥) → IsAtSave ended → Kept files.counts new.counts
-  saved_kept ended other (inl saved) = unmoved files.counts new.counts saved.counts
-  saved_kept ended other (inr (inl unsaved)) = failed files.counts new.counts unsaved.counts
-  saved_kept ended other (inr (inr none)) = absurd (other none.end_is)
+  saved_kept : (ended : ToolEnd) → (how ≡ end.OutOfMemory → ⊥) → IsAtSave ended → Kept before now
+  saved_kept ended other (inl saved) = unmoved before now saved.counts
+  saved_kept ended other (inr (inl unsaved)) = failed before now unsaved.counts
+  saved_kept ended other (inr (inr (inl none))) = absurd (other none.end_is)
+  saved_kept ended other (inr (inr (inr unsent))) = unmoved before now (ap (λ (f : FilesState). f.counts) unsent.files_are)
 
-  finish_kept : (ended : ToolEnd) → (how ≡ end.OutOfMemory → ⊥) → Finishes layers used ended files new how → Kept files.counts new.counts
+  finish_kept : (ended : ToolEnd) → (how ≡ end.OutOfMemory → ⊥) → Finishes left new ended how → Kept before now
   finish_kept tool.Done other save = saved_kept tool.Done other save
   finish_kept tool.LinkFault other save = saved_kept tool.LinkFault other save
   finish_kept tool.TooLong other save = saved_kept tool.TooLong other save
@@ -423,23 +435,24 @@ module _ (layers used : List LayerState) (files new : FilesState) (how : End) wh
   finish_kept tool.OutOfMemory other broken = broken_kept tool.OutOfMemory broken
   finish_kept (tool.FilesFault path) other broken = broken_kept (tool.FilesFault path) broken
 
-  pub finished_kept : (keeps : Bool) (ended : ToolEnd) → (how ≡ end.OutOfMemory → ⊥) → FinishesWhere keeps layers used ended files new how → Kept files.counts new.counts
+  pub finished_kept : (keeps : Bool) (ended : ToolEnd) → (how ≡ end.OutOfMemory → ⊥) → FinishesWhere keeps left new ended how → Kept before now
   finished_kept true ended other finishes = finish_kept ended other finishes
   finished_kept false ended other broken = broken_kept ended broken
 
   -- at any end
-  saved_later : (ended : ToolEnd) → IsAtSave ended → Later files.counts new.counts
-  saved_later ended (inl saved) = later_so files.counts new.counts (unmoved files.counts new.counts saved.counts)
-  saved_later ended (inr (inl unsaved)) = later_so files.counts new.counts (failed files.counts new.counts unsaved.counts)
-  saved_later ended (inr (inr none)) = elim none.counts [
-    | inl rose ↦ refused files.counts new.counts rose
-    | inr same ↦ later_so files.counts new.counts (unmoved files.counts new.counts same.0)
+  saved_later : (ended : ToolEnd) → IsAtSave ended → Later before now
+  saved_later ended (inl saved) = later_so before now (unmoved before now saved.counts)
+  saved_later ended (inr (inl unsaved)) = later_so before now (failed before now unsaved.counts)
+  saved_later ended (inr (inr (inl none))) = elim none.counts [
+    | inl rose ↦ refused before now rose
+    | inr same ↦ later_so before now (unmoved before now (ap (λ (f : FilesState). f.counts) same))
   ]
+  saved_later ended (inr (inr (inr unsent))) = later_so before now (unmoved before now (ap (λ (f : FilesState). f.counts) unsent.files_are))
 
-  broken_later : (ended : ToolEnd) → IsBrokenOff layers used files new ended how → Later files.counts new.counts
-  broken_later ended is = later_so files.counts new.counts (broken_kept ended is)
+  broken_later : (ended : ToolEnd) → IsBrokenOff left new ended how → Later before now
+  broken_later ended is = later_so before now (broken_kept ended is)
 
-  finish_later : (ended : ToolEnd) → Finishes layers used ended files new how → Later files.counts new.counts
+  finish_later : (ended : ToolEnd) → Finishes left new ended how → Later before now
   finish_later tool.Done save = saved_later tool.Done save
   finish_later tool.LinkFault save = saved_later tool.LinkFault save
   finish_later tool.TooLong save = saved_later tool.TooLong save
@@ -449,6 +462,6 @@ module _ (layers used : List LayerState) (files new : FilesState) (how : End) wh
   finish_later tool.OutOfMemory broken = broken_later tool.OutOfMemory broken
   finish_later (tool.FilesFault path) broken = broken_later (tool.FilesFault path) broken
 
-  pub end_of_later : (keeps : Bool) (ended : ToolEnd) → FinishesWhere keeps layers used ended files new how → Later files.counts new.counts
+  pub end_of_later : (keeps : Bool) (ended : ToolEnd) → FinishesWhere keeps left new ended how → Later before now
   end_of_later true ended finishes = finish_later ended finishes
   end_of_later false ended broken = broken_later ended broken

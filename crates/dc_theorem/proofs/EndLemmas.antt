@@ -1,6 +1,6 @@
 -- A run that did all: it used its tool, which was done, and what was left is saved.
 use Rattle.std.proofs.Common.{◌≡◌, inl, inr, ℕ, Bool, true, false, if◌then◌else◌, List, refl, sym, ap, subst, ◌∙◌}
-use Rattle.std.specs.Prelude.{map as each}
+use Rattle.std.specs.Prelude.{map as each, Ok}
 use Rattle.dc_outside.specs.State.{FilesState, LinkState}
 use Rattle.dc_conf.specs.declared.faults.ConfError.{ConfError}
 use Rattle.dc_conf.specs.declared.faults.ConfError.TheVariants as conf
@@ -8,7 +8,10 @@ use Rattle.dc_layer.specs.State.{LayerState, saved}
 use Rattle.dc_layer.specs.declared.pattern.PatternError.{PatternError}
 use Rattle.dc_layer.specs.declared.pattern.PatternError.TheVariants as pattern
 use Rattle.dc_save.specs.Saving.{after_images}
-use Rattle.dc_save.specs.declared.loading.LoadError.{LoadError}
+use Rattle.dc_save.specs.declared.pipe_loading.PipeError.TheVariants as pipe
+use Rattle.dc_shelf.specs.Shelves.{Sources}
+use Rattle.dc_shelf.specs.declared.loading.SourceError.{SourceError}
+use Rattle.dc_shelf.specs.declared.loading.SourceError.TheVariants as source
 use Rattle.dc_save.specs.declared.saving.SaveError.TheVariants as save
 use Rattle.dc_save.specs.declared.loading.LoadError.TheVariants as load
 use Rattle.dc_serve.specs.LinkRun.{IsLinkRun}
@@ -18,8 +21,8 @@ use Rattle.dc_session.specs.Asking.{finished}
 use Rattle.dc_session.specs.Serving.{IsFinished, Finishes as FinishesSession, IsServedBy, Resources}
 use Rattle.dc_session.specs.SessionState.{SessionState}
 use Rattle.dc_session.specs.declared.stepped.StepError.TheVariants as step
-use Rattle.dc_run.specs.Ends.{end_of, end_of_conf, end_of_pattern, end_of_load, tool_end_of, end_unwaited}
-use Rattle.dc_run.specs.Finishing.{images_of, IsSaved, Finishes, FinishesWhere}
+use Rattle.dc_run.specs.Ends.{end_of, end_of_conf, end_of_pattern, end_of_load, end_unsent, tool_end_of, end_unwaited}
+use Rattle.dc_run.specs.Finishing.{images_of, IsSaved, IsUnsent, Finishes, FinishesWhere, SendsOf}
 use Rattle.dc_run.specs.Headline.{HasRunTool, HasRunWords}
 use Rattle.dc_run.specs.declared.outcome.PatternAt.{PatternAt}
 use Rattle.dc_run.specs.declared.outcome.PatternAt.TheVariants.{Database, Word}
@@ -30,8 +33,8 @@ use Rattle.dc_run.specs.declared.saving_session.SavingBreak.{SavingBreak}
 use Rattle.dc_run.specs.declared.saving_session.SavingBreak.TheVariants as saving
 use Rattle.dc_run.proofs.UsedLemmas.{as_used}
 use Rattle.dc_run.specs.Running.{Awaits, end_unstarted}
-use Rattle.dc_run.specs.Starting.{EndsBefore}
-use Rattle.dc_run.specs.World.{Stock, World}
+use Rattle.dc_run.specs.Starting.{EndsBefore, EndsUnloaded}
+use Rattle.dc_run.specs.World.{Ground, World, ground_in}
 use Rattle.dc_run.specs.declared.outcome.End.{End}
 use Rattle.dc_run.specs.declared.outcome.End.TheVariants as end
 use Rattle.dc_run.specs.declared.outcome.Outcome.{Outcome}
@@ -65,19 +68,27 @@ pattern_other place pattern.Bad is = is
 pattern_other place pattern.TooLarge is = is
 pattern_other place pattern.OutOfMemory is = is
 
-load_other : (error : LoadError) → IsOfTool (end_of_load error) → ⊥
-load_other (load.Failed path) is = is
-load_other (load.Damaged path line) is = is
-load_other load.OutOfMemory is = is
+load_other : (error : SourceError) → IsOfTool (end_of_load error) → ⊥
+load_other (source.Files (load.Failed path)) is = is
+load_other (source.Files (load.Damaged path line)) is = is
+load_other (source.Files load.OutOfMemory) is = is
+load_other (source.Pipe pipe.Failed) is = is
+load_other (source.Pipe (pipe.Damaged line)) is = is
+load_other (source.Pipe pipe.TooLong) is = is
+load_other (source.Pipe pipe.OutOfMemory) is = is
 
-pub not_before : (used : Tool) (path : List ℕ) (old : FilesState) (new : Stock) (how : End) → IsOfTool how → EndsBefore used path old new how → ⊥
-not_before used path old new how is (inl none) = subst IsOfTool none.end_is is
-not_before used path old new how is (inr (inl unread)) = subst IsOfTool unread.end_is is
-not_before used path old new how is (inr (inr (inl refused))) = conf_other refused.error (subst IsOfTool refused.end_is is)
-not_before used path old new how is (inr (inr (inr (inl wrong)))) = subst IsOfTool wrong.end_is is
-not_before used path old new how is (inr (inr (inr (inr (inl unbuilt))))) = pattern_other (Word unbuilt.word.place) unbuilt.error (subst IsOfTool unbuilt.end_is is)
-not_before used path old new how is (inr (inr (inr (inr (inr (inl patterns)))))) = pattern_other (Database patterns.refused.place) patterns.refused.error (subst IsOfTool patterns.end_is is)
-not_before used path old new how is (inr (inr (inr (inr (inr (inr loads)))))) = load_other loads.error (subst IsOfTool loads.end_is is)
+not_unloaded : (used : Tool) (path : List ℕ) (old new : FilesState) (how : End) → IsOfTool how → EndsUnloaded used path old new how → ⊥
+not_unloaded used path old new how is (inl none) = subst IsOfTool none.end_is is
+not_unloaded used path old new how is (inr (inl unread)) = subst IsOfTool unread.end_is is
+not_unloaded used path old new how is (inr (inr (inl refused))) = conf_other refused.error (subst IsOfTool refused.end_is is)
+not_unloaded used path old new how is (inr (inr (inr (inl wrong)))) = subst IsOfTool wrong.end_is is
+not_unloaded used path old new how is (inr (inr (inr (inr (inl misused))))) = subst IsOfTool misused.end_is is
+not_unloaded used path old new how is (inr (inr (inr (inr (inr (inl unbuilt)))))) = pattern_other (Word unbuilt.word.place) unbuilt.error (subst IsOfTool unbuilt.end_is is)
+not_unloaded used path old new how is (inr (inr (inr (inr (inr (inr patterns)))))) = pattern_other (Database patterns.refused.place) patterns.refused.error (subst IsOfTool patterns.end_is is)
+
+pub not_before : (used : Tool) (path : List ℕ) (old : Sources) (new : Ground) (how : End) → IsOfTool how → EndsBefore used path old new how → ⊥
+not_before used path old new how is (inl before) = not_unloaded used path old.files new.sources.files how is before.0
+not_before used path old new how is (inr loads) = load_other loads.error (subst IsOfTool loads.end_is is)
 
 no_memory : end.OutOfMemory ≡ end.Done → ⊥
 no_memory is = cc
@@ -93,7 +104,7 @@ no_usage word is = cc
 used_tool : (words : List (List ℕ)) (settings : Settings) (old new : World) (outcome : Outcome) (saves : List Save) (used : Tool) → outcome.end ≡ end.Done → Names words used → HasRunWords words settings old new outcome saves → HasUsed used settings old new outcome
 used_tool words settings old new outcome saves used done named (inl refused) = absurd (no_usage refused.0.word (sym refused.0.end_is ∙ done))
 used_tool words settings old new outcome saves used done named (inr ran) = elim (subst (λ (t : Tool). HasRunTool t settings old new outcome saves) (one_tool words ran.0 used ran.1 named) ran.2) [
-  | inl before ↦ absurd (not_before used settings.conf_path old.stock.files new.stock outcome.end (subst IsOfTool (sym done) tt) before.0)
+  | inl before ↦ absurd (not_before used settings.conf_path (ground_in old).sources (ground_in new) outcome.end (subst IsOfTool (sym done) tt) before.0)
   | inr worked ↦ as_used used settings old new outcome saves worked
 ]
 
@@ -134,20 +145,37 @@ pub record HasSaved (layers used : List LayerState) (files new : FilesState) : T
   pub counts : new.counts ≡ files.counts
   pub used_are : used ≡ each saved layers
 
-module _ (layers used : List LayerState) (files new : FilesState) (how : End) (done : how ≡ end.Done) where
-  was_saved : (ended : ToolEnd) → IsSaved layers used files new ended how → HasSaved layers used files new
+unsent_other : (error : LinkError) → end_unsent error ≡ end.Done → ⊥
+unsent_other Failed is = cc
+unsent_other OutOfMemory is = cc
+
+module _ (left new : Ground) (how : End) (done : how ≡ end.Done) where
+  was_saved : (ended : ToolEnd) → IsSaved left new ended how → HasSaved left.used new.used left.sources.files new.sources.files
   was_saved ended is = record { files_are = is.files_are; counts = is.counts; used_are = is.used_are }
 
-  pub saved_so : (ended : ToolEnd) → Finishes layers used ended files new how → (ended ≡ tool.Done) × HasSaved layers used files new
+  was_sent : (ended : ToolEnd) → IsUnsent left new ended how → ⊥
+  was_sent ended unsent = unsent_other unsent.error (sym unsent.end_is ∙ done)
+
+  -- what goes out through a pipe was sent
+  pub sent_so : Finishes left new tool.Done how → SendsOf tool.Done left new (Ok tt)
+  sent_so (inl is) = is.sent
+  sent_so (inr (inl failed)) = failed.sent
+  sent_so (inr (inr (inl none))) = absurd (no_memory (sym none.end_is ∙ done))
+  sent_so (inr (inr (inr unsent))) = absurd (was_sent tool.Done unsent)
+
+  pub saved_so : (ended : ToolEnd) → Finishes left new ended how → (ended ≡ tool.Done) × HasSaved left.used new.used left.sources.files new.sources.files
   saved_so tool.Done (inl is) = (refl, was_saved tool.Done is)
   saved_so tool.Done (inr (inl failed)) = absurd (no_fault failed.path (sym failed.end_is ∙ done))
-  saved_so tool.Done (inr (inr none)) = absurd (no_memory (sym none.end_is ∙ done))
+  saved_so tool.Done (inr (inr (inl none))) = absurd (no_memory (sym none.end_is ∙ done))
+  saved_so tool.Done (inr (inr (inr unsent))) = absurd (was_sent tool.Done unsent)
   saved_so tool.LinkFault (inl is) = absurd (let e : end.LinkFault ≡ end.Done = sym is.end_is ∙ done in cc)
   saved_so tool.LinkFault (inr (inl failed)) = absurd (let e : end.LinkFault ≡ end.Done = sym failed.end_is ∙ done in cc)
-  saved_so tool.LinkFault (inr (inr none)) = absurd (no_memory (sym none.end_is ∙ done))
+  saved_so tool.LinkFault (inr (inr (inl none))) = absurd (no_memory (sym none.end_is ∙ done))
+  saved_so tool.LinkFault (inr (inr (inr unsent))) = absurd (was_sent tool.LinkFault unsent)
   saved_so tool.TooLong (inl is) = absurd (let e : end.TooLong ≡ end.Done = sym is.end_is ∙ done in cc)
   saved_so tool.TooLong (inr (inl failed)) = absurd (let e : end.TooLong ≡ end.Done = sym failed.end_is ∙ done in cc)
-  saved_so tool.TooLong (inr (inr none)) = absurd (no_memory (sym none.end_is ∙ done))
+  saved_so tool.TooLong (inr (inr (inl none))) = absurd (no_memory (sym none.end_is ∙ done))
+  saved_so tool.TooLong (inr (inr (inr unsent))) = absurd (was_sent tool.TooLong unsent)
   saved_so tool.PrintFault broken = absurd (let e : end.LinkFault ≡ end.Done = sym broken.end_is ∙ done in cc)
   saved_so tool.TermFault broken = absurd (let e : end.TermFault ≡ end.Done = sym broken.end_is ∙ done in cc)
   saved_so tool.ChildFault broken = absurd (let e : end.ChildFault ≡ end.Done = sym broken.end_is ∙ done in cc)
@@ -160,7 +188,7 @@ pub record HasKept (keeps : Bool) (layers used : List LayerState) (files new : F
   pub counts : new.counts ≡ files.counts
   pub used_are : used ≡ (if keeps then each saved layers else layers)
 
-module _ (layers used : List LayerState) (files new : FilesState) (how : End) (done : how ≡ end.Done) where
+module _ (left new : Ground) (how : End) (done : how ≡ end.Done) where
   done_unsaved : (ended : ToolEnd) → how ≡ end_of ended → ended ≡ tool.Done
   done_unsaved tool.Done is = refl
   done_unsaved tool.LinkFault is = absurd (let e : end.LinkFault ≡ end.Done = sym is ∙ done in cc)
@@ -171,13 +199,17 @@ module _ (layers used : List LayerState) (files new : FilesState) (how : End) (d
   done_unsaved tool.OutOfMemory is = absurd (no_memory (sym is ∙ done))
   done_unsaved (tool.FilesFault path) is = absurd (no_fault path (sym is ∙ done))
 
-  pub kept_so : (keeps : Bool) (ended : ToolEnd) → FinishesWhere keeps layers used ended files new how → (ended ≡ tool.Done) × HasKept keeps layers used files new
+  pub kept_so : (keeps : Bool) (ended : ToolEnd) → FinishesWhere keeps left new ended how → (ended ≡ tool.Done) × HasKept keeps left.used new.used left.sources.files new.sources.files
   kept_so true ended finishes =
-      let so = saved_so layers used files new how done ended finishes in
+      let so = saved_so left new how done ended finishes in
       (so.0, record { files_are = so.1.files_are; counts = so.1.counts; used_are = so.1.used_are })
   kept_so false ended broken = (
     done_unsaved ended broken.end_is,
-    record { files_are = ap (λ (f : FilesState). f.view) broken.files_are; counts = ap (λ (f : FilesState). f.counts) broken.files_are; used_are = broken.used_are },
+    record {
+      files_are = ap (λ (g : Ground). g.sources.files.view) broken.stays;
+      counts = ap (λ (g : Ground). g.sources.files.counts) broken.stays;
+      used_are = ap (λ (g : Ground). g.used) broken.stays;
+    },
   )
 
 -- ---- a session that was done

@@ -3,6 +3,7 @@ pub mod BehindLaw
 pub mod CallsLaw
 pub mod CleanLaw
 pub mod CommunicateLaw
+pub mod CopyLaw
 pub mod CountLemmas
 pub mod CountsLater
 pub mod EndLemmas

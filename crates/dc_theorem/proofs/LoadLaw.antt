@@ -9,7 +9,7 @@ use Rattle.dc_run.specs.Ends.{status_of}
 use Rattle.dc_run.specs.OneRound.{HasUsed}
 use Rattle.dc_run.specs.Starting.{begun}
 use Rattle.dc_run.specs.TemplateLoading.{FileTurn, IsFileCourse, paths_of, state_after, lines_of, load_status, HasLoadedFiles}
-use Rattle.dc_run.specs.World.{World, before_rounds}
+use Rattle.dc_run.specs.World.{World, before_rounds, ground_of, on_ground}
 use Rattle.dc_run.specs.declared.outcome.Outcome.{Outcome}
 use Rattle.dc_run.specs.declared.outcome.ToolEnd.{ToolEnd}
 use Rattle.dc_run.specs.declared.outcome.ToolEnd.TheVariants as tool
@@ -59,7 +59,7 @@ module _ (words : List (List ℕ)) (owner : List ℕ) (paths : List (List ℕ)) 
 
   module _ (old new : World) (outcome : Outcome) (clean : IsClean words settings disk calls old new outcome) (has : HasUsed (LoadTemplate owner paths) settings old new outcome) where
     abbrev start : SessionState
-    start = begun (LoadTemplate owner paths) (before_rounds (record old { stock = has.mid })) has.roots settings
+    start = begun (LoadTemplate owner paths) (before_rounds (on_ground old has.mid)) has.roots settings
 
     loads : LoadsEach start paths has.told has.answer.status has.uses.0.state
     loads =
@@ -69,9 +69,9 @@ module _ (words : List (List ℕ)) (owner : List ℕ) (paths : List (List ℕ)) 
     err_is : has.left.err ≡ old.err
     err_is = ap (λ (l : Resources). l.err) has.uses.0.left_is ∙ ap (λ (s : SessionState). s.err) loads.new_is ∙ files_silent start loads.transitions loads.course
 
-    mid_high : has.mid.files.counts.faults ≤ old.stock.files.counts.faults
+    mid_high : has.mid.sources.files.counts.faults ≤ old.stock.files.counts.faults
     mid_high =
-        let later : has.mid.files.counts.faults ≤ (state_after start loads.transitions).files.counts.faults = loads_later start loads.transitions loads.course in
+        let later : has.mid.sources.files.counts.faults ≤ (state_after start loads.transitions).files.counts.faults = loads_later start loads.transitions loads.course in
         let high : (state_after start loads.transitions).files.counts.faults ≤ old.stock.files.counts.faults
         = subst (λ (f : FilesState). f.counts.faults ≤ old.stock.files.counts.faults) (ap (λ (l : Resources). l.files) has.uses.0.left_is ∙ ap (λ (s : SessionState). s.files) loads.new_is) (left_sound words (LoadTemplate owner paths) settings disk calls old new outcome clean has) in
         omega arith
@@ -87,13 +87,13 @@ module _ (words : List (List ℕ)) (owner : List ℕ) (paths : List (List ℕ)) 
       (has : HasUsed (LoadTemplate owner paths) settings one new outcome) (other_has : HasUsed (LoadTemplate owner paths) settings other last again) where
     both_alike : LoadAlike one new outcome other last again
     both_alike =
-        let starts = same_start words (LoadTemplate owner paths) settings disk calls one new other last outcome again clean other_clean has other_has (mid_high one new outcome clean has) (mid_high other last again other_clean other_has) in
-        let begins = begun (LoadTemplate owner paths) (before_rounds (record one { stock = has.mid })) has.roots settings in
-        let other_begins = begun (LoadTemplate owner paths) (before_rounds (record other { stock = other_has.mid })) other_has.roots settings in
-        let counts = has.mid.files.counts in
+        let starts = same_start words (LoadTemplate owner paths) settings disk calls one new other last outcome again clean other_clean has other_has tt (mid_high one new outcome clean has) (mid_high other last again other_clean other_has) in
+        let begins = begun (LoadTemplate owner paths) (before_rounds (on_ground one has.mid)) has.roots settings in
+        let other_begins = begun (LoadTemplate owner paths) (before_rounds (on_ground other other_has.mid)) other_has.roots settings in
+        let counts = has.mid.sources.files.counts in
         let err = one.err in
         let begin : with_outside counts err other_begins ≡ begins
-        = λ i. begun (LoadTemplate owner paths) (before_rounds (record one { stock = record { files = record { view = sym starts.told i; counts = counts }; used = sym starts.used i } })) (sym starts.roots_are i) settings in
+        = λ i. begun (LoadTemplate owner paths) (before_rounds (on_ground one (ground_of (record { view = sym starts.told i; counts = counts }) has.mid.sources.link (sym starts.used i)))) (sym starts.roots_are i) settings in
         let first = loads one new outcome clean has in
         let second : LoadsEach begins paths other_has.told other_has.answer.status (with_outside counts err other_has.uses.0.state)
         = subst (λ (s : SessionState). LoadsEach s paths other_has.told other_has.answer.status (with_outside counts err other_has.uses.0.state)) begin

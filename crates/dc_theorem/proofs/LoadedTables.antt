@@ -1,5 +1,5 @@
 -- What was loaded are tables: each name that is seen in them is a name, and each item an item.
-use Rattle.std.proofs.Common.{◌≡◌, ℕ, zero, suc, true, false, cond, List, [], ◌∷◌, ◌++◌, Option, Some, None, map as each, refl, sym, ap, subst, ◌∙◌}
+use Rattle.std.proofs.Common.{◌≡◌, Bool, ℕ, zero, suc, true, false, cond, List, [], ◌∷◌, ◌++◌, Option, Some, None, map as each, refl, sym, ap, subst, ◌∙◌}
 use Rattle.std.specs.Prelude.{Result, Ok, Err, IfSome, codes, option_and_then}
 use Rattle.std.specs.FinMap as map
 use Rattle.std.specs.FinMap.{find, get-empty, get-from_entries}
@@ -11,11 +11,10 @@ use Rattle.std.proofs.lemmas.List.{map-append}
 use Rattle.dc_text.specs.Lines.{lines_of}
 use Rattle.dc_text.specs.Maps.{text_cmp}
 use Rattle.dc_text.specs.Names.{is_name}
-use Rattle.dc_outside.specs.Counts.{Counts}
 use Rattle.dc_outside.specs.Disk.{Disk}
-use Rattle.dc_outside.specs.State.{FilesView}
+use Rattle.dc_outside.specs.State.{LinkState}
 use Rattle.dc_conf.specs.declared.spec.LayerSort.{LayerSort}
-use Rattle.dc_conf.specs.declared.spec.LayerSort.TheVariants.{File, Tree, Pack}
+use Rattle.dc_conf.specs.declared.spec.LayerSort.TheVariants.{File, Tree, Pack, Pipe}
 use Rattle.dc_conf.specs.declared.spec.LayerSpec.{LayerSpec}
 use Rattle.dc_item.specs.Item.{IsItem, ItemParts}
 use Rattle.dc_item.specs.Records.{Reads}
@@ -29,11 +28,15 @@ use Rattle.dc_conf.specs.Plans.{leaves}
 use Rattle.dc_store.proofs.Searches.{look_step}
 use Rattle.dc_question.specs.Questions.{QuestionContext, question, template}
 use Rattle.dc_save.specs.FolderLoading.{HoldAll, Holds, IsFolderHere, its_files}
-use Rattle.dc_save.specs.Loading.{IsHere, LoadsBy, LoadsLayer, text_in, with_loaded}
-use Rattle.dc_save.specs.declared.loading.LoadError.{LoadError}
+use Rattle.dc_save.specs.Loading.{IsHere, LoadsBy, text_in, with_loaded}
+use Rattle.dc_save.specs.PipeLoading.{LoadsWhere}
+use Rattle.dc_save.specs.declared.pipe_loading.PipeLoaded.{PipeLoaded}
+use Rattle.dc_save.specs.declared.pipe_loading.PipeLoaded.TheVariants as piped
 use Rattle.dc_save.specs.declared.loading.Loaded.{Loaded}
 use Rattle.dc_save.specs.declared.loading.Loaded.TheVariants.{Here, LeftOut}
-use Rattle.dc_shelf.specs.Shelves.{GoesOn, LoadsAll, all_set_up}
+use Rattle.dc_shelf.specs.Shelves.{GoesOn, LoadAnswer, LoadsAll, LoadsOne, Sources, all_set_up}
+use Rattle.dc_shelf.specs.declared.loading.SourceError.{SourceError}
+use Rattle.dc_shelf.specs.declared.loading.SourceError.TheVariants as source
 use Rattle.dc_dump.specs.SetAgain.{IsHeld}
 
 -- ---- the tables of records
@@ -105,14 +108,23 @@ table_by Pack disk spec layer made Here loads = folder_table disk spec layer mad
 table_by File disk spec layer made LeftOut loads = out_table layer made loads.1
 table_by Tree disk spec layer made LeftOut loads = out_table layer made loads.1
 table_by Pack disk spec layer made LeftOut loads = out_table layer made loads.1
+table_by Pipe disk spec layer made loaded loads = absurd loads
+
+-- of one that comes through a pipe, whose layer had a table before, which stays where nothing is read
+piped_table : (infd : Bool) (spec : LayerSpec) (layer made : LayerState) (old new : LinkState) (loaded : PipeLoaded) → IsTable layer.table → LoadsWhere infd spec layer made old new (Ok loaded) → IsTable made.table
+piped_table true spec layer made old new piped.Here before is = subst IsTable (sym (ap (λ (l : LayerState). l.table) is.layer_is)) (read_table is.text is.records is.reads)
+piped_table true spec layer made old new piped.LeftOut before is = out_table layer made is.2
+piped_table false spec layer made old new loaded before is = subst IsTable (sym (ap (λ (l : LayerState). l.table) is.1)) before
+
+no_error : (error : SourceError) → ◌≡◌ {A = Result (Unit {0}) SourceError} (Ok tt) (Err error) → ⊥
+no_error error is = cc
 
 -- the load was answered, and the others follow
-goes_on : (disk : Option Disk) (spec : LayerSpec) (layer made : LayerState) (more last : Type 0) (first : Result Loaded LoadError) → LoadsLayer disk spec layer made first → GoesOn first (Ok tt) more last
-    → IsTable made.table × more
-goes_on disk spec layer made more last (Ok loaded) loads goes = (table_by spec.sort disk spec layer made loaded loads, goes)
-goes_on disk spec layer made more last (Err error) loads goes = absurd (no_error goes.0) where
-  no_error : ◌≡◌ {A = Result (Unit {0}) LoadError} (Ok tt) (Err error) → ⊥
-  no_error is = cc
+goes_on : (spec : LayerSpec) (layer made : LayerState) (from mid : Sources) (more last : Type 0) (first : LoadAnswer) → IsTable layer.table → LoadsOne spec layer made from mid first → GoesOn first (Ok tt) more last → IsTable made.table × more
+goes_on spec layer made from mid more last (LoadAnswer.OfFiles (Ok loaded)) before is goes = (table_by spec.sort from.files.view.disk spec layer made loaded is.0, goes)
+goes_on spec layer made from mid more last (LoadAnswer.OfPipe (Ok loaded)) before is goes = (piped_table spec.infd spec layer made from.link mid.link loaded before is.1, goes)
+goes_on spec layer made from mid more last (LoadAnswer.OfFiles (Err error)) before is goes = absurd (no_error (source.Files error) goes.0)
+goes_on spec layer made from mid more last (LoadAnswer.OfPipe (Err error)) before is goes = absurd (no_error (source.Pipe error) goes.0)
 
 -- ---- all loads
 
@@ -120,12 +132,12 @@ goes_on disk spec layer made more last (Err error) loads goes = absurd (no_error
 abbrev pub AreTables : List LayerState → Type 0
 AreTables layers = AllByRecursion (λ layer. IsTable layer.table) layers
 
-pub loads_tables : (specs : List LayerSpec) (new : List LayerState) (files files_new : FilesView) (before now : Counts) → LoadsAll specs (all_set_up specs) new files files_new before now (Ok tt) → AreTables new
-loads_tables [] new files files_new before now loads = subst AreTables (sym loads.1) tt
-loads_tables (spec ∷ specs) [] files files_new before now loads = absurd loads
-loads_tables (spec ∷ specs) (made ∷ new) files files_new before now loads =
-    let goes = goes_on files.disk spec (set_up (blank spec.sort) spec) made _ _ loads.0 loads.3 loads.6 in
-    (goes.0, loads_tables specs new loads.1 files_new loads.2 now goes.1)
+pub loads_tables : (specs : List LayerSpec) (new : List LayerState) (from left : Sources) → LoadsAll specs (all_set_up specs) new from left (Ok tt) → AreTables new
+loads_tables [] new from left loads = subst AreTables (sym loads.1) tt
+loads_tables (spec ∷ specs) [] from left loads = absurd loads
+loads_tables (spec ∷ specs) (made ∷ new) from left loads =
+    let goes = goes_on spec (set_up (blank spec.sort) spec) made from loads.1 _ _ loads.0 empty_table loads.2 loads.3 in
+    (goes.0, loads_tables specs new loads.1 left goes.1)
 
 -- ---- what is seen
 

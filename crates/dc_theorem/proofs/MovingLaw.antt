@@ -1,4 +1,5 @@
 -- What one run printed is set by another.
+use Rattle.dc_run.proofs.PipeLemmas.{io_stays, io_unused}
 use Rattle.std.proofs.Common.{◌≡◌, ℕ, Bool, true, false, if◌then◌else◌, List, [], ◌∷◌, ◌++◌, Option, Some, None, is_some, option_map, map as each, refl, sym, ap, subst, ◌∙◌, append-nil}
 use Rattle.std.specs.Prelude.{not, option_and_then}
 use Rattle.std.specs.Option.{option_map_or}
@@ -29,8 +30,8 @@ use Rattle.dc_cli.specs.declared.tool.Tool.TheVariants.{GetSelections, SetSelect
 use Rattle.dc_run.specs.Ends.{status_of}
 use Rattle.dc_run.specs.Jobs.{Prints, refused_status}
 use Rattle.dc_run.specs.OneRound.{HasUsed}
-use Rattle.dc_run.specs.Starting.{conf_read, context_of, databases_of, keeps_changes}
-use Rattle.dc_run.specs.World.{World}
+use Rattle.dc_run.specs.Starting.{conf_read_in, context_of, databases_of, keeps_changes}
+use Rattle.dc_run.specs.World.{World, ground_in, ground_of}
 use Rattle.dc_run.specs.declared.outcome.End.TheVariants as end
 use Rattle.dc_run.specs.declared.outcome.Outcome.{Outcome}
 use Rattle.dc_run.specs.declared.outcome.ToolEnd.{ToolEnd}
@@ -47,7 +48,7 @@ use Rattle.dc_theorem.specs.Moving.{AreMoved, AreNewTo, IsHandedOver, left_by, l
 
 module _ {used : Tool} {settings : Settings} {old new : World} {outcome : Outcome} (has : HasUsed used settings old new outcome) (done : outcome.end ≡ end.Done) where
   kept : (has.answer.ended ≡ tool.Done) × HasKept (keeps_changes used) has.left.layers new.stock.used has.left.files new.stock.files
-  kept = kept_so has.left.layers new.stock.used has.left.files new.stock.files has.how
+  kept = kept_so (ground_of has.left.files has.links.io has.left.layers) (ground_in new) has.how
       (waited has.answer.is_started has.links.child new.links.child has.how outcome.end has.answer.status has.status done has.awaits).0 (keeps_changes used) has.answer.ended has.finishes
 
   status_kept : has.answer.is_started ≡ false → outcome.status ≡ has.answer.status
@@ -126,11 +127,12 @@ module _ (settings other_settings : Settings) (old new other last : World) (outc
 
   module _ (done : outcome.end ≡ end.Done) (again_done : again.end ≡ end.Done) (clean : again.status ≡ 0) (over : IsHandedOver old.links.io new.links.io other.links.io) (are_new : AreNewTo (loaded says) (loaded sets)) where
     comes : other.links.io.input ≡ Some text
-    comes = handed text old.links.io new.links.io other.links.io says.answer.ended (kept says done).0 (subst (λ (l : LinkState). Prints text old.links.io l says.answer.ended) (sym says.io_is) says.uses.0.prints) over
+    comes = handed text old.links.io new.links.io other.links.io says.answer.ended (kept says done).0 (subst (λ (l : LinkState). Prints text old.links.io l says.answer.ended) (sym (io_stays GetSelections tt settings old new outcome says)) (subst (λ (l : LinkState). Prints text l says.links.io says.answer.ended) (io_unused GetSelections tt settings old new outcome says) says.uses.0.prints)) over
 
     selected : IsSelected start left other.links.io sets.links.io link.Done 0 sets.answer.last_code
     selected = subst (λ (e : LinkEnd NoMemory). IsSelected start left other.links.io sets.links.io e 0 sets.answer.last_code)
-        (selections_done sets.uses.0.ended (sym sets.uses.0.ended_is ∙ (kept sets again_done).0)) sets.uses.0.selected
+        (selections_done sets.uses.0.ended (sym sets.uses.0.ended_is ∙ (kept sets again_done).0))
+        (subst (λ (l : LinkState). IsSelected start left l sets.links.io sets.uses.0.ended 0 sets.answer.last_code) (io_unused (SetSelections verbose false false) tt other_settings other last again sets) sets.uses.0.selected)
 
     came : got selected.serves.run.pieces ≡ text
     came =
@@ -155,8 +157,7 @@ module _ (settings other_settings : Settings) (old new other last : World) (outc
     }
 
     tables : AreTables layers
-    tables = loads_tables (databases_of GetSelections says.roots.conf) layers (conf_read GetSelections old.stock.files.view settings.conf_path) says.mid.files.view old.stock.files.counts says.mid.files.counts
-        says.started.loaded.loads
+    tables = loads_tables (databases_of GetSelections says.roots.conf) layers (conf_read_in GetSelections settings.conf_path (ground_in old).sources) says.mid.sources says.started.loaded.loads
 
     set : AreSetAgain (said_at layers at) all start left
     set = set_again layers at all (held_in layers at tables all) (names_apart layers at.config) start left begins does free

@@ -1,4 +1,5 @@
 -- What comes in determines a run of `run`.
+use Rattle.dc_run.proofs.PipeLemmas.{io_stays, io_unused}
 use Rattle.std.proofs.Common.{◌≡◌, ℕ, false, true, List, [], Option, Some, inl, inr, refl, ap, sym, subst, ◌∙◌, arith}
 use Rattle.std.specs.Prelude.{◌≤◌}
 use Rattle.dc_outside.specs.State.{FilesState, LinkState}
@@ -13,7 +14,7 @@ use Rattle.dc_run.specs.OneRound.{HasUsed}
 use Rattle.dc_run.specs.Running.{IsStarted}
 use Rattle.dc_run.specs.SavingSession.{BreaksSaving, TakesSaving}
 use Rattle.dc_run.specs.Starting.{begun}
-use Rattle.dc_run.specs.World.{World, before_rounds}
+use Rattle.dc_run.specs.World.{World, before_rounds, on_ground, Ground, ground_of}
 use Rattle.dc_run.specs.declared.outcome.Outcome.{Outcome}
 use Rattle.dc_run.specs.declared.settings.Settings.{Settings}
 use Rattle.dc_cli.specs.Tools.{Names}
@@ -33,10 +34,10 @@ module _ (words : List (List ℕ)) (owner : List ℕ) (frontend : Option Fronten
 
   module _ (old new : World) (outcome : Outcome) (input : List ℕ) (clean : IsClean words settings disk calls old new outcome) (has : HasUsed (Run owner frontend priority command) settings old new outcome) (input_is : old.links.child.input ≡ Some input) where
     abbrev start : SessionState
-    start = begun (Run owner frontend priority command) (before_rounds (record old { stock = has.mid })) has.roots settings
+    start = begun (Run owner frontend priority command) (before_rounds (on_ground old has.mid)) has.roots settings
 
     -- its program was started
-    started : IsStarted command start old.links has.links 0 has.answer has.left has.inner
+    started : IsStarted command start (on_ground old has.mid).links has.links 0 has.answer has.left has.inner
     started = elim has.uses.0 [
       | inl none ↦ absurd (unstarted_other none.error (sym none.ended_is ∙ tool_done words (Run owner frontend priority command) settings disk calls old new outcome clean has))
       | inr is ↦ is
@@ -53,9 +54,9 @@ module _ (words : List (List ℕ)) (owner : List ℕ) (frontend : Option Fronten
     high : served.state.files.counts.faults ≤ old.stock.files.counts.faults
     high = subst (λ (f : FilesState). f.counts.faults ≤ old.stock.files.counts.faults) served.files_are (left_sound words (Run owner frontend priority command) settings disk calls old new outcome clean has)
 
-    mid_high : has.mid.files.counts.faults ≤ old.stock.files.counts.faults
+    mid_high : has.mid.sources.files.counts.faults ≤ old.stock.files.counts.faults
     mid_high =
-        let later : has.mid.files.counts.faults ≤ served.state.files.counts.faults
+        let later : has.mid.sources.files.counts.faults ≤ served.state.files.counts.faults
         = run_later input old.links.child.talk has.links.child.talk has.links.child.input start served.state 0 has.answer.last_code ran in
         let low : served.state.files.counts.faults ≤ old.stock.files.counts.faults = high in
         omega arith
@@ -71,21 +72,31 @@ module _ (words : List (List ℕ)) (owner : List ℕ) (frontend : Option Fronten
       (input_is : one.links.child.input ≡ Some input) (other_input_is : other.links.child.input ≡ Some input) (terminals : AreTypedAlike one.links.io other.links.io) where
     starts : StartAlike has.mid other_has.mid has.roots other_has.roots
     starts =
-        same_start words (Run owner frontend priority command) settings disk calls one new other last outcome again clean other_clean has other_has (mid_high one new outcome input clean has input_is)
+        same_start words (Run owner frontend priority command) settings disk calls one new other last outcome again clean other_clean has other_has tt (mid_high one new outcome input clean has input_is)
         (mid_high other last again input other_clean other_has other_input_is)
+
+    unused : has.mid.sources.link ≡ one.links.io
+    unused = io_unused (Run owner frontend priority command) tt settings one new outcome has
+
+    other_unused : other_has.mid.sources.link ≡ other.links.io
+    other_unused = io_unused (Run owner frontend priority command) tt settings other last again other_has
 
     never : (bytes : List ℕ) → false ≡ true → bytes ≡ []
     never bytes is = absurd (cc)
 
+    -- what the one began with, but for the link, which is the other's
+    abbrev there : Ground
+    there = record has.mid { sources = record has.mid.sources { link = other_has.mid.sources.link } }
+
     -- the sessions began alike
-    starts_alike : AreAlike (begun (Run owner frontend priority command) (before_rounds (record one { stock = has.mid })) has.roots settings) (begun (Run owner frontend priority command) (before_rounds (record other { stock = has.mid })) has.roots settings)
+    starts_alike : AreAlike (begun (Run owner frontend priority command) (before_rounds (on_ground one has.mid)) has.roots settings) (begun (Run owner frontend priority command) (before_rounds (on_ground other there)) has.roots settings)
     starts_alike = record {
       rest = refl;
       terminals = record {
         first = record { ahead = nothing_typed; talk = terminals.talk; input = terminals.input };
         second = record { ahead = nothing_typed; talk = terminals.other_talk; input = terminals.input };
-        one_is = record { ahead = refl; talk = terminals.one_talk_is; input = terminals.one_input_is; used_up = never terminals.input };
-        other_is = record { ahead = refl; talk = terminals.other_talk_is; input = terminals.other_input_is; used_up = never terminals.input };
+        one_is = record { ahead = refl; talk = ap (λ (l : LinkState). l.talk) unused ∙ terminals.one_talk_is; input = ap (λ (l : LinkState). l.input) unused ∙ terminals.one_input_is; used_up = never terminals.input };
+        other_is = record { ahead = refl; talk = ap (λ (l : LinkState). l.talk) other_unused ∙ terminals.other_talk_is; input = ap (λ (l : LinkState). l.input) other_unused ∙ terminals.other_input_is; used_up = never terminals.input };
         said = terminals.said;
         same = refl;
       };
@@ -96,18 +107,18 @@ module _ (words : List (List ℕ)) (owner : List ℕ) (frontend : Option Fronten
         let first = served one new outcome input clean has input_is in
         let second = served other last again input other_clean other_has other_input_is in
         let one_ran = ran one new outcome input clean has input_is in
-        let begins = begun (Run owner frontend priority command) (before_rounds (record other { stock = has.mid })) has.roots settings in
-        let other_begins = begun (Run owner frontend priority command) (before_rounds (record other { stock = other_has.mid })) other_has.roots settings in
-        let counts = has.mid.files.counts in
+        let begins = begun (Run owner frontend priority command) (before_rounds (on_ground other there)) has.roots settings in
+        let other_begins = begun (Run owner frontend priority command) (before_rounds (on_ground other other_has.mid)) other_has.roots settings in
+        let counts = has.mid.sources.files.counts in
         let recounted = run_with counts other.stock.files.counts.faults other_clean.none_failed.room other.links.child.talk other_has.links.child.talk (Some input) other_has.links.child.input other_begins second.state 0 other_has.answer.last_code
         (starts_low words (Run owner frontend priority command) settings disk calls other last again other_clean other_has) (high other last again input other_clean other_has other_input_is) (ran other last again input other_clean other_has other_input_is) in
         let begin : with_counts counts other_begins ≡ begins
-        = λ i. begun (Run owner frontend priority command) (before_rounds (record other { stock = record { files = record { view = sym starts.told i; counts = counts }; used = sym starts.used i } })) (sym starts.roots_are i) settings in
+        = λ i. begun (Run owner frontend priority command) (before_rounds (on_ground other (ground_of (record { view = sym starts.told i; counts = counts }) other_has.mid.sources.link (sym starts.used i)))) (sym starts.roots_are i) settings in
         let other_ran : IsLinkRun TakesSaving BreaksSaving other.links.child.talk other_has.links.child.talk (Some input) other_has.links.child.input begins link.Done (with_counts counts second.state) 0 other_has.answer.last_code
         = subst (λ (s : SessionState). IsLinkRun TakesSaving BreaksSaving other.links.child.talk other_has.links.child.talk (Some input) other_has.links.child.input s link.Done (with_counts counts second.state) 0 other_has.answer.last_code) begin recounted in
         let disk_told = starts_told words (Run owner frontend priority command) settings disk calls one new outcome clean has in
         let same = run_alike one.stock.files.counts.faults clean.none_failed.room disk disk_told.0 input one.links.child.talk has.links.child.talk other.links.child.talk other_has.links.child.talk has.links.child.input other_has.links.child.input
-        (begun (Run owner frontend priority command) (before_rounds (record one { stock = has.mid })) has.roots settings) begins first.state (with_counts counts second.state) 0 has.answer.last_code other_has.answer.last_code
+        (begun (Run owner frontend priority command) (before_rounds (on_ground one has.mid)) has.roots settings) begins first.state (with_counts counts second.state) 0 has.answer.last_code other_has.answer.last_code
         disk_told.1 starts_alike (starts_low words (Run owner frontend priority command) settings disk calls one new outcome clean has)
         (high one new outcome input clean has input_is) (mid_high one new outcome input clean has input_is) one_ran other_ran in
         let layers : has.left.layers ≡ other_has.left.layers = first.layers_are ∙ ap (λ (s : SessionState). (finished s).layers) (sym same.0.states.rest) ∙ sym second.layers_are in
@@ -127,8 +138,8 @@ module _ (words : List (List ℕ)) (owner : List ℕ) (frontend : Option Fronten
           shown = record {
             talk = same.0.states.terminals.first.talk;
             other_talk = same.0.states.terminals.second.talk;
-            one_is = ap (λ (l : LinkState). l.talk) (has.io_is ∙ (started one new outcome input clean has input_is).io ∙ ap (λ (t : TerminalState). t.link) first.terminal_is) ∙ same.0.states.terminals.one_is.talk;
-            other_is = ap (λ (l : LinkState). l.talk) (other_has.io_is ∙ (started other last again input other_clean other_has other_input_is).io ∙ ap (λ (t : TerminalState). t.link) second.terminal_is) ∙ same.0.states.terminals.other_is.talk;
+            one_is = ap (λ (l : LinkState). l.talk) (io_stays (Run owner frontend priority command) tt settings one new outcome has ∙ (started one new outcome input clean has input_is).io ∙ ap (λ (t : TerminalState). t.link) first.terminal_is) ∙ same.0.states.terminals.one_is.talk;
+            other_is = ap (λ (l : LinkState). l.talk) (io_stays (Run owner frontend priority command) tt settings other last again other_has ∙ (started other last again input other_clean other_has other_input_is).io ∙ ap (λ (t : TerminalState). t.link) second.terminal_is) ∙ same.0.states.terminals.other_is.talk;
             said = same.0.states.terminals.said;
           };
         }

@@ -1,4 +1,5 @@
 -- Two runs of `set-selections` into which the same comes.
+use Rattle.dc_run.proofs.PipeLemmas.{io_unused}
 use Rattle.std.proofs.Common.{◌≡◌, ◌||◌, inl, inr, ℕ, Bool, false, List, [], ◌∷◌, ◌++◌, Option, Some, refl, sym, ap, subst, ◌∙◌}
 use Rattle.std.specs.Prelude.{◌≤◌, Ok, Err}
 use Rattle.dc_text.specs.declared.memory.OutOfMemory.{OutOfMemory as NoMemory}
@@ -28,7 +29,7 @@ use Rattle.dc_run.specs.Ends.{status_of}
 use Rattle.dc_run.specs.Jobs.{refused_status, selections_end}
 use Rattle.dc_run.specs.OneRound.{HasUsed}
 use Rattle.dc_run.specs.Starting.{begun}
-use Rattle.dc_run.specs.World.{Stock, World, before_rounds}
+use Rattle.dc_run.specs.World.{World, before_rounds, Ground, ground_of, on_ground}
 use Rattle.dc_run.specs.declared.outcome.Outcome.{Outcome as RunOutcome}
 use Rattle.dc_run.specs.declared.outcome.ToolEnd.TheVariants as tool
 use Rattle.dc_run.specs.declared.settings.Settings.{Settings}
@@ -154,8 +155,8 @@ module _ (words : List (List ℕ)) (verbose check unseen : Bool) (settings : Set
   choices = record { verbose = verbose; check = check; unseen = unseen }
 
   -- the selections that a run begins with over its stock
-  abbrev start : World → Stock → Roots → SelectorState
-  start old mid roots = selections_over mid.used (begun Used (before_rounds (record old { stock = mid })) roots settings).at choices old.err
+  abbrev start : World → Ground → Roots → SelectorState
+  start old mid roots = selections_over mid.used (begun Used (before_rounds (on_ground old mid)) roots settings).at choices old.err
 
   module _ (old new : World) (outcome : RunOutcome) (input : List ℕ) (clean : IsClean words settings disk calls old new outcome) (has : HasUsed Used settings old new outcome) (input_is : old.links.io.input ≡ Some input) where
     abbrev state : SelectorState
@@ -163,7 +164,8 @@ module _ (words : List (List ℕ)) (verbose check unseen : Bool) (settings : Set
 
     selected : IsSelected (start old has.mid has.roots) state old.links.io has.links.io link.Done 0 has.answer.last_code
     selected = subst (λ (e : LinkEnd NoMemory). IsSelected (start old has.mid has.roots) state old.links.io has.links.io e 0 has.answer.last_code)
-        (selections_done has.uses.0.ended (sym has.uses.0.ended_is ∙ tool_done words Used settings disk calls old new outcome clean has)) has.uses.0.selected
+        (selections_done has.uses.0.ended (sym has.uses.0.ended_is ∙ tool_done words Used settings disk calls old new outcome clean has))
+        (subst (λ (l : LinkState). IsSelected (start old has.mid has.roots) state l has.links.io has.uses.0.ended 0 has.answer.last_code) (io_unused Used tt settings old new outcome has) has.uses.0.selected)
 
     came : got selected.serves.run.pieces ≡ input
     came =
@@ -192,7 +194,7 @@ module _ (words : List (List ℕ)) (verbose check unseen : Bool) (settings : Set
         (subst (λ (l : LinkState). HasSaid (end_line outcome.end) l new.err) (ap (λ (l : Resources). l.err) has.uses.0.left_is)
         (subst (λ (t : List ℕ). HasSaid (t ++ end_line outcome.end) has.left.err new.err) has.uses.2 has.said))
 
-    taken_high : has.mid.files.counts.faults ≤ old.stock.files.counts.faults
+    taken_high : has.mid.sources.files.counts.faults ≤ old.stock.files.counts.faults
     taken_high = subst (λ (f : FilesState). f.counts.faults ≤ old.stock.files.counts.faults) (ap (λ (l : Resources). l.files) has.uses.0.left_is) (left_sound words Used settings disk calls old new outcome clean has)
 
     taken_status : outcome.status ≡ refused_status state.refused
@@ -209,13 +211,13 @@ module _ (words : List (List ℕ)) (verbose check unseen : Bool) (settings : Set
       let other_has = was_used words settings disk calls other last again Used named other_clean in
       let high = taken_high one new outcome input clean has input_is in
       let other_high = taken_high other last again input other_clean other_has other_input_is in
-      let starts = same_start words Used settings disk calls one new other last outcome again clean other_clean has other_has high other_high in
+      let starts = same_start words Used settings disk calls one new other last outcome again clean other_clean has other_has tt high other_high in
       let err = one.err in
       let begins = start one has.mid has.roots in
       let other_begins = start other other_has.mid other_has.roots in
       let joined = all_joined (all_lines input) in
       let begin : with_err err begins ≡ with_err err other_begins
-      = λ i. with_err err (start one (record { files = other_has.mid.files; used = starts.used i }) (starts.roots_are i)) in
+      = λ i. with_err err (start one (ground_of other_has.mid.sources.files other_has.mid.sources.link (starts.used i)) (starts.roots_are i)) in
       let first = leaves one new outcome input clean has input_is err in
       let second = leaves other last again input other_clean other_has other_input_is err in
       let left : ◌≡◌ {A = SelectorState} (with_err err (record has.uses.0.state { joining = at_start })) (with_err err (record other_has.uses.0.state { joining = at_start }))
@@ -231,7 +233,7 @@ module _ (words : List (List ℕ)) (verbose check unseen : Bool) (settings : Set
               one_is = tells one new outcome input clean has input_is;
               other_is = subst (λ (t : List ℕ). HasSaid t other.err last.err) (λ i. sym told i ++ end_line ((other_clean.done ∙ sym clean.done) i)) (tells other last again input other_clean other_has other_input_is);
             })
-            (says_no_code begins has.uses.0.state one.links.io has.links.io has.uses.0.ended 0 has.answer.last_code has.uses.0.selected
-            ∙ sym (says_no_code other_begins other_has.uses.0.state other.links.io other_has.links.io other_has.uses.0.ended 0 other_has.answer.last_code other_has.uses.0.selected));
+            (says_no_code begins has.uses.0.state has.mid.sources.link has.links.io has.uses.0.ended 0 has.answer.last_code has.uses.0.selected
+            ∙ sym (says_no_code other_begins other_has.uses.0.state other_has.mid.sources.link other_has.links.io other_has.uses.0.ended 0 other_has.answer.last_code other_has.uses.0.selected));
         status = taken_status other last again input other_clean other_has other_input_is ∙ sym (ap (λ (s : SelectorState). refused_status s.refused) left) ∙ sym (taken_status one new outcome input clean has input_is);
       }

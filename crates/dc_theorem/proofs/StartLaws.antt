@@ -1,7 +1,9 @@
 -- What the files hold determines what a run begins from, where no call of them failed.
-use Rattle.std.proofs.Common.{if◌then◌else◌, ◌≡◌, ℕ, Bool, true, false, refl, List, [], ◌∷◌, ◌++◌, Option, None, Some, ap, sym, subst, inl, inr, ◌∙◌, arith}
+use Rattle.std.proofs.Common.{if◌then◌else◌, ◌⊎◌, ◌||◌, ◌&&◌, append-nil, ◌≡◌, ℕ, Bool, true, false, refl, List, [], ◌∷◌, ◌++◌, Option, None, Some, ap, sym, subst, inl, inr, ◌∙◌, arith}
 use Rattle.std.specs.Prelude.{◌-◌, ◌^◌, ◌<◌, ◌≤◌, true, false, map as each, Result, Ok, Err}
-use Rattle.dc_outside.specs.State.{FilesState, FilesView}
+use Rattle.std.specs.Io.KnownBytes.{IsAtEnd, prepend_known}
+use Rattle.std.specs.List.{list_any}
+use Rattle.dc_outside.specs.State.{FilesState, FilesView, LinkState}
 use Rattle.dc_item.specs.Records.{Reads}
 use Rattle.dc_item.specs.Table.{table_of}
 use Rattle.dc_item.specs.declared.entry.Entry.{Entry}
@@ -13,28 +15,63 @@ use Rattle.dc_outside.specs.declared.files.FilesOp.TheVariants.{Read, List as Li
 use Rattle.dc_conf.specs.Configuration.{Configuration, configuration}
 use Rattle.dc_conf.specs.Stanzas.{stanzas, fields_of}
 use Rattle.dc_conf.specs.declared.spec.LayerSpec.{LayerSpec}
-use Rattle.dc_layer.specs.State.{LayerState}
+use Rattle.dc_layer.specs.State.{LayerState, is_pipe}
 use Rattle.dc_conf.specs.declared.spec.LayerSort.{LayerSort}
-use Rattle.dc_conf.specs.declared.spec.LayerSort.TheVariants.{File, Tree, Pack}
+use Rattle.dc_conf.specs.declared.spec.LayerSort.TheVariants.{File, Tree, Pack, Pipe}
 use Rattle.dc_save.specs.FolderLoading.{Holds, HoldAll, IsListedAt, IsFolderHere, LoadsFolderFiles, FailsOn, its_files, path_at, reads_of, after_reads}
-use Rattle.dc_save.specs.Loading.{LoadsBy, LoadsFilesBy, LoadCountsBy, LoadsLayer, LoadsFiles, LoadCounts, IsHere, with_loaded, text_in}
+use Rattle.dc_save.specs.Loading.{LoadsBy, LoadsFilesBy, LoadCountsBy, LoadsLayer, LoadsFiles, IsHere, with_loaded, text_in}
 use Rattle.dc_run.proofs.CrashLemmas.{load_reads as load_disk}
 use Rattle.dc_save.specs.declared.loading.Loaded.{Loaded}
 use Rattle.dc_save.specs.declared.loading.Loaded.TheVariants.{Here, LeftOut}
-use Rattle.dc_save.specs.declared.loading.LoadError.{LoadError}
-use Rattle.dc_shelf.specs.Shelves.{all_set_up, GoesOn, LoadsAll}
+use Rattle.dc_save.specs.PipeLoading.{IsPiped, IsReadWhole, LoadsPipe, LoadsWhere}
+use Rattle.dc_save.specs.declared.pipe_loading.PipeLoaded.{PipeLoaded}
+use Rattle.dc_save.specs.declared.pipe_loading.PipeLoaded.TheVariants as piped
+use Rattle.dc_run.proofs.LoadCounts.{PipeCounts, pipe_counts}
+use Rattle.dc_shelf.specs.Shelves.{all_set_up, GoesOn, LoadAnswer, LoadsAll, LoadsOne, Sources}
+use Rattle.dc_shelf.specs.declared.loading.SourceError.{SourceError}
+use Rattle.dc_shelf.specs.declared.loading.SourceError.TheVariants as source
 use Rattle.dc_session.proofs.Determined.{IsTold}
 use Rattle.dc_cli.specs.declared.tool.CopyWords.{CopyWords}
 use Rattle.dc_cli.specs.declared.tool.Tool.{Tool}
 use Rattle.dc_cli.specs.declared.tool.Tool.TheVariants.{Communicate, LoadTemplate, Run, Show, CopyDb, SetSelections, GetSelections, Drill}
 use Rattle.dc_conf.proofs.NodeLemmas.{one_plan}
-use Rattle.dc_run.specs.Starting.{has_files, loaded_of, IsConfiguration, IsCopyIn, IsCopyOf, IsPlanIn, conf_read, conf_text, databases_of, HasStarted, source_of}
-use Rattle.dc_run.specs.World.{Stock}
+use Rattle.dc_run.specs.Starting.{has_files, loaded_of, IsConfiguration, IsCopyIn, IsCopyOf, IsPlanIn, conf_read, conf_read_in, conf_text, databases_of, HasStarted, source_of}
+use Rattle.dc_run.specs.World.{Ground}
 use Rattle.dc_run.specs.Roots.{CopyRoots, Roots}
 use Rattle.dc_theorem.proofs.CountLemmas.{no_rise, still}
 
-no_error : (error : LoadError) → ◌≡◌ {A = Result (Unit {0}) LoadError} (Ok tt) (Err error) → ⊥
+no_error : (error : SourceError) → ◌≡◌ {A = Result (Unit {0}) SourceError} (Ok tt) (Err error) → ⊥
 no_error error is = cc
+
+-- ---- between two moments
+
+-- no failure was counted, and the count wasn't at its last value
+abbrev pub IsQuiet : Counts → Counts → Type 0
+IsQuiet before now = (n : ℕ) × (n < 2 ^ 64 - 1) × (n ≤ before.faults) × (now.faults ≤ n)
+
+module _ (before mid now : Counts) (quiet : IsQuiet before now) where
+  quiet_first : mid.faults ≤ now.faults → IsQuiet before mid
+  quiet_first later = let high : now.faults ≤ quiet.0 = quiet.3 in (quiet.0, quiet.1, quiet.2, omega arith)
+
+  quiet_then : before.faults ≤ mid.faults → IsQuiet mid now
+  quiet_then later = let low : quiet.0 ≤ before.faults = quiet.2 in (quiet.0, quiet.1, omega arith, quiet.3)
+
+never_rose : (before now : Counts) → IsQuiet before now → FaultRose before now → ⊥
+never_rose before now quiet rose = no_rise quiet.0 before now quiet.1 quiet.2 quiet.3 rose
+
+-- a database is read from the link
+abbrev pub reads_link : LayerSpec → Bool
+reads_link spec = is_pipe spec.sort && spec.infd
+
+-- the same is left to come on two links
+abbrev ComeSo : LinkState → LinkState → Type 0
+ComeSo one other = (input : List ℕ) × (one.input ≡ Some input) × (other.input ≡ Some input)
+
+-- the same came on two links, and no failure was counted there
+pub record ComeSame (one new other last : LinkState) : Type 0 where
+  pub come : ComeSo one other
+  pub quiet : IsQuiet one.counts new.counts
+  pub other_quiet : IsQuiet other.counts last.counts
 
 -- ---- one load
 
@@ -42,28 +79,55 @@ here_counts : (sort : LayerSort) (files mid : FilesView) (before counts : Counts
 here_counts File files mid before counts counted = counted
 here_counts Tree files mid before counts counted = counted
 here_counts Pack files mid before counts counted = counted
+here_counts Pipe files mid before counts counted = absurd counted
 
 out_counts : (sort : LayerSort) (files mid : FilesView) (before counts : Counts) → LoadCountsBy sort files mid (Ok LeftOut) before counts → FaultRose before counts
 out_counts File files mid before counts counted = counted
 out_counts Tree files mid before counts counted = counted
 out_counts Pack files mid before counts counted = counted
+out_counts Pipe files mid before counts counted = absurd counted
 
-module _ (spec : LayerSpec) (layer made : LayerState) (files mid : FilesView) (before counts : Counts) (more last : Type 0) where
+pub piped_later : (loaded : PipeLoaded) (before now : Counts) → PipeCounts (Ok loaded) before now → before.faults ≤ now.faults
+piped_later piped.Here before now same = still before now same
+piped_later piped.LeftOut before now rose = rose.faults.later
+
+module _ (spec : LayerSpec) (layer made : LayerState) (from mid : Sources) (more last : Type 0) where
   -- the counts don't fall, and the other loads follow
-  goes_later : (first : Result Loaded LoadError) → LoadCounts spec files mid first before counts → GoesOn first (Ok tt) more last → (before.faults ≤ counts.faults) × more
-  goes_later (Ok Here) counted goes = (still before counts (here_counts spec.sort files mid before counts counted), goes)
-  goes_later (Ok LeftOut) counted goes = ((out_counts spec.sort files mid before counts counted).faults.later, goes)
-  goes_later (Err error) counted goes = absurd (no_error error goes.0)
+  abbrev GoesLater : Type 0
+  GoesLater = (from.files.counts.faults ≤ mid.files.counts.faults) × (from.link.counts.faults ≤ mid.link.counts.faults) × more
 
-  -- where no failure is counted, the layer is here
+  same_link : mid.link ≡ from.link → from.link.counts.faults ≤ mid.link.counts.faults
+  same_link same = still from.link.counts mid.link.counts (ap (λ (l : LinkState). l.counts) same)
+
+  goes_later : (first : LoadAnswer) → LoadsOne spec layer made from mid first → GoesOn first (Ok tt) more last → GoesLater
+  goes_later (LoadAnswer.OfFiles (Ok Here)) is goes =
+      (still from.files.counts mid.files.counts (here_counts spec.sort from.files.view mid.files.view from.files.counts mid.files.counts is.2), same_link is.3, goes)
+  goes_later (LoadAnswer.OfFiles (Ok LeftOut)) is goes =
+      ((out_counts spec.sort from.files.view mid.files.view from.files.counts mid.files.counts is.2).faults.later, same_link is.3, goes)
+  goes_later (LoadAnswer.OfPipe (Ok loaded)) is goes = (
+    still from.files.counts mid.files.counts (ap (λ (f : FilesState). f.counts) is.2),
+    piped_later loaded from.link.counts mid.link.counts (pipe_counts spec.infd spec layer made from.link mid.link (Ok loaded) is.1),
+    goes,
+  )
+  goes_later (LoadAnswer.OfFiles (Err error)) is goes = absurd (no_error (source.Files error) goes.0)
+  goes_later (LoadAnswer.OfPipe (Err error)) is goes = absurd (no_error (source.Pipe error) goes.0)
+
+module _ (spec : LayerSpec) (layer made : LayerState) (from mid : Sources) where
+  -- where no failure is counted, a layer that is kept in files is here
   abbrev GoesHere : Type 0
-  GoesHere = LoadsLayer files.disk spec layer made (Ok Here) × LoadsFiles files mid spec (Ok Here) × (counts ≡ before)
+  GoesHere = LoadsLayer from.files.view.disk spec layer made (Ok Here) × LoadsFiles from.files.view mid.files.view spec (Ok Here) × (mid.link ≡ from.link)
 
-  goes_here : (n : ℕ) → n < 2 ^ 64 - 1 → n ≤ before.faults → counts.faults ≤ n → (first : Result Loaded LoadError)
-      → LoadsLayer files.disk spec layer made first → LoadsFiles files mid spec first → LoadCounts spec files mid first before counts → GoesOn first (Ok tt) more last → GoesHere
-  goes_here n room low high (Ok Here) loads looks counted goes = (loads, looks, here_counts spec.sort files mid before counts counted)
-  goes_here n room low high (Ok LeftOut) loads looks counted goes = absurd (no_rise n before counts room low high (out_counts spec.sort files mid before counts counted))
-  goes_here n room low high (Err error) loads looks counted goes = absurd (no_error error goes.0)
+  -- and one that comes through a pipe was loaded
+  abbrev GoesPiped : Type 0
+  GoesPiped = (loaded : PipeLoaded) × (spec.sort ≡ Pipe) × LoadsPipe spec layer made from.link mid.link (Ok loaded) × (mid.files ≡ from.files)
+
+  goes_here : (more last : Type 0) → IsQuiet from.files.counts mid.files.counts → (first : LoadAnswer) → LoadsOne spec layer made from mid first → GoesOn first (Ok tt) more last → GoesHere ⊎ GoesPiped
+  goes_here more last quiet (LoadAnswer.OfFiles (Ok Here)) is goes = inl (is.0, is.1, is.3)
+  goes_here more last quiet (LoadAnswer.OfFiles (Ok LeftOut)) is goes =
+      absurd (never_rose from.files.counts mid.files.counts quiet (out_counts spec.sort from.files.view mid.files.view from.files.counts mid.files.counts is.2))
+  goes_here more last quiet (LoadAnswer.OfPipe (Ok loaded)) is goes = inr (loaded, is.0, is.1, is.2)
+  goes_here more last quiet (LoadAnswer.OfFiles (Err error)) is goes = absurd (no_error (source.Files error) goes.0)
+  goes_here more last quiet (LoadAnswer.OfPipe (Err error)) is goes = absurd (no_error (source.Pipe error) goes.0)
 
 -- ---- what is here is determined
 
@@ -96,6 +160,7 @@ one_by : (sort : LayerSort) (disk : Disk) (spec : LayerSpec) (layer made other :
 one_by File disk spec layer made other first second = one_file disk spec layer made other first second
 one_by Tree disk spec layer made other first second = one_folder disk spec layer made other first second
 one_by Pack disk spec layer made other first second = one_folder disk spec layer made other first second
+one_by Pipe disk spec layer made other first second = absurd first
 
 one_here : (disk : Disk) (spec : LayerSpec) (layer made other : LayerState) → LoadsLayer (Some disk) spec layer made (Ok Here) → LoadsLayer (Some disk) spec layer other (Ok Here) → made ≡ other
 one_here disk spec layer made other first second = one_by spec.sort disk spec layer made other first second
@@ -111,21 +176,27 @@ told_by : (sort : LayerSort) (disk : Disk) (spec : LayerSpec) (files mid other :
 told_by File disk spec files mid other told first second = first ∙ sym second
 told_by Tree disk spec files mid other told first second = one_listed disk spec files mid other told first second
 told_by Pack disk spec files mid other told first second = one_listed disk spec files mid other told first second
+told_by Pipe disk spec files mid other told first second = absurd first
 
 one_told : (disk : Disk) (spec : LayerSpec) (files mid other : FilesView) → files.disk ≡ Some disk → LoadsFiles files mid spec (Ok Here) → LoadsFiles files other spec (Ok Here) → mid ≡ other
 one_told disk spec files mid other told first second = told_by spec.sort disk spec files mid other told first second
 
 -- ---- all loads
 
-loads_later : (specs : List LayerSpec) (old new : List LayerState) (files files_new : FilesView) (before now : Counts) → LoadsAll specs old new files files_new before now (Ok tt) → before.faults ≤ now.faults
-loads_later [] old new files files_new before now loads = still before now loads.3
-loads_later (spec ∷ specs) [] new files files_new before now loads = absurd loads
-loads_later (spec ∷ specs) (layer ∷ old) [] files files_new before now loads = absurd loads
-loads_later (spec ∷ specs) (layer ∷ old) (made ∷ new) files files_new before now loads =
-    let goes = goes_later spec layer made files loads.1 before loads.2 _ _ loads.0 loads.5 loads.6 in
-    let here : before.faults ≤ loads.2.faults = goes.0 in
-    let rest : loads.2.faults ≤ now.faults = loads_later specs old new loads.1 files_new loads.2 now goes.1 in
-    omega arith
+loads_later : (specs : List LayerSpec) (old new : List LayerState) (from left : Sources) → LoadsAll specs old new from left (Ok tt)
+    → (from.files.counts.faults ≤ left.files.counts.faults) × (from.link.counts.faults ≤ left.link.counts.faults)
+loads_later [] old new from left loads =
+    (still from.files.counts left.files.counts (ap (λ (s : Sources). s.files.counts) loads.2), still from.link.counts left.link.counts (ap (λ (s : Sources). s.link.counts) loads.2))
+loads_later (spec ∷ specs) [] new from left loads = absurd loads
+loads_later (spec ∷ specs) (layer ∷ old) [] from left loads = absurd loads
+loads_later (spec ∷ specs) (layer ∷ old) (made ∷ new) from left loads =
+    let goes = goes_later spec layer made from loads.1 _ _ loads.0 loads.2 loads.3 in
+    let here : from.files.counts.faults ≤ loads.1.files.counts.faults = goes.0 in
+    let here_link : from.link.counts.faults ≤ loads.1.link.counts.faults = goes.1 in
+    let behind = loads_later specs old new loads.1 left goes.2 in
+    let rest : loads.1.files.counts.faults ≤ left.files.counts.faults = behind.0 in
+    let rest_link : loads.1.link.counts.faults ≤ left.link.counts.faults = behind.1 in
+    (omega arith, omega arith)
 
 -- the files tell as before
 look_told : (disk : Disk) (op : FilesOp) (path : List ℕ) (files : FilesView) (ok : Bool) → IsTold disk files → IsTold disk (after_look files op path ok)
@@ -146,49 +217,142 @@ here_told : (sort : LayerSort) (disk : Disk) (spec : LayerSpec) (files mid : Fil
 here_told File disk spec files mid looks told = subst (IsTold disk) (sym looks) (look_told disk Read spec.place files true told)
 here_told Tree disk spec files mid looks told = subst (IsTold disk) (sym looks.2) (folder_told disk spec (its_files spec looks.0) files told)
 here_told Pack disk spec files mid looks told = subst (IsTold disk) (sym looks.2) (folder_told disk spec (its_files spec looks.0) files told)
+here_told Pipe disk spec files mid looks told = absurd looks
 
 out_told : (sort : LayerSort) (disk : Disk) (spec : LayerSpec) (files mid : FilesView) → LoadsFilesBy sort files mid spec (Ok LeftOut) → IsTold disk files → IsTold disk mid
 out_told File disk spec files mid looks told = subst (IsTold disk) (sym looks) (look_told disk Read spec.place files false told)
 out_told Tree disk spec files mid looks told = failed_told disk spec looks.0 files mid looks.1 told
 out_told Pack disk spec files mid looks told = failed_told disk spec looks.0 files mid looks.1 told
+out_told Pipe disk spec files mid looks told = absurd looks
 
-load_told : (disk : Disk) (spec : LayerSpec) (files mid : FilesView) (more last : Type 0) (first : Result Loaded LoadError) → LoadsFiles files mid spec first → GoesOn first (Ok tt) more last → IsTold disk files → IsTold disk mid
-load_told disk spec files mid more last (Ok Here) looks goes told = here_told spec.sort disk spec files mid looks told
-load_told disk spec files mid more last (Ok LeftOut) looks goes told = out_told spec.sort disk spec files mid looks told
-load_told disk spec files mid more last (Err error) looks goes told = absurd (no_error error goes.0)
+load_told : (disk : Disk) (spec : LayerSpec) (layer made : LayerState) (from mid : Sources) (more last : Type 0) (first : LoadAnswer) → LoadsOne spec layer made from mid first → GoesOn first (Ok tt) more last → IsTold disk from.files.view → IsTold disk mid.files.view
+load_told disk spec layer made from mid more last (LoadAnswer.OfFiles (Ok Here)) is goes told = here_told spec.sort disk spec from.files.view mid.files.view is.1 told
+load_told disk spec layer made from mid more last (LoadAnswer.OfFiles (Ok LeftOut)) is goes told = out_told spec.sort disk spec from.files.view mid.files.view is.1 told
+load_told disk spec layer made from mid more last (LoadAnswer.OfPipe (Ok loaded)) is goes told = subst (λ (f : FilesState). IsTold disk f.view) (sym is.2) told
+load_told disk spec layer made from mid more last (LoadAnswer.OfFiles (Err error)) is goes told = absurd (no_error (source.Files error) goes.0)
+load_told disk spec layer made from mid more last (LoadAnswer.OfPipe (Err error)) is goes told = absurd (no_error (source.Pipe error) goes.0)
 
-loads_told : (disk : Disk) (specs : List LayerSpec) (old new : List LayerState) (files files_new : FilesView) (before now : Counts) → LoadsAll specs old new files files_new before now (Ok tt) → IsTold disk files → IsTold disk files_new
-loads_told disk [] old new files files_new before now loads told = subst (λ (t : FilesView). IsTold disk t) (sym loads.2) told
-loads_told disk (spec ∷ specs) [] new files files_new before now loads told = absurd loads
-loads_told disk (spec ∷ specs) (layer ∷ old) [] files files_new before now loads told = absurd loads
-loads_told disk (spec ∷ specs) (layer ∷ old) (made ∷ new) files files_new before now loads told =
-    let goes = goes_later spec layer made files loads.1 before loads.2 _ _ loads.0 loads.5 loads.6 in
-    loads_told disk specs old new loads.1 files_new loads.2 now goes.1 (load_told disk spec files loads.1 _ _ loads.0 loads.4 loads.6 told)
+loads_told : (disk : Disk) (specs : List LayerSpec) (old new : List LayerState) (from left : Sources) → LoadsAll specs old new from left (Ok tt) → IsTold disk from.files.view → IsTold disk left.files.view
+loads_told disk [] old new from left loads told = subst (λ (s : Sources). IsTold disk s.files.view) (sym loads.2) told
+loads_told disk (spec ∷ specs) [] new from left loads told = absurd loads
+loads_told disk (spec ∷ specs) (layer ∷ old) [] from left loads told = absurd loads
+loads_told disk (spec ∷ specs) (layer ∷ old) (made ∷ new) from left loads told =
+    let goes = goes_later spec layer made from loads.1 _ _ loads.0 loads.2 loads.3 in
+    loads_told disk specs old new loads.1 left goes.2 (load_told disk spec layer made from loads.1 _ _ loads.0 loads.2 loads.3 told)
+
+-- ---- what comes through a pipe is determined
+
+-- all that comes is the text
+whole_text : (input text : List ℕ) (left : Option (List ℕ)) → Some input ≡ prepend_known text left → IsAtEnd left → (text ≡ input) × (left ≡ Some [])
+whole_text input text None is end = absurd (cc)
+whole_text input text (Some rest) is end = let same : input ≡ text ++ rest = cc in (sym (same ∙ ap (λ (r : List ℕ). text ++ r) end ∙ append-nil text), ap Some end)
+
+text_came : (text input : List ℕ) (old new : LinkState) → old.input ≡ Some input → IsReadWhole text old new → (text ≡ input) × (new.input ≡ Some [])
+text_came text input old new is read = whole_text input text new.input (sym is ∙ read.came.took) read.at_end
+
+one_piped : (layer made other : LayerState) (one one_new two two_new : LinkState) → ComeSo one two → IsPiped layer made one one_new → IsPiped layer other two two_new → (made ≡ other) × ComeSo one_new two_new
+one_piped layer made other one one_new two two_new come first second =
+    let came = text_came first.text come.0 one one_new come.1 first.read in
+    let other_came = text_came second.text come.0 two two_new come.2 second.read in
+    let reads : Reads second.text first.records = subst (λ (t : List ℕ). Reads t first.records) (came.0 ∙ sym other_came.0) first.reads in
+    let records : first.records ≡ second.records = reads.are ∙ sym second.reads.are in
+    (first.layer_is ∙ (λ i. record layer { table = table_of (records i) }) ∙ sym second.layer_is, ([], came.1, other_came.1))
+
+pipe_once : (infd : Bool) (spec : LayerSpec) (layer made other : LayerState) (one one_new two two_new : LinkState) (loaded again : PipeLoaded) → (infd ≡ true → ComeSame one one_new two two_new)
+    → LoadsWhere infd spec layer made one one_new (Ok loaded) → LoadsWhere infd spec layer other two two_new (Ok again) → (made ≡ other) × (ComeSo one two → ComeSo one_new two_new)
+pipe_once true spec layer made other one one_new two two_new piped.Here piped.Here came first second =
+    let both = one_piped layer made other one one_new two two_new (came refl).come first second in
+    (both.0, λ come. both.1)
+pipe_once true spec layer made other one one_new two two_new piped.LeftOut again came first second =
+    absurd (never_rose one.counts one_new.counts (came refl).quiet (pipe_counts true spec layer made one one_new (Ok piped.LeftOut) first))
+pipe_once true spec layer made other one one_new two two_new piped.Here piped.LeftOut came first second =
+    absurd (never_rose two.counts two_new.counts (came refl).other_quiet (pipe_counts true spec layer other two two_new (Ok piped.LeftOut) second))
+pipe_once false spec layer made other one one_new two two_new loaded again came first second = (
+  first.1 ∙ sym second.1,
+  λ come. (come.0, ap (λ (l : LinkState). l.input) first.2 ∙ come.1, ap (λ (l : LinkState). l.input) second.2 ∙ come.2),
+)
+
+-- ---- what one load leaves is determined
+
+not_piped : (disk : Option Disk) (sort : LayerSort) (spec : LayerSpec) (layer made : LayerState) (loaded : Loaded) → sort ≡ Pipe → LoadsBy sort disk spec layer made (Ok loaded) → ⊥
+not_piped disk sort spec layer made loaded is loads = subst (λ (s : LayerSort). LoadsBy s disk spec layer made (Ok loaded)) is loads
+
+module _ (disk : Disk) (spec : LayerSpec) (layer made other : LayerState) (from mid from_other mid_other : Sources) (same : from.files.view ≡ from_other.files.view) (told : from.files.view.disk ≡ Some disk)
+    (came : reads_link spec ≡ true → ComeSame from.link mid.link from_other.link mid_other.link) where
+  record LeaveSame : Type 0 where
+    made_is : made ≡ other
+    view_is : mid.files.view ≡ mid_other.files.view
+    disk_is : mid.files.view.disk ≡ Some disk
+    come : ComeSo from.link from_other.link → ComeSo mid.link mid_other.link
+
+  other_told : from_other.files.view.disk ≡ Some disk
+  other_told = ap (λ (t : FilesView). t.disk) (sym same) ∙ told
+
+  load_once : GoesHere spec layer made from mid ⊎ GoesPiped spec layer made from mid → GoesHere spec layer other from_other mid_other ⊎ GoesPiped spec layer other from_other mid_other → LeaveSame
+  load_once (inl first) (inl second) = record {
+    made_is = one_here disk spec layer made other (subst (λ (d : Option Disk). LoadsLayer d spec layer made (Ok Here)) told first.0) (subst (λ (d : Option Disk). LoadsLayer d spec layer other (Ok Here)) other_told second.0);
+    view_is = one_told disk spec from_other.files.view mid.files.view mid_other.files.view other_told (subst (λ (t : FilesView). LoadsFiles t mid.files.view spec (Ok Here)) same first.1) second.1;
+    disk_is = load_disk from.files.view mid.files.view spec (Ok Here) first.1 ∙ told;
+    come = λ come. (come.0, ap (λ (l : LinkState). l.input) first.2 ∙ come.1, ap (λ (l : LinkState). l.input) second.2 ∙ come.2);
+  }
+  load_once (inr first) (inr second) =
+      let both = pipe_once spec.infd spec layer made other from.link mid.link from_other.link mid_other.link first.0 second.0 (λ is. came (ap (λ (s : LayerSort). is_pipe s && spec.infd) first.1 ∙ is)) first.2 second.2 in
+      record {
+        made_is = both.0;
+        view_is = ap (λ (f : FilesState). f.view) first.3 ∙ same ∙ sym (ap (λ (f : FilesState). f.view) second.3);
+        disk_is = ap (λ (f : FilesState). f.view.disk) first.3 ∙ told;
+        come = both.1;
+      }
+  load_once (inl first) (inr second) = absurd (not_piped from.files.view.disk spec.sort spec layer made Here second.1 first.0)
+  load_once (inr first) (inl second) = absurd (not_piped from_other.files.view.disk spec.sort spec layer other Here first.1 second.0)
+
+or_first : (a b : Bool) → a ≡ true → a || b ≡ true
+or_first a b is = ap (λ (c : Bool). c || b) is
+
+or_second : (a b : Bool) → b ≡ true → a || b ≡ true
+or_second true b is = refl
+or_second false b is = is
 
 -- what loads leave is determined
-module _ (disk : Disk) (n m : ℕ) (room : n < 2 ^ 64 - 1) (other_room : m < 2 ^ 64 - 1) where
-  loads_once : (specs : List LayerSpec) (old a b : List LayerState) (files a_files b_files : FilesView) (before a_now other_before b_now : Counts) → files.disk ≡ Some disk → n ≤ before.faults → a_now.faults ≤ n → m ≤ other_before.faults → b_now.faults ≤ m
-      → LoadsAll specs old a files a_files before a_now (Ok tt) → LoadsAll specs old b files b_files other_before b_now (Ok tt) → (a ≡ b) × (a_files ≡ b_files)
-  loads_once [] old a b files a_files b_files before a_now other_before b_now told low high other_low other_high first second = (first.1 ∙ sym second.1, first.2 ∙ sym second.2)
-  loads_once (spec ∷ specs) [] a b files a_files b_files before a_now other_before b_now told low high other_low other_high first second = absurd first
-  loads_once (spec ∷ specs) (layer ∷ old) [] b files a_files b_files before a_now other_before b_now told low high other_low other_high first second = absurd first
-  loads_once (spec ∷ specs) (layer ∷ old) (made ∷ a) [] files a_files b_files before a_now other_before b_now told low high other_low other_high first second = absurd second
-  loads_once (spec ∷ specs) (layer ∷ old) (made ∷ a) (other ∷ b) files a_files b_files before a_now other_before b_now told low high other_low other_high first second =
-      let one_goes = goes_later spec layer made files first.1 before first.2 _ _ first.0 first.5 first.6 in
-      let two_goes = goes_later spec layer other files second.1 other_before second.2 _ _ second.0 second.5 second.6 in
-      let one_later : before.faults ≤ first.2.faults = one_goes.0 in
-      let two_later : other_before.faults ≤ second.2.faults = two_goes.0 in
-      let one_rest : first.2.faults ≤ a_now.faults = loads_later specs old a first.1 a_files first.2 a_now one_goes.1 in
-      let two_rest : second.2.faults ≤ b_now.faults = loads_later specs old b second.1 b_files second.2 b_now two_goes.1 in
-      let one_is = goes_here spec layer made files first.1 before first.2 _ _ n room low (omega arith) first.0 first.3 first.4 first.5 first.6 in
-      let two_is = goes_here spec layer other files second.1 other_before second.2 _ _ m other_room other_low (omega arith) second.0 second.3 second.4 second.5 second.6 in
-      let told_alike : second.1 ≡ first.1 = one_told disk spec files second.1 first.1 told two_is.1 one_is.1 in
-      let two_loads : LoadsAll specs old b first.1 b_files second.2 b_now (Ok tt) = subst (λ (t : FilesView). LoadsAll specs old b t b_files second.2 b_now (Ok tt)) told_alike two_goes.1 in
-      let then_told : first.1.disk ≡ Some disk = load_disk files first.1 spec (Ok Here) one_is.1 ∙ told in
-      let rest = loads_once specs old a b first.1 a_files b_files first.2 a_now second.2 b_now then_told (omega arith) high (omega arith) other_high one_goes.1 two_loads in
-      let here : made ≡ other
-      = one_here disk spec layer made other (subst (λ (d : Option Disk). LoadsLayer d spec layer made (Ok Here)) told one_is.0) (subst (λ (d : Option Disk). LoadsLayer d spec layer other (Ok Here)) told two_is.0) in
-      ((λ i. here i ∷ rest.0 i), rest.1)
+module _ (disk : Disk) where
+  loads_once : (specs : List LayerSpec) (old a b : List LayerState) (from left from_other left_other : Sources) → from.files.view ≡ from_other.files.view → from.files.view.disk ≡ Some disk
+      → IsQuiet from.files.counts left.files.counts → IsQuiet from_other.files.counts left_other.files.counts
+      → (list_any reads_link specs ≡ true → ComeSame from.link left.link from_other.link left_other.link)
+      → LoadsAll specs old a from left (Ok tt) → LoadsAll specs old b from_other left_other (Ok tt) → (a ≡ b) × (left.files.view ≡ left_other.files.view)
+  loads_once [] old a b from left from_other left_other same told quiet other_quiet came first second =
+      (first.1 ∙ sym second.1, ap (λ (s : Sources). s.files.view) first.2 ∙ same ∙ sym (ap (λ (s : Sources). s.files.view) second.2))
+  loads_once (spec ∷ specs) [] a b from left from_other left_other same told quiet other_quiet came first second = absurd first
+  loads_once (spec ∷ specs) (layer ∷ old) [] b from left from_other left_other same told quiet other_quiet came first second = absurd first
+  loads_once (spec ∷ specs) (layer ∷ old) (made ∷ a) [] from left from_other left_other same told quiet other_quiet came first second = absurd second
+  loads_once (spec ∷ specs) (layer ∷ old) (made ∷ a) (other ∷ b) from left from_other left_other same told quiet other_quiet came first second =
+      let mid : Sources = first.1 in
+      let mid_other : Sources = second.1 in
+      let goes = goes_later spec layer made from mid _ _ first.0 first.2 first.3 in
+      let other_goes = goes_later spec layer other from_other mid_other _ _ second.0 second.2 second.3 in
+      let rest = loads_later specs old a mid left goes.2 in
+      let other_rest = loads_later specs old b mid_other left_other other_goes.2 in
+      let here = goes_here spec layer made from mid _ _ (quiet_first from.files.counts mid.files.counts left.files.counts quiet rest.0) first.0 first.2 first.3 in
+      let other_here = goes_here spec layer other from_other mid_other _ _ (quiet_first from_other.files.counts mid_other.files.counts left_other.files.counts other_quiet other_rest.0) second.0 second.2 second.3 in
+      let leave = load_once disk spec layer made other from mid from_other mid_other same told
+      (λ is.
+      let all = came (or_first (reads_link spec) (list_any reads_link specs) is) in
+      record {
+        come = all.come;
+        quiet = quiet_first from.link.counts mid.link.counts left.link.counts all.quiet rest.1;
+        other_quiet = quiet_first from_other.link.counts mid_other.link.counts left_other.link.counts all.other_quiet other_rest.1;
+      })
+      here other_here in
+      let behind = loads_once specs old a b mid left mid_other left_other leave.view_is leave.disk_is (quiet_then from.files.counts mid.files.counts left.files.counts quiet goes.0)
+      (quiet_then from_other.files.counts mid_other.files.counts left_other.files.counts other_quiet other_goes.0)
+      (λ is.
+      let all = came (or_second (reads_link spec) (list_any reads_link specs) is) in
+      record {
+        come = leave.come all.come;
+        quiet = quiet_then from.link.counts mid.link.counts left.link.counts all.quiet goes.1;
+        other_quiet = quiet_then from_other.link.counts mid_other.link.counts left_other.link.counts all.other_quiet other_goes.1;
+      })
+      goes.2 other_goes.2 in
+      ((λ i. leave.made_is i ∷ behind.0 i), behind.1)
 
 -- ---- the start
 
@@ -208,20 +372,21 @@ module _ (used : Tool) where
   read_told false disk path files told = told
 
   -- a run that has started counts no less than before
-  pub started_later : (path : List ℕ) (files : FilesState) (mid : Stock) (roots : Roots) → HasStarted used path files mid roots → files.counts.faults ≤ mid.files.counts.faults
-  started_later path files mid roots started = loads_later (specs_of roots) (set_of roots) mid.used (conf_read used files.view path) mid.files.view files.counts mid.files.counts started.loaded.loads
+  pub started_later : (path : List ℕ) (from : Sources) (mid : Ground) (roots : Roots) → HasStarted used path from mid roots
+      → (from.files.counts.faults ≤ mid.sources.files.counts.faults) × (from.link.counts.faults ≤ mid.sources.link.counts.faults)
+  started_later path from mid roots started = loads_later (specs_of roots) (set_of roots) mid.used (conf_read_in used path from) mid.sources started.loaded.loads
 
   -- and its files tell as before
-  pub started_told : (disk : Disk) (path : List ℕ) (files : FilesState) (mid : Stock) (roots : Roots) → HasStarted used path files mid roots → IsTold disk files.view → IsTold disk mid.files.view
-  started_told disk path files mid roots started told =
-      loads_told disk (specs_of roots) (set_of roots) mid.used (conf_read used files.view path) mid.files.view files.counts mid.files.counts started.loaded.loads
-      (read_told (has_files used) disk path files.view told)
+  pub started_told : (disk : Disk) (path : List ℕ) (from : Sources) (mid : Ground) (roots : Roots) → HasStarted used path from mid roots → IsTold disk from.files.view → IsTold disk mid.sources.files.view
+  started_told disk path from mid roots started told =
+      loads_told disk (specs_of roots) (set_of roots) mid.used (conf_read_in used path from) mid.sources started.loaded.loads
+      (read_told (has_files used) disk path from.files.view told)
 
 -- Two runs that began over files that tell the same, and counted no failure: they loaded the same layers, and take the same from the
 -- configuration.
-pub record StartAlike (mid last : Stock) (roots others : Roots) : Type 0 where
+pub record StartAlike (mid last : Ground) (roots others : Roots) : Type 0 where
   pub used : mid.used ≡ last.used
-  pub told : mid.files.view ≡ last.files.view
+  pub told : mid.sources.files.view ≡ last.sources.files.view
   pub roots_are : roots ≡ others
 
 -- what is copied into, and by which patterns, is one
@@ -252,21 +417,26 @@ conf_disk true files path = refl
 conf_disk false files path = refl
 
 -- the layers of a tool's databases were loaded
-abbrev LoadedFrom : Tool → Configuration → Stock → FilesView → FilesState → Type 0
-LoadedFrom used conf left from before = LoadsAll (loaded_of used conf) (all_set_up (databases_of used conf)) left.used from left.files.view before.counts left.files.counts (Ok tt)
+abbrev LoadedFrom : Tool → List ℕ → Configuration → Sources → Ground → Type 0
+LoadedFrom used path conf from left = LoadsAll (loaded_of used conf) (all_set_up (databases_of used conf)) left.used (conf_read_in used path from) left.sources (Ok tt)
 
-pub one_start : (used : Tool) (disk : Disk) (path : List ℕ) (told : FilesView) (files other_files : FilesState) (mid last : Stock) (roots others : Roots) → told.disk ≡ Some disk → files.view ≡ told → other_files.view ≡ told
-    → files.counts.faults < 2 ^ 64 - 1 → other_files.counts.faults < 2 ^ 64 - 1 → mid.files.counts.faults ≤ files.counts.faults → last.files.counts.faults ≤ other_files.counts.faults
-    → HasStarted used path files mid roots → HasStarted used path other_files last others → StartAlike mid last roots others
-one_start used disk path told files other_files mid last roots others disk_told files_told other_told room other_room high other_high first second =
+-- the same came on their links, where a database is read from there
+abbrev pub ComeWhereRead : Tool → Configuration → LinkState → LinkState → LinkState → LinkState → Type 0
+ComeWhereRead used conf one new other last = list_any reads_link (loaded_of used conf) ≡ true → ComeSame one new other last
+
+pub one_start : (used : Tool) (disk : Disk) (path : List ℕ) (told : FilesView) (from from_other : Sources) (mid last : Ground) (roots others : Roots) → told.disk ≡ Some disk → from.files.view ≡ told → from_other.files.view ≡ told
+    → from.files.counts.faults < 2 ^ 64 - 1 → from_other.files.counts.faults < 2 ^ 64 - 1 → mid.sources.files.counts.faults ≤ from.files.counts.faults → last.sources.files.counts.faults ≤ from_other.files.counts.faults
+    → ComeWhereRead used roots.conf from.link mid.sources.link from_other.link last.sources.link
+    → HasStarted used path from mid roots → HasStarted used path from_other last others → StartAlike mid last roots others
+one_start used disk path told from from_other mid last roots others disk_told files_told other_told room other_room high other_high came first second =
     let one_conf_is = subst (λ (d : Option Disk). IsConfiguration used d path roots.conf) (ap (λ (t : FilesView). t.disk) files_told ∙ disk_told) first.loaded.conf_is.conf_is.conf_is in
     let other_conf_is = subst (λ (d : Option Disk). IsConfiguration used d path others.conf) (ap (λ (t : FilesView). t.disk) other_told ∙ disk_told) second.loaded.conf_is.conf_is.conf_is in
     let conf : roots.conf ≡ others.conf = one_conf used disk path roots.conf others.conf one_conf_is other_conf_is in
-    let one_loads : LoadedFrom used others.conf mid (conf_read used told path) files
-    = subst (λ (c : Configuration). LoadedFrom used c mid (conf_read used told path) files) conf (subst (λ (t : FilesView). LoadedFrom used roots.conf mid (conf_read used t path) files) files_told first.loaded.loads) in
-    let other_loads : LoadedFrom used others.conf last (conf_read used told path) other_files = subst (λ (t : FilesView). LoadedFrom used others.conf last (conf_read used t path) other_files) other_told second.loaded.loads in
-    let once = loads_once disk files.counts.faults other_files.counts.faults room other_room (loaded_of used others.conf) (all_set_up (databases_of used others.conf)) mid.used last.used (conf_read used told path) mid.files.view last.files.view
-    files.counts mid.files.counts other_files.counts last.files.counts (conf_disk (has_files used) told path ∙ disk_told) (omega arith) high (omega arith) other_high one_loads other_loads in
+    let one_loads : LoadedFrom used path others.conf from mid = subst (λ (c : Configuration). LoadedFrom used path c from mid) conf first.loaded.loads in
+    let once = loads_once disk (loaded_of used others.conf) (all_set_up (databases_of used others.conf)) mid.used last.used (conf_read_in used path from) mid.sources (conf_read_in used path from_other) last.sources
+    (ap (λ (t : FilesView). conf_read used t path) (files_told ∙ sym other_told)) (conf_disk (has_files used) from.files.view path ∙ ap (λ (t : FilesView). t.disk) files_told ∙ disk_told)
+    (from.files.counts.faults, room, omega arith, high) (from_other.files.counts.faults, other_room, omega arith, other_high)
+    (subst (λ (c : Configuration). ComeWhereRead used c from.link mid.sources.link from_other.link last.sources.link) conf came) one_loads second.loaded.loads in
     record {
       used = once.0;
       told = once.1;

@@ -6,15 +6,18 @@ use Rattle.dc_outside.specs.Counts.{Counts, Rose, RefusalRose}
 use Rattle.dc_outside.specs.Disk.{Disk}
 use Rattle.dc_outside.specs.State.{FilesState, FilesView, LinkState}
 use Rattle.dc_conf.specs.declared.spec.LayerSort.{LayerSort}
-use Rattle.dc_conf.specs.declared.spec.LayerSort.TheVariants.{File, Tree, Pack}
+use Rattle.dc_conf.specs.declared.spec.LayerSort.TheVariants.{File, Tree, Pack, Pipe}
 use Rattle.dc_conf.specs.declared.spec.LayerSpec.{LayerSpec}
 use Rattle.dc_layer.specs.State.{LayerState}
-use Rattle.dc_save.specs.Loading.{LoadCountsBy, LoadCounts}
+use Rattle.dc_save.specs.Loading.{LoadCountsBy}
 use Rattle.dc_save.specs.Saving.{SaveCounts}
-use Rattle.dc_save.specs.declared.loading.Loaded.{Loaded}
 use Rattle.dc_save.specs.declared.loading.LoadError.{LoadError}
 use Rattle.dc_save.specs.declared.loading.LoadError.TheVariants as load
-use Rattle.dc_shelf.specs.Shelves.{GoesOn, LoadsAll}
+use Rattle.dc_shelf.specs.Shelves.{GoesOn, LoadAnswer, LoadsAll, LoadsOne, Sources}
+use Rattle.dc_shelf.specs.declared.loading.SourceError.{SourceError}
+use Rattle.dc_shelf.specs.declared.loading.SourceError.TheVariants as source
+use Rattle.dc_outside.specs.declared.link.LinkError.{LinkError}
+use Rattle.dc_outside.specs.declared.link.LinkError.TheVariants.{Failed, OutOfMemory}
 use Rattle.dc_save.specs.declared.saving.SaveError.{SaveError}
 use Rattle.dc_save.specs.declared.saving.SaveError.TheVariants as save
 use Rattle.dc_serve.specs.Execution.{state_after}
@@ -25,7 +28,7 @@ use Rattle.dc_session.specs.Serving.{Finishes as FinishesSession, Resources}
 use Rattle.dc_session.specs.SessionState.{SessionState}
 use Rattle.dc_cli.specs.declared.tool.Tool.{Tool}
 use Rattle.dc_cli.specs.declared.tool.Tool.TheVariants.{Communicate, LoadTemplate, Run, Show, CopyDb, SetSelections, GetSelections, Drill}
-use Rattle.dc_run.specs.Ends.{LinksCount, ProgramCounts, comes_to_save, end_by, end_of, end_of_load, end_unsaved, end_unwaited, tool_end_of}
+use Rattle.dc_run.specs.Ends.{CountsLoads, LinksCount, ProgramCounts, end_unsent, comes_to_save, end_by, end_of, end_of_load, end_unsaved, end_unwaited, tool_end_of}
 use Rattle.dc_run.specs.Finishing.{Finishes, FinishesWhere}
 use Rattle.dc_run.specs.Headline.{HasRunTool, HasRunWords, HasWorked}
 use Rattle.dc_run.specs.Jobs.{Uses}
@@ -36,8 +39,8 @@ use Rattle.dc_run.specs.Rounds.{Job, Whole, HasDone, IsOneRound, Works, is_saved
 use Rattle.dc_run.specs.Running.{Awaits}
 use Rattle.dc_run.specs.Saves.{AreSaves, Commits, IsSave, Save}
 use Rattle.dc_run.specs.SavingSession.{BreaksSaving, FailsToSave, IsServedSaving, broken_save, save_of, saves_in}
-use Rattle.dc_run.specs.Starting.{EndsBefore, begun, conf_read, keeps_changes}
-use Rattle.dc_run.specs.World.{Links, RunState, Stock, World, before_rounds, stock_of}
+use Rattle.dc_run.specs.Starting.{EndsBefore, EndsUnloaded, begun, conf_read_in, keeps_changes}
+use Rattle.dc_run.specs.World.{Links, RunState, Stock, World, before_rounds, ground_in, ground_of, on_ground, Ground}
 use Rattle.dc_run.specs.declared.outcome.End.{End}
 use Rattle.dc_run.specs.declared.outcome.End.TheVariants as end
 use Rattle.dc_run.specs.declared.outcome.Outcome.{Outcome}
@@ -82,7 +85,7 @@ awaited_so goal other false old new how ended status left none is = sym none.end
 
 module _ (used : Tool) (settings : Settings) (old new : World) (outcome : Outcome) (saves : List Save) (worked : HasWorked used settings old new outcome saves) where
   abbrev ready : RunState
-  ready = before_rounds worked.mid
+  ready = before_rounds (on_ground old worked.mid)
 
   -- the session that it begins with, where it has one
   abbrev begins : SessionState
@@ -101,13 +104,17 @@ module _ (used : Tool) (settings : Settings) (old new : World) (outcome : Outcom
   abbrev saved_last : Bool
   saved_last = keeps_changes used && comes_to_save ended
 
-  stock_is : new.stock ≡ one.round.new.world.stock
-  stock_is = ap (λ (w : World). w.stock) (worked.rest_is ∙ ap (λ (s : RunState). record s.world { err = new.err }) one.new_is)
+  world_is : new ≡ record one.round.new.world { err = new.err }
+  world_is = worked.rest_is ∙ ap (λ (s : RunState). record s.world { err = new.err }) one.new_is
 
-  commits : Commits saved_last ended (stock_of works.left.files works.left.layers) new.stock one.round.last one.round.finish
-  commits = subst (λ (s : Stock). Commits saved_last ended (stock_of works.left.files works.left.layers) s one.round.last one.round.finish) (sym stock_is)
-      (subst (λ (s : Stock). Commits saved_last ended s one.round.new.world.stock one.round.last one.round.finish) works.stock_is
-      (subst (λ (j : Job). Commits (is_saved_at j ended) ended one.round.left.world.stock one.round.new.world.stock one.round.last one.round.finish) one.job_is one.is.commits))
+  -- what the tool left
+  abbrev tool_left : Ground
+  tool_left = ground_of works.left.files one.round.left.world.links.io works.left.layers
+
+  commits : Commits saved_last ended tool_left (ground_in new) one.round.last one.round.finish
+  commits = subst (λ (w : World). Commits saved_last ended tool_left (ground_in w) one.round.last one.round.finish) (sym world_is)
+      (subst (λ (s : Stock). Commits saved_last ended (ground_of s.files one.round.left.world.links.io s.used) (ground_in one.round.new.world) one.round.last one.round.finish) works.stock_is
+      (subst (λ (j : Job). Commits (is_saved_at j ended) ended (ground_in one.round.left.world) (ground_in one.round.new.world) one.round.last one.round.finish) one.job_is one.is.commits))
 
   -- how it ended before the wait
   finish_so : (goal : End) → (end.ChildFault ≡ goal → ⊥) → outcome.end ≡ goal → one.round.finish ≡ goal
@@ -234,36 +241,42 @@ failed_otherwise tool.ChildFault path comes is = cc
 failed_otherwise tool.OutOfMemory path comes is = cc
 failed_otherwise (tool.FilesFault fault) path comes is = cc
 
-module _ (left new : Stock) (last : List Save) (how : End) (ended : ToolEnd) where
+module _ (left new : Ground) (last : List Save) (how : End) (ended : ToolEnd) where
   -- the tool didn't fail to save where the run ends for want of memory
   never_failed : (keeps saves : Bool) → saves ≡ keeps && comes_to_save ended → Commits saves ended left new last how → how ≡ end.OutOfMemory → (path : List ℕ) → ended ≡ tool.FilesFault path → ⊥
   never_failed keeps true is commits memory path failed = not_saved path (subst (λ (e : ToolEnd). comes_to_save e ≡ true) failed (both_so keeps (comes_to_save ended) (sym is)))
   never_failed keeps false is commits memory path failed = no_files path (sym (commits.end_is ∙ ap (λ (e : ToolEnd). end_of e) failed) ∙ memory)
 
   abbrev made : Result (Unit {0}) SaveError → Save
-  made answer = record { layers = left.used; before = left.files; after = new.files; answer = answer }
+  made answer = record { layers = left.used; before = left.sources.files; after = new.sources.files; answer = answer }
 
-  by_answer : (answer : Result (Unit {0}) SaveError) → comes_to_save ended ≡ true → end_by ended answer ≡ end.OutOfMemory → ¬ RefusalRose left.files.counts new.files.counts → IsSave (made answer) → IsDoneOrNot (made answer)
+  by_answer : (answer : Result (Unit {0}) SaveError) → comes_to_save ended ≡ true → end_by ended answer ≡ end.OutOfMemory → ¬ RefusalRose left.sources.files.counts new.sources.files.counts → IsSave (made answer) → IsDoneOrNot (made answer)
   by_answer (Ok done) comes memory none is = inl refl
   by_answer (Err (save.Failed path)) comes memory none is = absurd (failed_otherwise ended path comes memory)
   by_answer (Err save.OutOfMemory) comes memory none is = inr (without_memory (made (Err save.OutOfMemory)) is none refl)
 
-  last_done : (keeps saves : Bool) → saves ≡ keeps && comes_to_save ended → Commits saves ended left new last how → how ≡ end.OutOfMemory → ¬ RefusalRose left.files.counts new.files.counts → AllByRecursion IsDoneOrNot last
-  last_done keeps true is commits memory none = subst (AllByRecursion IsDoneOrNot) (sym commits.saves_are)
-      (by_answer commits.answer (both_so keeps (comes_to_save ended) (sym is)) (sym commits.end_is ∙ memory) none commits.is, tt)
+  last_done : (keeps saves : Bool) → saves ≡ keeps && comes_to_save ended → Commits saves ended left new last how → how ≡ end.OutOfMemory → ¬ RefusalRose left.sources.files.counts new.sources.files.counts → AllByRecursion IsDoneOrNot last
+  last_done keeps true is (inl saved) memory none = subst (AllByRecursion IsDoneOrNot) (sym saved.saves_are)
+      (by_answer saved.answer (both_so keeps (comes_to_save ended) (sym is)) (sym saved.end_is ∙ memory) none saved.is, tt)
+  last_done keeps true is (inr (inl unsent)) memory none = no_saves last unsent.saves_are
+  last_done keeps true is (inr (inr bare)) memory none = no_saves last bare.saves_are
   last_done keeps false is commits memory none = no_saves last commits.saves_are
 
-  answer_later : (answer : Result (Unit {0}) SaveError) → IsSave (made answer) → Later left.files.counts new.files.counts
-  answer_later (Ok done) is = later_so left.files.counts new.files.counts (unmoved left.files.counts new.files.counts is.counts)
-  answer_later (Err (save.Failed path)) is = later_so left.files.counts new.files.counts (failed left.files.counts new.files.counts is.counts)
+  answer_later : (answer : Result (Unit {0}) SaveError) → IsSave (made answer) → Later left.sources.files.counts new.sources.files.counts
+  answer_later (Ok done) is = later_so left.sources.files.counts new.sources.files.counts (unmoved left.sources.files.counts new.sources.files.counts is.counts)
+  answer_later (Err (save.Failed path)) is = later_so left.sources.files.counts new.sources.files.counts (failed left.sources.files.counts new.sources.files.counts is.counts)
   answer_later (Err save.OutOfMemory) is = elim is.counts [
-    | inl rose ↦ refused left.files.counts new.files.counts rose
-    | inr same ↦ later_so left.files.counts new.files.counts (unmoved left.files.counts new.files.counts same.0)
+    | inl rose ↦ refused left.sources.files.counts new.sources.files.counts rose
+    | inr same ↦ later_so left.sources.files.counts new.sources.files.counts (unmoved left.sources.files.counts new.sources.files.counts same.0)
   ]
 
-  commit_later : (saves : Bool) → Commits saves ended left new last how → Later left.files.counts new.files.counts
-  commit_later true commits = answer_later commits.answer commits.is
-  commit_later false commits = later_so left.files.counts new.files.counts (unmoved left.files.counts new.files.counts (ap (λ (s : Stock). s.files.counts) commits.stays))
+  commit_later : (saves : Bool) → Commits saves ended left new last how → Later left.sources.files.counts new.sources.files.counts
+  commit_later true (inl saved) = answer_later saved.answer saved.is
+  commit_later true (inr (inl not)) =
+      later_so left.sources.files.counts new.sources.files.counts (unmoved left.sources.files.counts new.sources.files.counts (ap (λ (f : FilesState). f.counts) not.unsent.files_are))
+  commit_later true (inr (inr bare)) =
+      later_so left.sources.files.counts new.sources.files.counts (unmoved left.sources.files.counts new.sources.files.counts (ap (λ (g : Ground). g.sources.files.counts) bare.stays))
+  commit_later false commits = later_so left.sources.files.counts new.sources.files.counts (unmoved left.sources.files.counts new.sources.files.counts (ap (λ (g : Ground). g.sources.files.counts) commits.stays))
 
 module _ (used : Tool) (settings : Settings) (old new : World) (outcome : Outcome) (saves : List Save) (memory : outcome.end ≡ end.OutOfMemory) (none_refused : ¬ Rose old.stock.files.counts.refusals new.stock.files.counts.refusals) where
   worked_done : HasWorked used settings old new outcome saves → AllByRecursion IsDoneOrNot saves
@@ -273,19 +286,19 @@ module _ (used : Tool) (settings : Settings) (old new : World) (outcome : Outcom
       let start : SessionState = begins used settings old new outcome saves worked in
       let commit = commits used settings old new outcome saves worked in
       let saved_last : Bool = keeps_changes used && comes_to_save r.answer.ended in
-      let left : Stock = stock_of has.left.files has.left.layers in
+      let left : Ground = ground_of has.left.files r.left.world.links.io has.left.layers in
       let finish : r.finish ≡ end.OutOfMemory = finish_so used settings old new outcome saves worked end.OutOfMemory no_child memory in
-      let first : Later old.stock.files.counts worked.mid.stock.files.counts = start_later used settings.conf_path old.stock.files worked.mid.stock worked.roots worked.started in
-      let second : Later worked.mid.stock.files.counts has.left.files.counts
-      = tool_later worked.roots start worked.mid.links r.left.world.links 0 r.answer has.told has.left r.inner used has.uses in
-      let third : Later has.left.files.counts new.stock.files.counts = commit_later left new.stock r.last r.finish r.answer.ended saved_last commit in
-      let to_left : Later old.stock.files.counts has.left.files.counts = later_then old.stock.files.counts worked.mid.stock.files.counts has.left.files.counts first second in
+      let first : Later old.stock.files.counts worked.mid.sources.files.counts = start_later used settings.conf_path (ground_in old).sources worked.mid worked.roots worked.started in
+      let second : Later worked.mid.sources.files.counts has.left.files.counts
+      = tool_later worked.roots start (on_ground old worked.mid).links r.left.world.links 0 r.answer has.told has.left r.inner used has.uses in
+      let third : Later has.left.files.counts new.stock.files.counts = commit_later left (ground_in new) r.last r.finish r.answer.ended saved_last commit in
+      let to_left : Later old.stock.files.counts has.left.files.counts = later_then old.stock.files.counts worked.mid.sources.files.counts has.left.files.counts first second in
       subst (AllByRecursion IsDoneOrNot) (sym (one used settings old new outcome saves worked).saves_are)
       (all_both r.inner r.last
-      (inner_done worked.roots start worked.mid.links r.left.world.links 0 r.answer has.told has.left r.inner
-      (never_failed left new.stock r.last r.finish r.answer.ended (keeps_changes used) saved_last refl commit finish)
-      (λ rose. none_refused (rose_between old.stock.files.counts.refusals worked.mid.stock.files.counts.refusals has.left.files.counts.refusals new.stock.files.counts.refusals first.1 rose third.1)) used has.uses)
-      (last_done left new.stock r.last r.finish r.answer.ended (keeps_changes used) saved_last refl commit finish
+      (inner_done worked.roots start (on_ground old worked.mid).links r.left.world.links 0 r.answer has.told has.left r.inner
+      (never_failed left (ground_in new) r.last r.finish r.answer.ended (keeps_changes used) saved_last refl commit finish)
+      (λ rose. none_refused (rose_between old.stock.files.counts.refusals worked.mid.sources.files.counts.refusals has.left.files.counts.refusals new.stock.files.counts.refusals first.1 rose third.1)) used has.uses)
+      (last_done left (ground_in new) r.last r.finish r.answer.ended (keeps_changes used) saved_last refl commit finish
       (λ rose. none_refused (rose_behind old.stock.files.counts.refusals has.left.files.counts.refusals new.stock.files.counts.refusals to_left.1 rose.refusals))))
 
   tool_done : HasRunTool used settings old new outcome saves → AllByRecursion IsDoneOrNot saves
@@ -304,7 +317,7 @@ memory_stands words settings old new outcome saves ran memory none_refused =
 
 -- ---- no memory was refused by the files
 
-other_result : (error : LoadError) → ◌≡◌ {A = Result (Unit {0}) LoadError} (Err error) (Ok tt) → ⊥
+other_result : (error : SourceError) → ◌≡◌ {A = Result (Unit {0}) SourceError} (Err error) (Ok tt) → ⊥
 other_result error is = cc
 
 fault_kept : (sort : LayerSort) (files mid : FilesView) (before now : Counts) (fault : LoadError) → (fault ≡ load.OutOfMemory → ⊥) → LoadCountsBy sort files mid (Err fault) before now → Kept before now
@@ -314,42 +327,57 @@ fault_kept Pack files mid before now (load.Failed path) other counted = failed b
 fault_kept File files mid before now (load.Damaged path line) other counted = unmoved before now counted
 fault_kept Tree files mid before now (load.Damaged path line) other counted = unmoved before now counted
 fault_kept Pack files mid before now (load.Damaged path line) other counted = unmoved before now counted
+fault_kept Pipe files mid before now (load.Failed path) other counted = absurd counted
+fault_kept Pipe files mid before now (load.Damaged path line) other counted = absurd counted
 fault_kept sort files mid before now load.OutOfMemory other counted = absurd (other refl)
 
-load_refused : (spec : LayerSpec) (files mid : FilesView) (before counts now : Counts) (error : LoadError) (more last : Type 0) → (error ≡ load.OutOfMemory → ⊥) → (more → Kept counts now) → (last → now ≡ counts)
-    → (first : Result Loaded LoadError) → LoadCounts spec files mid first before counts → GoesOn first (Err error) more last → Kept before now
-load_refused spec files mid before counts now error more last other rest stays (Ok loaded) counted goes = kept_then before counts now (load_kept spec.sort files mid before counts loaded counted) (rest goes)
-load_refused spec files mid before counts now error more last other rest stays (Err fault) counted goes =
-    let same : error ≡ fault = cc in
-    subst (λ (c : Counts). Kept before c) (sym (stays goes.1)) (fault_kept spec.sort files mid before counts fault (λ is. other (same ∙ is)) counted)
+module _ (spec : LayerSpec) (layer made : LayerState) (from mid left : Sources) (error : SourceError) (more last : Type 0) (other : error ≡ source.Files load.OutOfMemory → ⊥)
+    (rest : more → Kept mid.files.counts left.files.counts) (stays : last → left ≡ mid) where
+  kept_here : last → Kept from.files.counts mid.files.counts → Kept from.files.counts left.files.counts
+  kept_here at kept = subst (λ (s : Sources). Kept from.files.counts s.files.counts) (sym (stays at)) kept
 
-loads_refused : (specs : List LayerSpec) (old new : List LayerState) (files files_new : FilesView) (before now : Counts) (error : LoadError) → (error ≡ load.OutOfMemory → ⊥) → LoadsAll specs old new files files_new before now (Err error) → Kept before now
-loads_refused [] old new files files_new before now error other loads = absurd (other_result error loads.0)
-loads_refused (spec ∷ specs) [] new files files_new before now error other loads = absurd loads
-loads_refused (spec ∷ specs) (layer ∷ old) [] files files_new before now error other loads = absurd loads
-loads_refused (spec ∷ specs) (layer ∷ old) (made ∷ new) files files_new before now error other loads =
-    load_refused spec files loads.1 before loads.2 now error (LoadsAll specs old new loads.1 files_new loads.2 now (Err error)) ((new ≡ old) × (files_new ≡ loads.1) × (now ≡ loads.2)) other
-    (loads_refused specs old new loads.1 files_new loads.2 now error other) (λ last. last.2) loads.0 loads.5 loads.6
+  piped_kept : mid.files ≡ from.files → Kept from.files.counts mid.files.counts
+  piped_kept same = unmoved from.files.counts mid.files.counts (ap (λ (f : FilesState). f.counts) same)
+
+  load_refused : (first : LoadAnswer) → LoadsOne spec layer made from mid first → GoesOn first (Err error) more last → Kept from.files.counts left.files.counts
+  load_refused (LoadAnswer.OfFiles (Ok loaded)) is goes =
+      kept_then from.files.counts mid.files.counts left.files.counts (load_kept spec.sort from.files.view mid.files.view from.files.counts mid.files.counts loaded is.2) (rest goes)
+  load_refused (LoadAnswer.OfPipe (Ok loaded)) is goes = kept_then from.files.counts mid.files.counts left.files.counts (piped_kept is.2) (rest goes)
+  load_refused (LoadAnswer.OfFiles (Err fault)) is goes =
+      let same : error ≡ source.Files fault = cc in
+      kept_here goes.1 (fault_kept spec.sort from.files.view mid.files.view from.files.counts mid.files.counts fault (λ none. other (same ∙ ap (λ (e : LoadError). source.Files e) none)) is.2)
+  load_refused (LoadAnswer.OfPipe (Err fault)) is goes = kept_here goes.1 (piped_kept is.2)
+
+loads_refused : (specs : List LayerSpec) (old new : List LayerState) (from left : Sources) (error : SourceError) → (error ≡ source.Files load.OutOfMemory → ⊥) → LoadsAll specs old new from left (Err error) → Kept from.files.counts left.files.counts
+loads_refused [] old new from left error other loads = absurd (other_result error loads.0)
+loads_refused (spec ∷ specs) [] new from left error other loads = absurd loads
+loads_refused (spec ∷ specs) (layer ∷ old) [] from left error other loads = absurd loads
+loads_refused (spec ∷ specs) (layer ∷ old) (made ∷ new) from left error other loads =
+    load_refused spec layer made from loads.1 left error (LoadsAll specs old new loads.1 left (Err error)) ((new ≡ old) × (left ≡ loads.1)) other
+    (loads_refused specs old new loads.1 left error other) (λ last. last.1) loads.0 loads.2 loads.3
 
 -- an end that isn't for want of memory
 abbrev IsOther : End → Type 0
 IsOther how = how ≡ end.OutOfMemory → ⊥
 
-before_kept : (used : Tool) (path : List ℕ) (old : FilesState) (new : Stock) (how : End) → IsOther how → EndsBefore used path old new how → Kept old.counts new.files.counts
-before_kept used path old new how other (inl none) = absurd (other none.end_is)
-before_kept used path old new how other (inr (inl unread)) = failed old.counts new.files.counts unread.counts
-before_kept used path old new how other (inr (inr (inl refused))) = unmoved old.counts new.files.counts refused.read.counts
-before_kept used path old new how other (inr (inr (inr (inl wrong)))) = unmoved old.counts new.files.counts wrong.read.counts
-before_kept used path old new how other (inr (inr (inr (inr (inl unbuilt))))) = unmoved old.counts new.files.counts unbuilt.read.counts
-before_kept used path old new how other (inr (inr (inr (inr (inr (inl unset)))))) = unmoved old.counts new.files.counts unset.read.counts
-before_kept used path old new how other (inr (inr (inr (inr (inr (inr unloaded)))))) =
-    loads_refused _ _ _ (conf_read used old.view path) new.files.view old.counts new.files.counts unloaded.error
-    (λ is. other (unloaded.end_is ∙ ap (λ (e : LoadError). end_of_load e) is)) unloaded.loaded.loads
+unloaded_kept : (used : Tool) (path : List ℕ) (old new : FilesState) (how : End) → IsOther how → EndsUnloaded used path old new how → Kept old.counts new.counts
+unloaded_kept used path old new how other (inl none) = absurd (other none.end_is)
+unloaded_kept used path old new how other (inr (inl unread)) = failed old.counts new.counts unread.counts
+unloaded_kept used path old new how other (inr (inr (inl refused))) = unmoved old.counts new.counts refused.read.counts
+unloaded_kept used path old new how other (inr (inr (inr (inl wrong)))) = unmoved old.counts new.counts wrong.read.counts
+unloaded_kept used path old new how other (inr (inr (inr (inr (inl misused))))) = unmoved old.counts new.counts misused.read.counts
+unloaded_kept used path old new how other (inr (inr (inr (inr (inr (inl unbuilt)))))) = unmoved old.counts new.counts unbuilt.read.counts
+unloaded_kept used path old new how other (inr (inr (inr (inr (inr (inr unset)))))) = unmoved old.counts new.counts unset.read.counts
 
-module _ (layers used : List LayerState) (files new : FilesState) (how : End) where
+before_kept : (used : Tool) (path : List ℕ) (old : Sources) (new : Ground) (how : End) → IsOther how → EndsBefore used path old new how → Kept old.files.counts new.sources.files.counts
+before_kept used path old new how other (inl unloaded) = unloaded_kept used path old.files new.sources.files how other unloaded.0
+before_kept used path old new how other (inr unloaded) =
+    loads_refused _ _ _ (conf_read_in used path old) new.sources unloaded.error (λ is. other (unloaded.end_is ∙ ap (λ (e : SourceError). end_of_load e) is)) unloaded.loaded.loads
+
+module _ (left new : Ground) (how : End) where
   -- want of memory in the tool is that of the run
-  tool_memory : (keeps : Bool) (ended : ToolEnd) → ended ≡ tool.OutOfMemory → FinishesWhere keeps layers used ended files new how → how ≡ end.OutOfMemory
-  tool_memory true ended is finishes = (subst (λ (e : ToolEnd). Finishes layers used e files new how) is finishes).end_is
+  tool_memory : (keeps : Bool) (ended : ToolEnd) → ended ≡ tool.OutOfMemory → FinishesWhere keeps left new ended how → how ≡ end.OutOfMemory
+  tool_memory true ended is finishes = (subst (λ (e : ToolEnd). Finishes left new e how) is finishes).end_is
   tool_memory false ended is broken = broken.end_is ∙ ap (λ (e : ToolEnd). end_of e) is
 
 memory_awaited : (started : Bool) (old new : LinkState) (how ended : End) (status left : ℕ) → Awaits started old new how ended status left → how ≡ end.OutOfMemory → ended ≡ end.OutOfMemory
@@ -360,21 +388,21 @@ memory_awaited false old new how ended status left none is = none.end_is ∙ is
 module _ (used : Tool) (settings : Settings) (old new : World) (outcome : Outcome) (other : IsOther outcome.end) where
   used_kept : HasUsed used settings old new outcome → Kept old.stock.files.counts new.stock.files.counts
   used_kept run =
-      let start = begun used (before_rounds (record old { stock = run.mid })) run.roots settings in
+      let start = begun used (before_rounds (on_ground old run.mid)) run.roots settings in
       let finish : IsOther run.how
       = λ is. other (memory_awaited run.answer.is_started run.links.child new.links.child run.how outcome.end run.answer.status run.status run.awaits is) in
-      kept_then old.stock.files.counts run.mid.files.counts new.stock.files.counts (start_kept used settings.conf_path old.stock.files run.mid run.roots run.started)
-      (kept_then run.mid.files.counts run.left.files.counts new.stock.files.counts
-      (tool_kept run.roots start old.links run.links 0 run.answer run.told run.left run.inner used
-      (λ is. finish (tool_memory run.left.layers new.stock.used run.left.files new.stock.files run.how (keeps_changes used) run.answer.ended is run.finishes)) run.uses)
-      (finished_kept run.left.layers new.stock.used run.left.files new.stock.files run.how (keeps_changes used) run.answer.ended finish run.finishes))
+      kept_then old.stock.files.counts run.mid.sources.files.counts new.stock.files.counts (start_kept used settings.conf_path (ground_in old).sources run.mid run.roots run.started)
+      (kept_then run.mid.sources.files.counts run.left.files.counts new.stock.files.counts
+      (tool_kept run.roots start (on_ground old run.mid).links run.links 0 run.answer run.told run.left run.inner used
+      (λ is. finish (tool_memory (ground_of run.left.files run.links.io run.left.layers) (ground_in new) run.how (keeps_changes used) run.answer.ended is run.finishes)) run.uses)
+      (finished_kept (ground_of run.left.files run.links.io run.left.layers) (ground_in new) run.how (keeps_changes used) run.answer.ended finish run.finishes))
 
   ran_kept : (saves : List Save) → HasRunTool used settings old new outcome saves → Kept old.stock.files.counts new.stock.files.counts
-  ran_kept saves (inl before) = before_kept used settings.conf_path old.stock.files new.stock outcome.end other before.0
+  ran_kept saves (inl before) = before_kept used settings.conf_path (ground_in old).sources (ground_in new) outcome.end other before.0
   ran_kept saves (inr worked) = used_kept (as_used used settings old new outcome saves worked)
 
 words_kept : (words : List (List ℕ)) (settings : Settings) (old new : World) (outcome : Outcome) (saves : List Save) → HasRunWords words settings old new outcome saves → IsOther outcome.end → Kept old.stock.files.counts new.stock.files.counts
-words_kept words settings old new outcome saves (inl refused) other = unmoved old.stock.files.counts new.stock.files.counts (ap (λ (s : Stock). s.files.counts) refused.0.untouched)
+words_kept words settings old new outcome saves (inl refused) other = unmoved old.stock.files.counts new.stock.files.counts (ap (λ (g : Ground). g.sources.files.counts) refused.0.untouched)
 words_kept words settings old new outcome saves (inr ran) other = ran_kept ran.0 settings old new outcome other saves ran.2
 
 pub none_refused : (words : List (List ℕ)) (settings : Settings) (old new : World) (outcome : Outcome) (saves : List Save) → HasRunWords words settings old new outcome saves → outcome.end ≢ end.OutOfMemory
@@ -434,8 +462,14 @@ awaited_before true old new how ended status left (inl has) is = subst IsBeforeS
 awaited_before true old new how ended status left (inr failed) is = unwaited_before how (subst IsBeforeSaves failed.end_is is)
 awaited_before false old new how ended status left none is = subst IsBeforeSaves none.end_is is
 
-committed_other : (saves : Bool) (ended : ToolEnd) (left new : Stock) (last : List Save) (how : End) → Commits saves ended left new last how → IsBeforeSaves how → ⊥
-committed_other true ended left new last how commits before = save_other ended commits.answer (subst IsBeforeSaves commits.end_is before)
+unsent_before : (error : LinkError) → IsBeforeSaves (end_unsent error) → ⊥
+unsent_before Failed is = is
+unsent_before OutOfMemory is = is
+
+committed_other : (saves : Bool) (ended : ToolEnd) (left new : Ground) (last : List Save) (how : End) → Commits saves ended left new last how → IsBeforeSaves how → ⊥
+committed_other true ended left new last how (inl saved) before = save_other ended saved.answer (subst IsBeforeSaves saved.end_is before)
+committed_other true ended left new last how (inr (inl not)) before = unsent_before not.unsent.error (subst IsBeforeSaves not.unsent.end_is before)
+committed_other true ended left new last how (inr (inr bare)) before = subst IsBeforeSaves bare.end_is before
 committed_other false ended left new last how commits before = tool_other ended (subst IsBeforeSaves commits.end_is before)
 
 module _ (used : Tool) (settings : Settings) (old new : World) (outcome : Outcome) (saves : List Save) where
@@ -444,7 +478,7 @@ module _ (used : Tool) (settings : Settings) (old new : World) (outcome : Outcom
       let has_one = one used settings old new outcome saves worked in
       let r = has_one.round in
       let has = works used settings old new outcome saves worked in
-      committed_other (keeps_changes used && comes_to_save r.answer.ended) r.answer.ended (stock_of has.left.files has.left.layers) new.stock r.last r.finish (commits used settings old new outcome saves worked)
+      committed_other (keeps_changes used && comes_to_save r.answer.ended) r.answer.ended (ground_of has.left.files r.left.world.links.io has.left.layers) (ground_in new) r.last r.finish (commits used settings old new outcome saves worked)
       (awaited_before r.answer.is_started r.left.world.links.child r.new.world.links.child r.finish r.how r.answer.status r.status has_one.is.awaits (subst IsBeforeSaves has_one.how_is before))
 
   tool_unsaved : HasRunTool used settings old new outcome saves → IsBeforeSaves outcome.end → saves ≡ []
@@ -486,9 +520,18 @@ saved_term ended (Ok done) comes is = let no : comes_to_save tool.TermFault ≡ 
 saved_term ended (Err (save.Failed path)) comes is = unsaved_term ended path comes is
 saved_term ended (Err save.OutOfMemory) comes is = cc
 
-committed_term : (keeps saves : Bool) (ended : ToolEnd) (left new : Stock) (last : List Save) (how : End) → saves ≡ keeps && comes_to_save ended → Commits saves ended left new last how → how ≡ end.TermFault
+unsent_term : (error : LinkError) → end_unsent error ≡ end.TermFault → ⊥
+unsent_term Failed is = cc
+unsent_term OutOfMemory is = cc
+
+memory_term : end.OutOfMemory ≡ end.TermFault → ⊥
+memory_term is = cc
+
+committed_term : (keeps saves : Bool) (ended : ToolEnd) (left new : Ground) (last : List Save) (how : End) → saves ≡ keeps && comes_to_save ended → Commits saves ended left new last how → how ≡ end.TermFault
     → (ended ≡ tool.TermFault) × (last ≡ [])
-committed_term keeps true ended left new last how is commits term = absurd (saved_term ended commits.answer (both_so keeps (comes_to_save ended) (sym is)) (sym commits.end_is ∙ term))
+committed_term keeps true ended left new last how is (inl saved) term = absurd (saved_term ended saved.answer (both_so keeps (comes_to_save ended) (sym is)) (sym saved.end_is ∙ term))
+committed_term keeps true ended left new last how is (inr (inl not)) term = absurd (unsent_term not.unsent.error (sym not.unsent.end_is ∙ term))
+committed_term keeps true ended left new last how is (inr (inr bare)) term = absurd (memory_term (sym bare.end_is ∙ term))
 committed_term keeps false ended left new last how is commits term = (ended_term ended (sym commits.end_is ∙ term), commits.saves_are)
 
 broken_term : (error : SaveError) → tool_end_of (link.Broken (saving.Save error)) ≡ tool.TermFault → ⊥
@@ -538,13 +581,13 @@ module _ (used : Tool) (settings : Settings) (old new : World) (outcome : Outcom
       let r = has_one.round in
       let has = works used settings old new outcome saves worked in
       let start : SessionState = begins used settings old new outcome saves worked in
-      let so = committed_term (keeps_changes used) (keeps_changes used && comes_to_save r.answer.ended) r.answer.ended (stock_of has.left.files has.left.layers) new.stock r.last r.finish refl (commits used settings old new outcome saves worked)
+      let so = committed_term (keeps_changes used) (keeps_changes used && comes_to_save r.answer.ended) r.answer.ended (ground_of has.left.files r.left.world.links.io has.left.layers) (ground_in new) r.last r.finish refl (commits used settings old new outcome saves worked)
       (finish_so used settings old new outcome saves worked end.TermFault no_child_term term) in
       subst AreAsked (sym (has_one.saves_are ∙ ap (λ (l : List Save). r.inner ++ l) so.1 ∙ append-nil r.inner))
-      (inner_asked worked.roots start worked.mid.links r.left.world.links 0 r.answer has.told has.left r.inner so.0 used has.uses)
+      (inner_asked worked.roots start (on_ground old worked.mid).links r.left.world.links 0 r.answer has.told has.left r.inner so.0 used has.uses)
 
   tool_asked : HasRunTool used settings old new outcome saves → AreAsked saves
-  tool_asked (inl before) = absurd (not_before used settings.conf_path old.stock.files new.stock outcome.end (subst IsOfTool (sym term) tt) before.0)
+  tool_asked (inl before) = absurd (not_before used settings.conf_path (ground_in old).sources (ground_in new) outcome.end (subst IsOfTool (sym term) tt) before.0)
   tool_asked (inr worked) = worked_asked worked
 
 pub asked_saves : (words : List (List ℕ)) (settings : Settings) (old new : World) (outcome : Outcome) (saves : List Save) → HasRunWords words settings old new outcome saves → outcome.end ≡ end.TermFault → AreAsked saves
@@ -556,9 +599,10 @@ asked_saves words settings old new outcome saves (inr ran) term = tool_asked ran
 pub met_none : (words : List (List ℕ)) (settings : Settings) (old new : World) (outcome : Outcome) (saves : List Save) → HasRunWords words settings old new outcome saves → outcome.end ≡ end.Done → MetNoFault old.links new.links
 met_none words settings old new outcome saves ran done =
     let run = is_run words settings old new outcome saves ran in
-    let links : LinksCount end.Done old.links new.links = subst (λ (e : End). LinksCount e old.links new.links) done run.links_count in
+    let counts = run.links_count in
+    let behind : LinksCount end.Done (record old.links { io = counts.mid }) new.links = subst (λ (e : End). LinksCount e (record old.links { io = counts.mid }) new.links) done counts.behind in
     record {
-      io = links.on_io;
-      child = links.on_child;
+      io = subst (λ (c : Counts). CountsLoads old.links.io.counts c) (sym behind.on_io) counts.loads;
+      child = behind.on_child;
       program = subst (λ (e : End). ProgramCounts e old.links.child.program.failures new.links.child.program.failures) done run.program_counts;
     }

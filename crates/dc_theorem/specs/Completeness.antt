@@ -1,5 +1,5 @@
 -- How a run ends at which nothing outside failed, and what it leaves where it didn't do all.
-use Rattle.std.specs.Prelude.{◌≡◌, ◌≢◌, ◌⊎◌, ℕ, ◌^◌, ◌<◌, Bool, true, false, List, [], ◌∷◌, ◌++◌, length, Option, Some, Err, map as each}
+use Rattle.std.specs.Prelude.{◌≡◌, ◌≢◌, ◌⊎◌, ℕ, ◌^◌, ◌<◌, Bool, true, false, List, [], ◌∷◌, ◌++◌, length, Option, Some, None, Err, map as each}
 use Rattle.std.specs.Io.KnownBytes.{prepend_known}
 use Rattle.std.specs.List.{AllByRecursion}
 use Rattle.dc_outside.specs.Counts.{Rose}
@@ -39,11 +39,14 @@ use Rattle.dc_layer.specs.Rules.{rules_of, are_plain}
 use Rattle.dc_layer.specs.State.{LayerState, saved}
 use Rattle.dc_save.specs.FolderLoading.{path_at}
 use Rattle.dc_save.specs.Loading.{LoadsLayer}
+use Rattle.dc_save.specs.PipeLoading.{LoadsPipe}
 use Rattle.dc_save.specs.declared.loading.LoadError.TheVariants.{Damaged}
+use Rattle.dc_save.specs.declared.pipe_loading.PipeError.TheVariants as pipe
+use Rattle.dc_run.specs.Ends.{CountsLoads}
 use Rattle.dc_run.specs.Kills.{AllDone, disk_after}
 use Rattle.dc_run.specs.Saves.{Save}
 use Rattle.dc_run.specs.SavingSession.{SavesAll, TakesSaving, saves_in}
-use Rattle.dc_run.specs.Starting.{IsChosen, databases_of, loaded_of, pattern_words}
+use Rattle.dc_run.specs.Starting.{IsChosen, databases_of, loaded_of, misused_pipe, pattern_words}
 use Rattle.dc_run.specs.World.{Links, World}
 use Rattle.dc_run.specs.declared.outcome.End.{End}
 use Rattle.dc_run.specs.declared.outcome.End.TheVariants as end
@@ -76,14 +79,22 @@ FewServed used old new = Unit {0}
 abbrev pub IsReadable : Disk → LayerSpec → Type 0
 IsReadable disk spec = (layer new : LayerState) (path : List ℕ) (line : ℕ) → ¬ LoadsLayer (Some disk) spec layer new (Err (Damaged path line))
 
--- The words name a tool and no wrong database. The files tell a disk, on which this configuration and all loaded databases have readings. No
--- count of faults rose, but that of standard error may have, and fewer than 2^40 bytes came on the link that is served.
+-- no load of a database that comes through a pipe from this link finds more than may come, or no reading of it
+pub record IsPipeReadable (link : LinkState) (spec : LayerSpec) : Type 0 where
+  pub fits : (layer new : LayerState) (left : LinkState) → ¬ LoadsPipe spec layer new link left (Err pipe.TooLong)
+  pub reads : (layer new : LayerState) (left : LinkState) (line : ℕ) → ¬ LoadsPipe spec layer new link left (Err (pipe.Damaged line))
+
+-- The words name a tool and no wrong database, and the tool misuses no pipe. The files tell a disk, on which this configuration and all loaded
+-- databases have readings, and so has what comes through a pipe, of which no more comes than may. No count of faults rose, but that of standard
+-- error may have, and fewer than 2^40 bytes came on the link that is served.
 pub record IsUndisturbed (words : List (List ℕ)) (used : Tool) (conf : Configuration) (settings : Settings) (old new : World) : Type 0 where
   pub named : Names words used
   pub disk : Disk
   pub told : old.stock.files.view.disk ≡ Some disk
   pub conf_is : IsChosen used (Some disk) settings.conf_path conf
+  pub unmisused : misused_pipe used conf ≡ None
   pub readable : AllByRecursion (IsReadable disk) (loaded_of used conf)
+  pub piped : AllByRecursion (IsPipeReadable old.links.io) (loaded_of used conf)
   pub none_rose : NoneRose old new
   pub few : FewServed used old.links new.links
 
@@ -145,9 +156,10 @@ pub record StandsBehindDone (saves : List Save) (old new : Option Disk) : Type 0
 
 -- ---- where all was done
 
--- no call on a link failed or was refused for want of memory, and no start or wait of the program failed
+-- no call on a link failed, but for a read of what comes through a pipe that was left out, none was refused for want of memory, and no start or wait
+-- of the program failed
 pub record MetNoFault (old new : Links) : Type 0 where
-  pub io : new.io.counts ≡ old.io.counts
+  pub io : CountsLoads old.io.counts new.io.counts
   pub child : new.child.counts ≡ old.child.counts
   pub program : new.child.program.failures ≡ old.child.program.failures
 

@@ -1,5 +1,9 @@
 -- Two runs of the program into which the same comes, and what they say and leave.
-use Rattle.std.specs.Prelude.{◌≡◌, ℕ, ◌-◌, ◌^◌, ◌<◌, List, Some}
+use Rattle.std.specs.Prelude.{◌≡◌, ℕ, ◌-◌, ◌^◌, ◌<◌, ◌&&◌, true, List, Some}
+use Rattle.std.specs.List.{list_any}
+use Rattle.dc_cli.specs.declared.tool.Tool.{Tool}
+use Rattle.dc_conf.specs.Configuration.{Configuration}
+use Rattle.dc_layer.specs.State.{is_pipe}
 use Rattle.dc_outside.specs.Counts.{Counts}
 use Rattle.dc_outside.specs.State.{LinkState}
 use Rattle.dc_outside.specs.Disk.{Disk}
@@ -13,6 +17,7 @@ use Rattle.dc_run.specs.declared.settings.Settings.{Settings}
 use Rattle.dc_run.specs.EndLines.{HasSaid}
 use Rattle.dc_run.specs.Headline.{HasRunWords}
 use Rattle.dc_run.specs.Saves.{Save}
+use Rattle.dc_run.specs.Starting.{IsConfiguration, databases_of}
 use Rattle.dc_run.specs.World.{World}
 
 -- ---- what comes in
@@ -30,6 +35,19 @@ pub record IsClean (words : List (List ℕ)) (settings : Settings) (disk : Disk)
   pub ran : HasRunWords words settings old new outcome saves
   pub done : outcome.end ≡ Done
   pub none_failed : NoneFailed old.stock.files.counts new.stock.files.counts
+
+-- one of the tool's databases, by a configuration on this disk, is read from the link
+abbrev pub ReadsLink : Tool → Disk → List ℕ → Type 0
+ReadsLink used disk path =
+    (conf : Configuration) × IsConfiguration used (Some disk) path conf × (list_any (λ spec. is_pipe spec.sort && spec.infd) (databases_of used conf) ≡ true)
+
+-- the same bytes come on two links, in whatever pieces, and no failure was counted there
+pub record ComeAlike (one new other last : LinkState) : Type 0 where
+  pub input : List ℕ
+  pub one_input_is : one.input ≡ Some input
+  pub other_input_is : other.input ≡ Some input
+  pub none_failed : NoneFailed one.counts new.counts
+  pub other_none_failed : NoneFailed other.counts last.counts
 
 -- all is told of two terminals: the same was said there before, and the same is typed, in whatever pieces
 pub record AreTypedAlike (one other : LinkState) : Type 0 where
@@ -91,7 +109,13 @@ pub record ShowAlike (one new : World) (outcome : Outcome) (other last : World) 
   pub printed : SayAlike one.links.io new.links.io other.links.io last.links.io
   pub status : again.status ≡ outcome.status
 
--- two runs of `loadtemplate`, of `copydb` or of `set-selections`
+-- two runs of `copydb` sent the same through a pipe, if they sent anything
+pub record CopyAlike (one new : World) (outcome : Outcome) (other last : World) (again : Outcome) : Type 0 where
+  pub leave : LeaveAlike one new outcome other last again
+  pub sent : SayAlike one.links.io new.links.io other.links.io last.links.io
+  pub status : again.status ≡ outcome.status
+
+-- two runs of `loadtemplate`, or of `set-selections`
 pub record LoadAlike (one new : World) (outcome : Outcome) (other last : World) (again : Outcome) : Type 0 where
   pub leave : LeaveAlike one new outcome other last again
   pub status : again.status ≡ outcome.status

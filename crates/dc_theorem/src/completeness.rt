@@ -10,14 +10,14 @@ ghost use Rattle.dc_run.specs.Headline.{HasRunWords};
 ghost use Rattle.dc_run.specs.OneRound.{HasUsed};
 ghost use Rattle.dc_run.specs.Saves.{Save};
 ghost use Rattle.dc_run.specs.Starting.{begun, loaded_of};
-ghost use Rattle.dc_run.specs.World.{World, before_rounds};
+ghost use Rattle.dc_run.specs.World.{World, before_rounds, on_ground};
 ghost use Rattle.dc_run.specs.declared.outcome.End.TheVariants.{Done, OutOfMemory, TermFault};
 ghost use Rattle.dc_run.specs.declared.outcome.Outcome.{Outcome};
 ghost use Rattle.dc_run.specs.declared.settings.Settings.{Settings};
 ghost use Rattle.dc_theorem.specs.Completeness.{AnswersAll, AreAsked, IsUndisturbed, EndsWell, IsBeforeSaves, EndsEarly, FailsAtMost, KeepUp, MetNoFault, StandsBehindDone};
 
-/// A run ends well at which nothing outside failed: its words name a tool, its configuration and the loaded databases can be read, no count of
-/// faults rose but that of standard error, and fewer than 2^40 bytes came. It did all that it was to do, or memory ran out; only a pattern that
+/// A run ends well at which nothing outside failed: its words name a tool, its configuration, the loaded databases and what comes through a pipe can be
+/// read, no count of faults rose but that of standard error, and fewer than 2^40 bytes came. It did all that it was to do, or memory ran out; only a pattern that
 /// isn't plain may be refused.
 pub fn a_clean_run_ends_well()
     ensures { (words : List (List ℕ)) (used : Tool) (conf : Configuration) (settings : Settings) (old new : World) (outcome : Outcome) (saves : List Save)
@@ -31,11 +31,11 @@ pub fn each_line_has_its_reply()
     ensures communicate { (owner : List ℕ) (settings : Settings) (old new : World) (outcome : Outcome)
         → (run : HasUsed (Communicate owner) settings old new outcome) → outcome.end ≡ Done
         → ¬ Rose old.stock.files.counts.faults new.stock.files.counts.faults
-        → AnswersAll (begun (Communicate owner) (before_rounds (record old { stock = run.mid })) run.roots settings) old.links.io new.links.io }
+        → AnswersAll (begun (Communicate owner) (before_rounds (on_ground old run.mid)) run.roots settings) old.links.io new.links.io }
     ensures run { (owner : List ℕ) (frontend : Option Frontend) (priority : Option Priority) (command : List (List ℕ)) (settings : Settings)
         (old new : World) (outcome : Outcome) → (run : HasUsed (Run owner frontend priority command) settings old new outcome) → outcome.end ≡ Done
         → ¬ Rose old.stock.files.counts.faults new.stock.files.counts.faults
-        → AnswersAll (begun (Run owner frontend priority command) (before_rounds (record old { stock = run.mid })) run.roots settings)
+        → AnswersAll (begun (Run owner frontend priority command) (before_rounds (on_ground old run.mid)) run.roots settings)
         old.links.child new.links.child }
 {}
 
@@ -62,12 +62,15 @@ pub fn a_refusal_of_memory_ends_the_run()
         → new.stock.files.counts.refusals ≡ old.stock.files.counts.refusals }
 {}
 
-/// Where a run did all that it was to do, no call on a link failed or was refused, and neither the start of its program nor the wait for it. Each
-/// call of the files that failed was one of a load of a database that isn't required, or the read of a command with code 100.
+/// Where a run did all that it was to do, no call on a link failed or was refused behind its loads, and in these at most the read of what comes through a
+/// pipe that was left out; and neither the start of its program nor the wait for it failed. Each call of the files that failed was one of a load of a
+/// database that isn't required, or the read of a command with code 100.
 pub fn a_run_that_did_all_met_no_fault()
     ensures files { (used : Tool) (settings : Settings) (old new : World) (outcome : Outcome)
         → (run : HasUsed used settings old new outcome) → outcome.end ≡ Done
-        → FailsAtMost used (loaded_of used run.roots.conf) (begun used (before_rounds (record old { stock = run.mid })) run.roots settings) old new }
+        → FailsAtMost used (loaded_of used run.roots.conf) (begun used (before_rounds (on_ground old run.mid)) run.roots settings) old new }
+    ensures behind { (used : Tool) (settings : Settings) (old new : World) (outcome : Outcome)
+        → (run : HasUsed used settings old new outcome) → outcome.end ≡ Done → new.links.io.counts ≡ run.mid.sources.link.counts }
     ensures links { (words : List (List ℕ)) (settings : Settings) (old new : World) (outcome : Outcome) (saves : List Save)
         → HasRunWords words settings old new outcome saves → outcome.end ≡ Done → MetNoFault old.links new.links }
 {}
@@ -78,9 +81,9 @@ pub fn a_run_that_did_all_met_no_fault()
 pub fn tables_are_not_behind_the_replies()
     ensures communicate { (owner : List ℕ) (settings : Settings) (old new : World) (outcome : Outcome)
         → (run : HasUsed (Communicate owner) settings old new outcome) → EndsEarly outcome.end
-        → KeepUp (begun (Communicate owner) (before_rounds (record old { stock = run.mid })) run.roots settings) old.links.io new.links.io new.stock.used }
+        → KeepUp (begun (Communicate owner) (before_rounds (on_ground old run.mid)) run.roots settings) old.links.io new.links.io new.stock.used }
     ensures run { (owner : List ℕ) (frontend : Option Frontend) (priority : Option Priority) (command : List (List ℕ)) (settings : Settings)
         (old new : World) (outcome : Outcome) → (run : HasUsed (Run owner frontend priority command) settings old new outcome) → EndsEarly outcome.end
-        → KeepUp (begun (Run owner frontend priority command) (before_rounds (record old { stock = run.mid })) run.roots settings)
+        → KeepUp (begun (Run owner frontend priority command) (before_rounds (on_ground old run.mid)) run.roots settings)
         old.links.child new.links.child new.stock.used }
 {}

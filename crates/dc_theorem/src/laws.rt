@@ -18,7 +18,7 @@ ghost use Rattle.dc_cli.specs.declared.tool.CopyWords.{CopyWords};
 ghost use Rattle.dc_cli.specs.declared.tool.PlacedWord.{PlacedWord};
 ghost use Rattle.dc_cli.specs.declared.tool.Shown.{Shown};
 ghost use Rattle.dc_cli.specs.declared.tool.Tool.TheVariants.{Communicate, CopyDb, GetSelections, LoadTemplate, Run, SetSelections, Show};
-ghost use Rattle.dc_theorem.specs.Runs.{NoneFailed, IsClean, AreTypedAlike, CommunicateAlike, RunAlike, LoadAlike, ShowAlike};
+ghost use Rattle.dc_theorem.specs.Runs.{NoneFailed, IsClean, AreTypedAlike, ComeAlike, CommunicateAlike, CopyAlike, ReadsLink, RunAlike, LoadAlike, ShowAlike};
 
 /// The bytes of the link, the disk and what is typed determine a session with its saves in which no call of the files failed: two from states that
 /// are alike and follow the same code, and both come to the end, send the same replies, leave what is alike and tell the same on standard error, as far as
@@ -36,7 +36,8 @@ pub fn what_comes_in_determines_the_session()
 /// What comes in determines what a run says and leaves, however its bytes are cut. Two runs with the same words and settings, over files
 /// that tell the same, that both did all that they were to do, and in which no call of the files failed: where the same bytes came on the
 /// link, and the same was typed on the terminal, in whatever pieces, they sent the same replies or printed the same, said the same on the terminal and
-/// on standard error, hold the same layers, and leave the same disk by the same calls.
+/// on standard error, hold the same layers, and leave the same disk by the same calls. Two copies of a database that comes through a pipe must have met no
+/// fault of their link either.
 ///
 /// It says nothing of runs that end otherwise, or in which a call of the files failed, and nothing of the status of `run`, which the program
 /// gives that it started.
@@ -63,7 +64,9 @@ pub fn what_comes_in_determines_the_run()
         → IsClean words settings disk calls one new outcome → IsClean words settings disk calls other last again → ShowAlike one new outcome other last again }
     ensures copydb { (words : List (List ℕ)) (copy : CopyWords) (settings : Settings) (disk : Disk) (calls : List FilesCall)
         (one new other last : World) (outcome again : Outcome) → Names words (CopyDb copy)
-        → IsClean words settings disk calls one new outcome → IsClean words settings disk calls other last again → LoadAlike one new outcome other last again }
+        → IsClean words settings disk calls one new outcome → IsClean words settings disk calls other last again
+        → (ReadsLink (CopyDb copy) disk settings.conf_path → ComeAlike one.links.io new.links.io other.links.io last.links.io)
+        → CopyAlike one new outcome other last again }
     ensures set_selections { (words : List (List ℕ)) (verbose check unseen : Bool) (settings : Settings) (disk : Disk) (calls : List FilesCall)
         (one new other last : World) (outcome again : Outcome) (input : List ℕ) → Names words (SetSelections verbose check unseen)
         → IsClean words settings disk calls one new outcome → IsClean words settings disk calls other last again → one.links.io.input ≡ Some input

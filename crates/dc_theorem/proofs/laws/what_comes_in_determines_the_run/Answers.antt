@@ -1,8 +1,9 @@
 use Rattle.dc_theorem.proofs.CommunicateLaw.{communicate_alike}
+use Rattle.dc_theorem.proofs.CopyLaw.{copy_alike}
 use Rattle.dc_theorem.proofs.LoadLaw.{load_alike}
 use Rattle.dc_theorem.proofs.RunLaw.{program_alike}
 use Rattle.dc_theorem.proofs.SelectLaw.{select_alike}
-use Rattle.dc_theorem.proofs.ToolLaws.{answers_alike, copy_alike, show_alike}
+use Rattle.dc_theorem.proofs.ToolLaws.{answers_alike, show_alike}
 use Rattle.dc_theorem.proofs.laws.what_comes_in_determines_the_run.Goals as goal
 
 pub returns-clause-communicate : goal.returns-clause-communicate
