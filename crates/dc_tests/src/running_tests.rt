@@ -1,13 +1,13 @@
 // A run over a real folder.
 ghost use Rattle.std.specs.Prelude.{◌≡◌, ◌≤◌, [], length, map as each};
-ghost use Rattle.dc_conf.specs.declared.spec.LayerSort.TheVariants.{File as OneFile, Tree, Pack};
+ghost use Rattle.dc_conf.specs.declared.spec.LayerSort.TheVariants.{File as OneFile, Tree, Pack, Pipe};
 ghost use Rattle.dc_layer.specs.State.{blank};
-ghost use Rattle.dc_run.specs.World.{files_in, packs_in, trees_in};
+ghost use Rattle.dc_run.specs.World.{files_in, packs_in, pipes_in, trees_in};
 ghost use Rattle.dc_shelf.specs.Shelves.{AreBlank};
 
 use dc_dirs::{DirTreeLayer, PackageDirLayer};
 use dc_host::HostFiles;
-use dc_layer::{FileLayer, Layer};
+use dc_layer::{FileLayer, Layer, PipeLayer};
 use dc_outside::{Files, MemLink};
 use dc_pipes::HostChild;
 use dc_run::{Settings, Shelf, run_words};
@@ -45,7 +45,7 @@ fn configure(rt: &impl Abort, host: &HostRuntime, folder: &str) {
         .expect(rt, "done");
 }
 
-// A blank layer of each sort.
+// A blank layer of each sort that is kept in files.
 fn blank_boxes(
     rt: &impl Abort,
     alloc: Global,
@@ -60,17 +60,27 @@ fn blank_boxes(
     (file, tree, pack)
 }
 
+// A blank layer for what comes through a pipe.
+fn blank_pipe(rt: &impl Abort, alloc: Global) -> Box<PipeLayer>
+    ensures { ⟦<PipeLayer as Layer>⟧.state result.value ≡ blank Pipe }
+{
+    Box::new(alloc, PipeLayer::blank(alloc)).expect(rt, "memory")
+}
+
 // A shelf of blank layers.
 fn blank_shelf(rt: &impl Abort, alloc: Global) -> Shelf
     ensures files { AreBlank OneFile (files_in state result) }
     ensures trees { AreBlank Tree (trees_in state result) }
     ensures packs { AreBlank Pack (packs_in state result) }
+    ensures pipes { AreBlank Pipe (pipes_in state result) }
     ensures some_files { 16 ≤ length result.files.items }
     ensures some_trees { 16 ≤ length result.trees.items }
     ensures some_packs { 16 ≤ length result.packs.items }
+    ensures some_pipes { 1 ≤ length result.pipes.items }
     ensures used { result.used.items ≡ [] }
 {
     let mut shelf = Shelf::empty(alloc);
+    shelf.take_pipe(blank_pipe(rt, alloc)).expect(rt, "memory");
     while shelf.files.len() < 16 {
         let (file, tree, pack) = blank_boxes(rt, alloc);
         shelf.take_each(file, tree, pack).expect(rt, "memory");

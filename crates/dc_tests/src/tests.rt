@@ -210,6 +210,8 @@ fn layer(rt: &impl Abort, alloc: Global) -> FileLayer {
         extension: Text::new(alloc),
         mode: 0o640,
         backup: false,
+        infd: false,
+        outfd: false,
         readonly: false,
         required: true,
         accept_name: None,

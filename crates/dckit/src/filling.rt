@@ -1,19 +1,19 @@
 // The shelf of a run, filled with blank layers.
 ghost use Rattle.std.specs.Prelude.{◌≡◌, IfOk};
-ghost use Rattle.dc_conf.specs.declared.spec.LayerSort.TheVariants.{File as OneFile, Tree, Pack};
+ghost use Rattle.dc_conf.specs.declared.spec.LayerSort.TheVariants.{File as OneFile, Tree, Pack, Pipe};
 ghost use Rattle.dc_outside.specs.Programs.{IsIdle};
 ghost use Rattle.dc_layer.specs.State.{blank};
 ghost use Rattle.dc_run.specs.Headline.{IsProgramRun};
 ghost use Rattle.dc_run.specs.World.{links_of, world_before};
 
 use dc_dirs::{DirTreeLayer, PackageDirLayer};
-use dc_layer::{FileLayer, Layer};
+use dc_layer::{FileLayer, Layer, PipeLayer};
 use dc_outside::{Child, Files, Link};
 use dc_run::{Settings, Shelf, run_words};
 use dc_text::{List, Mem, Text};
 use std::alloc::Global;
 
-// One more blank layer of each sort on the shelf.
+// One more blank layer of each sort that is kept in files on the shelf.
 macro_rules! fill {
     ($shelf:ident, $alloc:expr) => {{
         let (file, tree, pack) = blank_boxes($alloc)?;
@@ -21,7 +21,7 @@ macro_rules! fill {
     }};
 }
 
-// A blank layer of each sort.
+// A blank layer of each sort that is kept in files.
 fn blank_boxes(alloc: Global) -> Mem<(Box<FileLayer>, Box<DirTreeLayer>, Box<PackageDirLayer>)>
     ensures file { IfOk result (λ boxes. ⟦<FileLayer as Layer>⟧.state boxes.0.value ≡ blank OneFile) }
     ensures tree { IfOk result (λ boxes. ⟦<DirTreeLayer as Layer>⟧.state boxes.1.value ≡ blank Tree) }
@@ -33,8 +33,15 @@ fn blank_boxes(alloc: Global) -> Mem<(Box<FileLayer>, Box<DirTreeLayer>, Box<Pac
     Ok((file, tree, pack))
 }
 
-/// Runs the words over a shelf of blank layers: sixteen of each sort, as many as a configuration may have databases of it. It answers the
-/// exit status. What made a box of any layer could break what is said of it, so that no function hands one out.
+// A blank layer for what comes through a pipe.
+fn blank_pipe(alloc: Global) -> Mem<Box<PipeLayer>>
+    ensures { IfOk result (λ pipe. ⟦<PipeLayer as Layer>⟧.state pipe.value ≡ blank Pipe) }
+{
+    Ok(Box::new(alloc, PipeLayer::blank(alloc))?)
+}
+
+/// Runs the words over a shelf of blank layers: sixteen of each sort that is kept in files and one for a pipe, as many as a configuration may have
+/// databases of it. It answers the exit status. What made a box of any layer could break what is said of it, so that no function hands one out.
 pub fn run_over<L: Link, E: Link, C: Child, F: Files>(
     alloc: Global,
     words: &List<Text>,
@@ -50,6 +57,7 @@ pub fn run_over<L: Link, E: Link, C: Child, F: Files>(
         (links_of (L.link io.new) (C.link child.new)) (E.link err.new) (F.files files.new) status) }
 {
     let mut shelf = Shelf::empty(alloc);
+    shelf.take_pipe(blank_pipe(alloc)?)?;
     fill!(shelf, alloc);
     fill!(shelf, alloc);
     fill!(shelf, alloc);

@@ -1,6 +1,6 @@
 use Rattle.std.proofs.Common.{◌≡◌, ◌-◌, ◌≤◌, [], length}
 use Rattle.std.proofs.Common.{map as each}
-use Rattle.dc_conf.specs.declared.spec.LayerSort.TheVariants.{File as OneFile, Tree, Pack}
+use Rattle.dc_conf.specs.declared.spec.LayerSort.TheVariants.{File as OneFile, Tree, Pack, Pipe}
 use Rattle.dc_shelf.specs.Shelves.{AreBlank}
 use Rattle.dc_tests.proofs.running_tests.blank_shelf.Given as goal
 
@@ -9,6 +9,8 @@ invariant-loop-alloc g l = record {
   files : AreBlank OneFile (each (λ b. (goal.Layer-dyn g (b.vtable, b.value)).state b.value) l.shelf.files.items);
   trees : AreBlank Tree (each (λ b. (goal.Layer-dyn g (b.vtable, b.value)).state b.value) l.shelf.trees.items);
   packs : AreBlank Pack (each (λ b. (goal.Layer-dyn g (b.vtable, b.value)).state b.value) l.shelf.packs.items);
+  pipes : AreBlank Pipe (each (λ b. (goal.Layer-dyn g (b.vtable, b.value)).state b.value) l.shelf.pipes.items);
+  some_pipes : 1 ≤ length l.shelf.pipes.items;
   count : length l.shelf.files.items ≤ 16;
   as_many_trees : length l.shelf.trees.items ≡ length l.shelf.files.items;
   as_many_packs : length l.shelf.packs.items ≡ length l.shelf.files.items;
