@@ -1,19 +1,19 @@
 // A run over a shelf of blank layers, which may be tired.
 ghost use Rattle.std.specs.Prelude.{◌≡◌, ◌≤◌, [], length, IfOk, map as each};
-ghost use Rattle.dc_conf.specs.declared.spec.LayerSort.TheVariants.{File as OneFile, Tree, Pack};
+ghost use Rattle.dc_conf.specs.declared.spec.LayerSort.TheVariants.{File as OneFile, Tree, Pack, Pipe};
 ghost use Rattle.dc_layer.specs.State.{blank};
 ghost use Rattle.dc_outside.specs.Programs.{IsIdle};
-ghost use Rattle.dc_run.specs.World.{files_in, packs_in, trees_in};
+ghost use Rattle.dc_run.specs.World.{files_in, packs_in, pipes_in, trees_in};
 ghost use Rattle.dc_shelf.specs.Shelves.{AreBlank};
 
 use dc_dirs::{DirTreeLayer, PackageDirLayer};
-use dc_layer::{Layer, TiredLayer};
+use dc_layer::{Layer, PipeLayer, TiredLayer};
 use dc_outside::{MemChild, MemFiles, MemLink};
 use dc_run::{Outcome, Settings, Shelf, run_words};
 use dc_text::{List, Mem, Name, OutOfMemory, Text};
 use std::alloc::Global;
 
-// One more blank layer of each sort on the shelf.
+// One more blank layer of each sort that is kept in files on the shelf.
 macro_rules! fill {
     ($shelf:ident, $alloc:expr, $changes:expr) => {{
         let (file, tree, pack) = blank_boxes($alloc, $changes)?;
@@ -39,7 +39,7 @@ pub struct Played {
     pub held: Text,
 }
 
-// A blank layer of each sort, of which the one in a file takes so many changes.
+// A blank layer of each sort that is kept in files, of which the one in a file takes so many changes.
 fn blank_boxes(
     alloc: Global,
     changes: u64,
@@ -54,7 +54,14 @@ fn blank_boxes(
     Ok((file, tree, pack))
 }
 
-/// Runs the words over blank layers: sixteen of each sort, as many as a configuration may have.
+// A blank layer for what comes through a pipe.
+fn blank_pipe(alloc: Global) -> Mem<Box<PipeLayer>>
+    ensures { IfOk result (λ pipe. ⟦<PipeLayer as Layer>⟧.state pipe.value ≡ blank Pipe) }
+{
+    Ok(Box::new(alloc, PipeLayer::blank(alloc))?)
+}
+
+/// Runs the words over blank layers: sixteen of each sort that is kept in files and one for a pipe, as many as a configuration may have.
 pub fn play(
     alloc: Global,
     task: Task<'_>,
@@ -66,6 +73,7 @@ pub fn play(
     requires { IsIdle child.old.program.life }
 {
     let mut shelf = Shelf::empty(alloc);
+    shelf.take_pipe(blank_pipe(alloc)?)?;
     fill!(shelf, alloc, task.changes);
     fill!(shelf, alloc, task.changes);
     fill!(shelf, alloc, task.changes);
@@ -98,9 +106,11 @@ fn play_over(
     requires files { AreBlank OneFile (files_in state shelf.old) }
     requires trees { AreBlank Tree (trees_in state shelf.old) }
     requires packs { AreBlank Pack (packs_in state shelf.old) }
+    requires pipes { AreBlank Pipe (pipes_in state shelf.old) }
     requires some_files { 16 ≤ length shelf.old.files.items }
     requires some_trees { 16 ≤ length shelf.old.trees.items }
     requires some_packs { 16 ≤ length shelf.old.packs.items }
+    requires some_pipes { 1 ≤ length shelf.old.pipes.items }
     requires used { shelf.old.used.items ≡ [] }
     requires idle { IsIdle child.old.program.life }
 {
