@@ -12,6 +12,8 @@ pub enum Frontend {
     Noninteractive,
     /// Questions are asked on a terminal, line by line.
     Teletype,
+    /// Another program asks them, which is told over a wire.
+    Passthrough,
 }
 
 const ASKING_WORDS: [&[u8]; 8] = [
@@ -29,12 +31,14 @@ impl Frontend {
     ghost use Rattle.std.specs.Prelude.{◌≡◌};
     ghost use Rattle.dc_frontend.specs.Frontends.{frontend_of};
 
-    /// The frontend of a word, read without regard to case: the words of all frontends that ask (debconf(7)) are the teletype's.
+    /// The frontend of a word, read without regard to case: the words of all frontends that ask themselves (debconf(7)) are the teletype's.
     pub fn read(word: &[u8]) -> Option<Frontend>
         ensures { result ≡ frontend_of word.now }
     {
         if is_word(word, b"noninteractive") {
             Some(Frontend::Noninteractive)
+        } else if is_word(word, b"passthrough") {
+            Some(Frontend::Passthrough)
         } else if asks(word) {
             Some(Frontend::Teletype)
         } else {
