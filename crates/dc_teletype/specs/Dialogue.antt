@@ -12,7 +12,7 @@ use Rattle.dc_outside.specs.State.{LinkState}
 use Rattle.dc_outside.specs.Talk.{then_pieces, got}
 use Rattle.dc_teletype.specs.Answers.{answer_to}
 use Rattle.dc_teletype.specs.Prompts.{heading, introduction, prompt}
-use Rattle.dc_teletype.specs.TerminalLines.{TypeAhead, TerminalState, Reads, ReadsUntil, CallCounts}
+use Rattle.dc_teletype.specs.TerminalLines.{TypeAhead, TerminalState, Reads, ReadsUntil, CallCounts, EndsWell}
 use Rattle.dc_teletype.specs.declared.answering.Reading.{Reading}
 use Rattle.dc_teletype.specs.declared.answering.Reading.TheVariants as reading
 use Rattle.dc_teletype.specs.declared.teletype.Answer.{Answer}
@@ -128,3 +128,10 @@ abbrev pub SendsText : {T : Type 0} → List ℕ → LinkState → LinkState →
 SendsText text old new (Ok done) = new ≡ record old { talk = then_pieces old.talk (piece.Sent text ∷ []) }
 SendsText text old new (Err Failed) = IsCutAt text old new
 SendsText text old new (Err OutOfMemory) = (new ≡ record old { counts = new.counts }) × CallCounts {T = Unit {0}} (Err OutOfMemory) old.counts new.counts
+
+-- a dialogue was held on a terminal over these questions, under a title, or it stopped; how it is counted there, and what it leaves
+pub record HeldDialogue (backup : Bool) (title : List ℕ) (questions : List Shown) (old new : TerminalState) (result : Result Asked LinkError) : Type 0 where
+  pub held : HoldsDialogue backup (opening title questions) old new result
+  pub ends : EndsWell old.ahead new.ahead new.link.input
+  pub counts : CallCounts result old.link.counts new.link.counts
+  pub program : new.link.program ≡ old.link.program

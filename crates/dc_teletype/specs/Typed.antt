@@ -10,7 +10,7 @@ use Rattle.dc_teletype.specs.declared.terminal.TerminalLine.{TerminalLine}
 use Rattle.dc_teletype.specs.declared.terminal.TerminalLine.TheVariants.{Whole, Cut}
 use Rattle.dc_outside.specs.declared.link.Piece.{Piece}
 use Rattle.dc_outside.specs.Talk.{sent}
-use Rattle.dc_teletype.specs.TerminalLines.{TypeAhead, EndsWell, longest, last_line}
+use Rattle.dc_teletype.specs.TerminalLines.{TypeAhead, TerminalState, EndsWell, longest, last_line}
 use Rattle.dc_teletype.specs.Dialogue.{Step, Stage, Waits, Over, IsDialogue, after_reading, reading_of, answered}
 
 -- ---- lines
@@ -85,3 +85,19 @@ pub record ComesTo (outcome : DialogueOutcome) (old new : ToldTerminal) (asked :
   pub said : sent new.talk ≡ sent old.talk ++ outcome.said
   pub asked_is : asked ≡ outcome.asked
   pub unused : typed_lines (typed new) ≡ outcome.unused
+
+-- all is told of the terminal, and it is this
+pub record IsToldAs (terminal : TerminalState) (told : ToldTerminal) : Type 0 where
+  pub ahead : terminal.ahead ≡ told.ahead
+  pub talk : terminal.link.talk ≡ Some told.talk
+  pub input : terminal.link.input ≡ Some told.input
+  pub used_up : IsUsedUp told.ahead told.input
+
+-- all is told of both terminals: the same was said there, and the same is typed and wasn't used
+pub record AreTerminalsAlike (one other : TerminalState) : Type 0 where
+  pub first : ToldTerminal
+  pub second : ToldTerminal
+  pub one_is : IsToldAs one first
+  pub other_is : IsToldAs other second
+  pub said : sent first.talk ≡ sent second.talk
+  pub same : typed first ≡ typed second
