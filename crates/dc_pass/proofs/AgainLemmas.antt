@@ -135,7 +135,7 @@ whole_apart lines call whole on =
     sym (run-whole Nothing call (call_lines call) a.others a.bytes (call_run call whole.is)) ∙ sym (ap (run Nothing) a.lines_are) ∙ call_run on.front.whole on.front.is in
     cc
 
-whole_same : (xs ys : List (List ℕ)) → each line.Whole xs ≡ each line.Whole ys → xs ≡ ys
+pub whole_same : (xs ys : List (List ℕ)) → each line.Whole xs ≡ each line.Whole ys → xs ≡ ys
 whole_same [] [] e = refl
 whole_same [] (y ∷ ys) e = absurd (cc)
 whole_same (x ∷ xs) [] e = absurd (cc)

@@ -1,6 +1,8 @@
 pub mod AgainLemmas
 pub mod AnswerLemmas
 pub mod AskLemmas
+pub mod CountLemmas
+pub mod DeterminedLemmas
 pub mod HearLemmas
 pub mod LineLemmas
 pub mod PartLemmas
@@ -10,3 +12,4 @@ pub mod RunLemmas
 pub mod StepLemmas
 pub mod TakeLemmas
 pub mod WayLemmas
+pub mod WholeLemmas

@@ -38,13 +38,16 @@ front_byte (byte ∷ bytes) = byte
 unequal : (m n : ℕ) → (m == n) ≡ false → m ≡ n → ⊥
 unequal m n e same = grind (arith, nat_tests)
 
-not_done : (answer : Answer) → answer_line answer ≡ codes "done" → ⊥
+pub not_done : (answer : Answer) → answer_line answer ≡ codes "done" → ⊥
 not_done Keep e = absurd (unequal 107 100 refl (ap front_byte e))
 not_done (Value value) e = absurd (unequal 118 100 refl (ap front_byte e))
 
-not_back : (answer : Answer) → answer_line answer ≡ codes "back" → ⊥
+pub not_back : (answer : Answer) → answer_line answer ≡ codes "back" → ⊥
 not_back Keep e = absurd (unequal 107 98 refl (ap front_byte e))
 not_back (Value value) e = absurd (unequal 118 98 refl (ap front_byte e))
+
+pub done_not_back : codes "done" ≡ codes "back" → ⊥
+done_not_back e = absurd (unequal 100 98 refl (ap front_byte e))
 
 value_one : (a b : List ℕ) → wire_line (codes "value") a ≡ wire_line (codes "value") b → a ≡ b
 value_one a b e =
@@ -52,7 +55,7 @@ value_one a b e =
     let lines : saying (codes "value") a ≡ saying (codes "value") b = cc in
     ap (λ (l : WireLine). l.text) lines
 
-answer_one : (a b : Answer) → answer_line a ≡ answer_line b → a ≡ b
+pub answer_one : (a b : Answer) → answer_line a ≡ answer_line b → a ≡ b
 answer_one Keep Keep e = refl
 answer_one Keep (Value b) e = absurd (unequal 107 118 refl (ap front_byte e))
 answer_one (Value a) Keep e = absurd (unequal 118 107 refl (ap front_byte e))

@@ -1,10 +1,12 @@
 -- What a session does on the wire: a request goes out, and the lines of a reply come in.
-use Rattle.std.specs.Prelude.{◌≡◌, ◌⊎◌, ℕ, ◌+◌, ◌-◌, ◌^◌, min, Bool, List, [], ◌∷◌, ◌++◌, length, drop, codes, map as each, Option, Some, None, Result, Ok, Err, if◌then◌else◌}
+use Rattle.std.specs.Prelude.{◌≡◌, ◌⊎◌, ℕ, ◌+◌, ◌-◌, ◌^◌, min, Bool, false, List, [], ◌∷◌, ◌++◌, length, drop, codes, map as each, Option, Some, None, Result, Ok, Err, if◌then◌else◌}
 use Rattle.std.specs.List.{filter, list_all}
+use Rattle.dc_text.specs.Bytes.{is_nil}
 use Rattle.dc_text.specs.Lines.{text_of}
 use Rattle.dc_words.specs.declared.stream.Line.{Line}
 use Rattle.dc_words.specs.declared.stream.Line.TheVariants as line
 use Rattle.dc_frontend.specs.declared.shown.Shown.{Shown}
+use Rattle.dc_outside.specs.Counts.{Counts, FaultRose, RefusalRose}
 use Rattle.dc_outside.specs.LinkCalls.{Sends}
 use Rattle.dc_outside.specs.State.{LinkState}
 use Rattle.dc_outside.specs.declared.link.LinkError.{LinkError}
@@ -90,8 +92,9 @@ sent_title title = if fits (wire_line (codes "title") title) then title else []
 abbrev pub request_text : Bool → List ℕ → List Shown → List ℕ
 request_text backup title sent = text_of (request_lines title backup sent)
 
--- a request went out, and this came of its reply
+-- a request of some questions went out, and this came of its reply
 pub record IsAsked (backup : Bool) (title : List ℕ) (sent : List Shown) (before : ℕ) (old new : TerminalState) (heard : Result (Option Asked) PassError) (now : ℕ) : Type 0 where
+  pub some : is_nil sent ≡ false
   pub link : LinkState
   pub sends : Sends {T = Unit {0}} (request_text backup title sent) old.link link (Ok tt)
   pub hears : Hears (replies backup sent) before (record { link = link; ahead = old.ahead }) new heard now
@@ -142,7 +145,15 @@ Asks backup title shown before old new (Err (Bad line)) now = Requests backup (s
 Asks backup title shown before old new (Err Failed) now = Requests backup (sent_title title) (sent_questions shown) before old new (Err Failed) now
 Asks backup title shown before old new (Err OutOfMemory) now =
     IsUntouched before old new now
-    ⊎ ((heard : Result (Option Asked) PassError) × Requests backup (sent_title title) (sent_questions shown) before old new heard now)
+    ⊎ (Requests backup (sent_title title) (sent_questions shown) before old new (Err OutOfMemory) now
+    ⊎ ((heard : Option Asked) × Requests backup (sent_title title) (sent_questions shown) before old new (Ok heard) now))
+
+-- How the link counted what was done on it, by the answer: a line that is unreadable is no fault of the link.
+abbrev pub WireCounts : {T : Type 0} → Result T PassError → Counts → Counts → Type 0
+WireCounts (Ok value) before now = now ≡ before
+WireCounts (Err (Bad line)) before now = now ≡ before
+WireCounts (Err Failed) before now = FaultRose before now
+WireCounts (Err OutOfMemory) before now = RefusalRose before now ⊎ (now ≡ before)
 
 -- ---- a line that is told
 

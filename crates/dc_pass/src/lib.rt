@@ -14,7 +14,7 @@ mod replies;
 mod sending;
 
 pub use calls::{WireCall, WireError};
-pub use pass::{Pass, PassError};
+pub use pass::{Pass, PassError, ask_on_wire, tell_on_wire};
 pub use printing::{print_answers, print_request};
 pub use reader::RequestReader;
 

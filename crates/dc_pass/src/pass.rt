@@ -115,7 +115,7 @@ fn others(shown: &[Shown]) -> &[Shown]
     }
 }
 
-// Asks these questions, and hears the reply.
+// Asks these questions, of which there are some, and hears the reply.
 fn request<L: Link>(
     alloc: Global,
     ahead: &mut TerminalLines,
@@ -125,6 +125,7 @@ fn request<L: Link>(
     backup: bool,
     sent: &List<Shown>,
 ) -> Result<Option<Asked>, PassError>
+    requires { is_nil sent.now ≡ false }
     ensures { Requests backup title.now sent.now got.old
         (record { link = L.link link.old; ahead = ahead.old }) (record { link = L.link link.new; ahead = ahead.new }) result got.new }
 {
@@ -134,6 +135,42 @@ fn request<L: Link>(
         Err(LinkError::OutOfMemory) => Err(PassError::OutOfMemory),
         Ok(()) => hear(alloc, ahead, link, got, sent.as_slice(), backup),
     }
+}
+
+/// Asks the questions over the wire, under the title, with what came there and isn't used yet. One of which a line would be too long isn't
+/// sent, and keeps its value; where the input ends before the reply is whole, all keep theirs. The lines that come are counted.
+pub fn ask_on_wire<L: Link>(
+    alloc: Global,
+    ahead: &mut TerminalLines,
+    link: &mut L,
+    got: &mut u64,
+    shown: &List<Shown>,
+    backup: bool,
+    title: &Text,
+) -> Result<Asked, PassError>
+    ensures { Asks backup title.now shown.now got.old
+        (record { link = L.link link.old; ahead = ahead.old }) (record { link = L.link link.new; ahead = ahead.new }) result got.new }
+{
+    let sent = sent_questions(alloc, shown.as_slice())?;
+    if sent.as_slice().is_empty() {
+        return Ok(answers_by(alloc, shown.as_slice(), None)?);
+    }
+    let title = sent_title(alloc, title)?;
+    match request(alloc, ahead, link, got, &title, backup, &sent) {
+        Err(error) => Err(error),
+        Ok(heard) => Ok(answers_by(alloc, shown.as_slice(), heard)?),
+    }
+}
+
+/// Tells a line over the wire. One that would be too long isn't sent.
+pub fn tell_on_wire<L: Link>(alloc: Global, link: &mut L, line: &Text) -> Result<(), LinkError>
+    ensures { Tells line.now (L.link link.old) (L.link link.new) result }
+{
+    let told = told_line(alloc, line)?;
+    if told.bytes().is_empty() {
+        return Ok(());
+    }
+    link.write(told.bytes())
 }
 
 /// The wire, as a session has it.
@@ -171,23 +208,15 @@ impl Pass {
         ensures { Asks backup title.now shown.now self.old.got
             (record { link = L.link link.old; ahead = self.old.ahead }) (record { link = L.link link.new; ahead = self.new.ahead }) result self.new.got }
     {
-        let sent = sent_questions(self.alloc, shown.as_slice())?;
-        if sent.as_slice().is_empty() {
-            return Ok(answers_by(self.alloc, shown.as_slice(), None)?);
-        }
-        let title = sent_title(self.alloc, title)?;
-        match request(
+        ask_on_wire(
             self.alloc,
             &mut self.ahead,
             link,
             &mut self.got,
-            &title,
+            shown,
             backup,
-            &sent,
-        ) {
-            Err(error) => Err(error),
-            Ok(heard) => Ok(answers_by(self.alloc, shown.as_slice(), heard)?),
-        }
+            title,
+        )
     }
 
     /// Tells a line. One that would be too long isn't sent.
@@ -196,10 +225,6 @@ impl Pass {
         ensures ahead { self.new.ahead ≡ self.old.ahead }
         ensures got { self.new.got ≡ self.old.got }
     {
-        let told = told_line(self.alloc, line)?;
-        if told.bytes().is_empty() {
-            return Ok(());
-        }
-        link.write(told.bytes())
+        tell_on_wire(self.alloc, link, line)
     }
 }
