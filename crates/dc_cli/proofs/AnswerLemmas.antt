@@ -11,7 +11,7 @@ use Rattle.dc_frontend.specs.declared.frontend.Frontend.{Frontend}
 use Rattle.dc_cli.specs.Tools.{NamesOwner, NamesFiles, Given, words_of, all_words, values_of, Says, IsCommand, NamesRun, NamesTool, Names, IsToolWords, BeginsToolWords, AreRefusedAt}
 use Rattle.dc_cli.specs.declared.run_options.RunOption.TheVariants.{Owner, Frontend as ForFrontend, Priority as ForPriority}
 use Rattle.dc_cli.specs.declared.tool.Tool.{Tool}
-use Rattle.dc_cli.specs.declared.tool.Tool.TheVariants.{Communicate, LoadTemplate, Run, Show, CopyDb, SetSelections, GetSelections, Drill}
+use Rattle.dc_cli.specs.declared.tool.Tool.TheVariants.{Communicate, LoadTemplate, Run, Show, CopyDb, SetSelections, GetSelections, Drill, Answer}
 use Rattle.dc_cli.specs.DatabaseWords.{NamesShow, placed_from, values_behind}
 use Rattle.dc_cli.specs.DatabaseReading.{shown_of}
 use Rattle.dc_cli.specs.declared.show_words.ShowSeen.{ShowSeen}
@@ -95,6 +95,7 @@ one_tool_by word words (CopyDb copy) (CopyDb other) a b = ap CopyDb (one_copy wo
 one_tool_by word words (SetSelections verbose check unseen) (SetSelections v c u) a b = one_selection words verbose check unseen v c u a.1 b.1
 one_tool_by word words GetSelections GetSelections a b = refl
 one_tool_by word words (Drill count) (Drill other) a b = ap Drill (one_drill words count other a.1 b.1)
+one_tool_by word words (Answer command) (Answer other) a b = ap Answer (a.1 ∙ sym b.1)
 one_tool_by word words tool other a b = absurd (other_text (word_of tool) (word_of other) refl (sym a.0 ∙ b.0))
 
 pub one_tool : (words : List (List ℕ)) (tool other : Tool) → Names words tool → Names words other → tool ≡ other

@@ -6,9 +6,9 @@ use Rattle.std.specs.Prelude.{◌==◌, codes, Result, Ok, Err, MatchResult}
 use Rattle.std.specs.Str.{bytes_eq}
 use Rattle.std.specs.Cmp.Lexicographic.{same_text, other_text}
 use Rattle.dc_text.specs.Names.{is_name}
-use Rattle.dc_cli.specs.Tools.{IsToolWords, NamesOwner, NamesFiles, Names, AreRefusedAt, IsToolAnswer}
+use Rattle.dc_cli.specs.Tools.{IsToolWords, NamesOwner, NamesFiles, begins_with_dash, IsCommand, Names, AreRefusedAt, IsToolAnswer}
 use Rattle.dc_cli.specs.declared.tool.Tool.{Tool}
-use Rattle.dc_cli.specs.declared.tool.Tool.TheVariants.{Communicate, LoadTemplate, Run, Show, CopyDb, SetSelections, GetSelections, Drill}
+use Rattle.dc_cli.specs.declared.tool.Tool.TheVariants.{Communicate, LoadTemplate, Run, Show, CopyDb, SetSelections, GetSelections, Drill, Answer}
 use Rattle.dc_cli.specs.declared.tool.ToolError.{ToolError}
 use Rattle.dc_cli.specs.declared.tool.ToolError.TheVariants.{OutOfMemory}
 
@@ -22,6 +22,7 @@ word_of (CopyDb copy) = codes "copydb"
 word_of (SetSelections verbose check unseen) = codes "set-selections"
 word_of GetSelections = codes "get-selections"
 word_of (Drill count) = codes "drill"
+word_of (Answer command) = codes "answer"
 
 -- ---- what each tool takes
 
@@ -51,6 +52,7 @@ no_tool_by word words (CopyDb copy) none named = none (CopyDb copy) named.0
 no_tool_by word words (SetSelections verbose check unseen) none named = none (SetSelections verbose check unseen) named.0
 no_tool_by word words GetSelections none named = none GetSelections named.0
 no_tool_by word words (Drill count) none named = none (Drill count) named.0
+no_tool_by word words (Answer command) none named = none (Answer command) named.0
 
 pub some_words : (word : List ℕ) (words : List (List ℕ)) → word ∷ words ≢ []
 some_words word words same = cc
@@ -101,10 +103,10 @@ other_than xs ys e = other_text xs ys (sym e)
 pub word_refused : (words : List (List ℕ)) (word : List ℕ) → 1 ≤ length words → word ≡ get_or words 0 word
     → bytes_eq word (codes "communicate") ≡ false → bytes_eq word (codes "loadtemplate") ≡ false → bytes_eq word (codes "run") ≡ false
     → bytes_eq word (codes "show") ≡ false → bytes_eq word (codes "copydb") ≡ false → bytes_eq word (codes "set-selections") ≡ false
-    → bytes_eq word (codes "get-selections") ≡ false → bytes_eq word (codes "drill") ≡ false
+    → bytes_eq word (codes "get-selections") ≡ false → bytes_eq word (codes "drill") ≡ false → bytes_eq word (codes "answer") ≡ false
     → AreRefusedAt words 0
-word_refused [] word long is one two three four five six seven eight = absurd (omega arith)
-word_refused (first ∷ words) word long is one two three four five six seven eight = record {
+word_refused [] word long is one two three four five six seven eight nine = absurd (omega arith)
+word_refused (first ∷ words) word long is one two three four five six seven eight nine = record {
   refused = λ h. no_tool_by first words h.0 none h.1;
   within = omega arith;
   begins = (codes "communicate" ∷ [], communicate_alone);
@@ -122,6 +124,7 @@ word_refused (first ∷ words) word long is one two three four five six seven ei
   none (SetSelections verbose check unseen) = not_this (codes "set-selections") six
   none GetSelections = not_this (codes "get-selections") seven
   none (Drill count) = not_this (codes "drill") eight
+  none (Answer command) = not_this (codes "answer") nine
 
 -- ---- the words behind `communicate`
 
@@ -211,6 +214,44 @@ loads (first ∷ second ∷ words) word owner (Ok tool) long same is for by =
     (refl, (for ∙ same, ap is_name (sym same) ∙ is, refl, some_words second words))
 loads (first ∷ second ∷ words) word owner (Err error) long same is for by =
     subst (λ (e : ToolError). IsToolAnswer (codes "loadtemplate" ∷ first ∷ second ∷ words) (Err e)) (sym by) (load_for first second words (ap is_name (sym same) ∙ is))
+
+-- ---- the words behind `answer`
+
+command_by : (words : List (List ℕ)) (tool : Tool) → Names (codes "answer" ∷ words) tool → IsCommand words
+command_by words (Answer command) named = named.2
+command_by words other named = absurd (other_text (codes "answer") (word_of other) refl named.0)
+
+-- what stands behind `answer` is a command
+command_of : (words : List (List ℕ)) → IsToolWords (codes "answer" ∷ words) → IsCommand words
+command_of words is = command_by words is.0 is.1
+
+pub no_command_refused : (words : List (List ℕ)) → length words < 1 → AreRefusedAt (codes "answer" ∷ words) 1
+no_command_refused [] short = record {
+  refused = command_of [];
+  within = omega arith;
+  begins = (codes "s" ∷ [], (Answer (codes "s" ∷ []), (refl, refl, refl)));
+  ends = inl refl;
+}
+no_command_refused (word ∷ words) short = absurd (omega arith)
+
+pub dash_refused : (words : List (List ℕ)) (word : List ℕ) → 1 ≤ length words → word ≡ get_or words 0 word → begins_with_dash word ≡ true → AreRefusedAt (codes "answer" ∷ words) 1
+dash_refused [] word long is dash = absurd (omega arith)
+dash_refused (first ∷ words) word long is dash = record {
+  refused = none words;
+  within = omega arith;
+  begins = (codes "s" ∷ [], (Answer (codes "s" ∷ []), (refl, refl, refl)));
+  ends = inr (λ b. none b.0 b.1);
+} where
+  none : (more : List (List ℕ)) → IsToolWords (codes "answer" ∷ first ∷ more) → ⊥
+  none more h = let wrong : true ≡ false = sym (ap begins_with_dash (sym is) ∙ dash) ∙ command_of (first ∷ more) h in cc
+
+pub answers : (words : List (List ℕ)) (word : List ℕ) (result : Result Tool ToolError) → 1 ≤ length words → word ≡ get_or words 0 word → begins_with_dash word ≡ false
+    → MatchResult result (λ tool. tool ≡ Answer words) (λ error. error ≡ OutOfMemory) → IsToolAnswer (codes "answer" ∷ words) result
+answers [] word result long is none by = absurd (omega arith)
+answers (first ∷ words) word (Ok tool) long is none by =
+    subst (Names (codes "answer" ∷ first ∷ words)) (sym by) (refl, refl, ap begins_with_dash (sym is) ∙ none)
+answers (first ∷ words) word (Err error) long is none by =
+    subst (λ (e : ToolError). IsToolAnswer (codes "answer" ∷ first ∷ words) (Err e)) (sym by) (Answer (first ∷ words), (refl, refl, ap begins_with_dash (sym is) ∙ none))
 
 -- ---- all words
 

@@ -11,7 +11,7 @@ use Rattle.dc_cli.specs.SelectionWords.{NamesSelections, NamesDrill}
 use Rattle.dc_cli.specs.declared.run_options.RunOption.{RunOption}
 use Rattle.dc_cli.specs.declared.run_options.RunOption.TheVariants.{Owner, Frontend as ForFrontend, Priority as ForPriority}
 use Rattle.dc_cli.specs.declared.tool.Tool.{Tool}
-use Rattle.dc_cli.specs.declared.tool.Tool.TheVariants.{Communicate, LoadTemplate, Run, Show, CopyDb, SetSelections, GetSelections, Drill}
+use Rattle.dc_cli.specs.declared.tool.Tool.TheVariants.{Communicate, LoadTemplate, Run, Show, CopyDb, SetSelections, GetSelections, Drill, Answer}
 use Rattle.dc_cli.specs.declared.tool.ToolError.{ToolError}
 use Rattle.dc_cli.specs.declared.tool.ToolError.TheVariants.{Refused, OutOfMemory}
 
@@ -110,6 +110,7 @@ NamesTool word words (CopyDb copy) = (word ≡ codes "copydb") × NamesCopy word
 NamesTool word words (SetSelections verbose check unseen) = (word ≡ codes "set-selections") × NamesSelections words verbose check unseen
 NamesTool word words GetSelections = (word ≡ codes "get-selections") × (words ≡ [])
 NamesTool word words (Drill count) = (word ≡ codes "drill") × NamesDrill words count
+NamesTool word words (Answer command) = (word ≡ codes "answer") × (command ≡ words) × IsCommand words
 
 -- communicate [OWNER]
 -- loadtemplate OWNER FILE ...
@@ -119,6 +120,7 @@ NamesTool word words (Drill count) = (word ≡ codes "drill") × NamesDrill word
 -- set-selections [-v] [-c] [-u]
 -- get-selections
 -- drill N
+-- answer COMMAND [ARGUMENT ...]
 abbrev pub Names : List (List ℕ) → Tool → Type 0
 Names [] tool = ⊥
 Names (word ∷ words) tool = NamesTool word words tool
@@ -155,3 +157,4 @@ owner_of (CopyDb copy) = codes "unknown"
 owner_of (SetSelections verbose check unseen) = codes "unknown"
 owner_of GetSelections = codes "unknown"
 owner_of (Drill count) = codes "drill"
+owner_of (Answer command) = codes "unknown"

@@ -7,7 +7,7 @@ ghost use Rattle.dc_cli.specs.Tools.{IsToolAnswer};
 use crate::copy_words::read_copy;
 use crate::copying::{copies, read_owner};
 use crate::drill_words::read_drill;
-use crate::run_words::read_run;
+use crate::run_words::{begins_with_dash, read_run};
 use crate::selection_words::{read_get_selections, read_selections};
 use crate::show_words::read_show;
 use crate::tool::{Tool, ToolError};
@@ -38,6 +38,8 @@ pub fn read_tool(alloc: Global, words: &List<Text>) -> Result<Tool, ToolError>
                 read_get_selections(rest)
             } else if is_word(tool, b"drill") {
                 read_drill(rest)
+            } else if is_word(tool, b"answer") {
+                read_answer(alloc, rest)
             } else {
                 Err(ToolError::Refused { word: 0 })
             }
@@ -81,6 +83,22 @@ fn read_load_template(alloc: Global, words: &[Text]) -> Result<Tool, ToolError>
     }
 }
 
+// The words behind `answer`.
+fn read_answer(alloc: Global, words: &[Text]) -> Result<Tool, ToolError>
+    ensures { IsToolAnswer (codes "answer" ∷ words.now) result }
+{
+    match words {
+        [] => Err(ToolError::Refused { word: 1 }),
+        [word, ..] => {
+            if begins_with_dash(word.bytes()) {
+                Err(ToolError::Refused { word: 1 })
+            } else {
+                answer_with(alloc, words)
+            }
+        }
+    }
+}
+
 fn communicate_for(alloc: Global, owner: &[u8]) -> Result<Tool, ToolError>
     requires { is_name_of owner.now ≡ true }
     ensures { MatchResult result (λ tool. tool ≡ Tool.Communicate owner.now) (λ error. error ≡ ToolError.OutOfMemory) }
@@ -96,6 +114,13 @@ fn load_template_for(alloc: Global, owner: &[u8], paths: &[Text]) -> Result<Tool
     let owner = read_owner(alloc, owner)?;
     let paths = copies(alloc, paths)?;
     Ok(Tool::LoadTemplate { owner, paths })
+}
+
+fn answer_with(alloc: Global, command: &[Text]) -> Result<Tool, ToolError>
+    ensures { MatchResult result (λ tool. tool ≡ Tool.Answer command.now) (λ error. error ≡ ToolError.OutOfMemory) }
+{
+    let command = copies(alloc, command)?;
+    Ok(Tool::Answer { command })
 }
 
 fn is_word(tool: &Text, word: &[u8]) -> bool

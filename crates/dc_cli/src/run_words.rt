@@ -53,7 +53,7 @@ fn run_for(alloc: Global, options: RunOptions, command: &[Text]) -> Result<Tool,
     })
 }
 
-fn begins_with_dash(word: &[u8]) -> bool
+pub(crate) fn begins_with_dash(word: &[u8]) -> bool
     ensures { result ≡ begins_with_dash_of word.now }
 {
     match word {

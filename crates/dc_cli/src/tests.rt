@@ -243,3 +243,32 @@ fn drill_says_its_number(rt: HostRuntime) {
         }
     }
 }
+
+#[test]
+fn words_of_answer_are_taken_or_refused_at_their_place(rt: HostRuntime) {
+    for (line, place) in [
+        ("answer s", None),
+        ("answer s -x answer", None),
+        ("answer", Some(1)),
+        ("answer -x", Some(1)),
+        ("answer - s", Some(1)),
+        ("answers s", Some(0)),
+    ] {
+        assert_eq!(rt; refused(&rt, rt.alloc(), line), place, "at {line}");
+    }
+}
+
+#[test]
+fn answer_says_its_command(rt: HostRuntime) {
+    let alloc = rt.alloc();
+    match read_tool(alloc, &words(&rt, alloc, "answer s -x")) {
+        Ok(Tool::Answer { command }) => {
+            assert_eq!(rt; command.as_slice().len(), 2);
+            for (place, word) in ["s", "-x"].iter().enumerate() {
+                let said = command.get(place).expect(&rt, "a word");
+                assert_eq!(rt; said.bytes(), word.as_bytes());
+            }
+        }
+        _ => panic!(rt; "refused"),
+    }
+}

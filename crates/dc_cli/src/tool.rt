@@ -51,6 +51,11 @@ pub enum Tool {
     Drill {
         count: u32,
     },
+    /// `answer COMMAND [ARGUMENT ...]` runs a command, and asks on the terminal what it asks for over its wire (debconf(7), Passthrough).
+    Answer {
+        /// The command, and its arguments behind it.
+        command: List<Text>,
+    },
 }
 
 /// A word, or the value in it, and the place of the word among the program's, from 0.

@@ -46,11 +46,16 @@ returns-then-is_word-8 c =
     subst (λ words. IsToolAnswer words c.read_drill.result) c.as_slice.ensures
     (answered c.as_slice.result.now c.tool-item.result _ _ c.in-len1-up.len_at_least c.tool-item.is (sym c.is_word-else-is_word-7.ensures ∙ c.if-is_word-8.true) c.read_drill.ensures)
 
-pub returns-else-is_word-8 : goal.returns-else-is_word-8
-returns-else-is_word-8 c =
+pub returns-then-is_word-9 : goal.returns-then-is_word-9
+returns-then-is_word-9 c =
+    subst (λ words. IsToolAnswer words c.read_answer.result) c.as_slice.ensures
+    (answered c.as_slice.result.now c.tool-item.result _ _ c.in-len1-up.len_at_least c.tool-item.is (sym c.is_word-else-is_word-8.ensures ∙ c.if-is_word-9.true) c.read_answer.ensures)
+
+pub returns-else-is_word-9 : goal.returns-else-is_word-9
+returns-else-is_word-9 c =
     subst (λ words. AreRefusedAt words 0) c.as_slice.ensures
     (word_refused c.as_slice.result.now c.tool-item.result c.in-len1-up.len_at_least c.tool-item.is (sym c.is_word.ensures ∙ c.if-is_word.false)
     (sym c.is_word-else-is_word.ensures ∙ c.if-is_word-2.false) (sym c.is_word-else-is_word-2.ensures ∙ c.if-is_word-3.false)
     (sym c.is_word-else-is_word-3.ensures ∙ c.if-is_word-4.false) (sym c.is_word-else-is_word-4.ensures ∙ c.if-is_word-5.false)
     (sym c.is_word-else-is_word-5.ensures ∙ c.if-is_word-6.false) (sym c.is_word-else-is_word-6.ensures ∙ c.if-is_word-7.false)
-    (sym c.is_word-else-is_word-7.ensures ∙ c.if-is_word-8.false))
+    (sym c.is_word-else-is_word-7.ensures ∙ c.if-is_word-8.false) (sym c.is_word-else-is_word-8.ensures ∙ c.if-is_word-9.false))
