@@ -1,0 +1,5 @@
+pub mod AlikeLemmas
+pub mod CountLemmas
+pub mod FirstLemmas
+pub mod HeedLemmas
+pub mod ServedLemmas
