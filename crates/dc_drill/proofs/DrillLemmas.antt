@@ -14,7 +14,7 @@ use Rattle.dc_store.specs.Plans.{stored}
 use Rattle.dc_question.specs.Questions.{QuestionContext}
 use Rattle.dc_serve.specs.declared.outcome.LinkEnd.{LinkEnd}
 use Rattle.dc_serve.specs.declared.outcome.LinkEnd.TheVariants as link
-use Rattle.dc_teletype.specs.TerminalLines.{TypeAhead}
+use Rattle.dc_session.specs.ReadAhead.{ReadAhead}
 use Rattle.dc_session.specs.Asking.{nothing_asked}
 use Rattle.dc_session.specs.FileLoading.{Loads}
 use Rattle.dc_session.specs.Serving.{IsServed, Resources, resources_of, session_over}
@@ -60,7 +60,7 @@ module _ (before : List LayerState) (first : FilesState) (at : QuestionContext) 
   begun = session_over (resources_of before first no_terminal nowhere) at owner frontend threshold nonint
 
   -- a session that asks in the same manner, and begins over what the loading left
-  begins_anew : (loaded : SessionState) (file : FileEnd) (policy : AskPolicy) (layers : List LayerState) (files : FilesState) (ahead : TypeAhead) → Loads template_path begun loaded (Ok file)
+  begins_anew : (loaded : SessionState) (file : FileEnd) (policy : AskPolicy) (layers : List LayerState) (files : FilesState) (ahead : ReadAhead) → Loads template_path begun loaded (Ok file)
       → policy ≡ begun.policy → layers ≡ loaded.store.layers → files ≡ loaded.files → ahead ≡ nothing_typed
       → session_over (resources_of layers files (terminal_at nowhere ahead) nowhere) at owner (Some policy.frontend) (Some policy.threshold) nonint ≡ anew loaded
   begins_anew loaded file policy layers files ahead loads asks layers_are files_are none =
@@ -79,7 +79,7 @@ module _ (before : List LayerState) (first : FilesState) (at : QuestionContext) 
       over ∙ sym (ap (λ (s : SessionState). record s { store = stored loaded.store.layers []; files = loaded.files }) loads.new_is)
 
   -- the link was served once the template was loaded
-  pub serves_over : (policy : AskPolicy) (layers : List LayerState) (files : FilesState) (ahead : TypeAhead) (left : Resources) (old new : LinkState) (ended : LinkEnd StepError) (code : ℕ) → BeginsOver begun (Ok policy) layers files
+  pub serves_over : (policy : AskPolicy) (layers : List LayerState) (files : FilesState) (ahead : ReadAhead) (left : Resources) (old new : LinkState) (ended : LinkEnd StepError) (code : ℕ) → BeginsOver begun (Ok policy) layers files
       → ahead ≡ nothing_typed
       → IsServed (session_over (resources_of layers files (terminal_at nowhere ahead) nowhere) at owner (Some policy.frontend) (Some policy.threshold) nonint) left old new ended 0 code
       → ServesOver begun old new ended left.layers

@@ -5,7 +5,7 @@ ghost use Rattle.dc_conf.specs.Trees.{shape};
 ghost use Rattle.dc_outside.specs.Memory.{files_of, link_of};
 ghost use Rattle.dc_session.specs.FileLoading.{Loads};
 ghost use Rattle.dc_session.specs.Serving.{resources_of, session_by};
-ghost use Rattle.dc_session.specs.SessionState.{FilesState, LinkState, TerminalState};
+ghost use Rattle.dc_session.specs.SessionState.{FilesState, LinkState, ScreenState};
 ghost use Rattle.dc_session.specs.Asking.{nothing_asked, policy_by};
 ghost use Rattle.dc_session.specs.SessionState.{no_terminal, nowhere, session_at_desk};
 ghost use Rattle.dc_session.specs.declared.asking.Asking.{Asking};
@@ -23,11 +23,10 @@ use dc_outside::{MemFiles, MemLink, Piece};
 use dc_question::Questions;
 use dc_serve::LinkEnd;
 use dc_session::{
-    AskPolicy, FileEnd, NoTerminal, SessionQuestions, SessionSetup, StepError, ask_policy,
-    find_templates, serve_layers,
+    AskPolicy, FileEnd, NoTerminal, ReadAhead, SessionQuestions, SessionSetup, StepError,
+    ask_policy, find_templates, serve_layers,
 };
 use dc_store::Store;
-use dc_teletype::Teletype;
 use dc_text::{List, Mem, OutOfMemory, Text};
 use std::alloc::Global;
 
@@ -50,7 +49,7 @@ pub fn drill(
     requires config { IsOver (shape config.now) (length layers.old.items) }
     requires templates { IsOver (shape templates.now) (length layers.old.items) }
     requires disjoint { are_disjoint (shape config.now) (shape templates.now) ≡ true }
-    ensures { (files : FilesState) (terminal : TerminalState) (err : LinkState) → Drills count
+    ensures { (files : FilesState) (terminal : ScreenState) (err : LinkState) → Drills count
         (session_by setup.now (shape config.now) (shape templates.now) (resources_of (each state layers.old.items) files terminal err))
         (each state layers.new.items) result }
 {
@@ -121,7 +120,7 @@ fn serve_link_given(
         alloc,
         link,
         &mut NoTerminal,
-        &mut Teletype::new(alloc),
+        &mut ReadAhead::new(alloc),
         &mut NoTerminal,
         files,
         layers,
@@ -185,7 +184,7 @@ fn load_template(
     files: &mut MemFiles,
     desk: &mut SessionQuestions<'_>,
 ) -> Mem<FileEnd>
-    ensures loads { (terminal : TerminalState) (err : LinkState) (policy : AskPolicyOf) (asking : Asking) → Loads template_path
+    ensures loads { (terminal : ScreenState) (err : LinkState) (policy : AskPolicyOf) (asking : Asking) → Loads template_path
         (session_at_desk (λ b. (⟦<dyn Layer as Layer>⟧ b.vtable).state b.value) desk.old (files_of files.old) terminal err policy asking)
         (session_at_desk (λ b. (⟦<dyn Layer as Layer>⟧ b.vtable).state b.value) desk.new (files_of files.new) terminal err policy asking) result }
     ensures borrows { desk.new.questions.store.ghost_name ≡ desk.old.questions.store.ghost_name }
@@ -203,7 +202,7 @@ fn load_from(
     desk: &mut SessionQuestions<'_>,
     path: &Text,
 ) -> Mem<FileEnd>
-    ensures loads { (terminal : TerminalState) (err : LinkState) (policy : AskPolicyOf) (asking : Asking) → Loads path.now
+    ensures loads { (terminal : ScreenState) (err : LinkState) (policy : AskPolicyOf) (asking : Asking) → Loads path.now
         (session_at_desk (λ b. (⟦<dyn Layer as Layer>⟧ b.vtable).state b.value) desk.old (files_of files.old) terminal err policy asking)
         (session_at_desk (λ b. (⟦<dyn Layer as Layer>⟧ b.vtable).state b.value) desk.new (files_of files.new) terminal err policy asking) result }
     ensures borrows { desk.new.questions.store.ghost_name ≡ desk.old.questions.store.ghost_name }

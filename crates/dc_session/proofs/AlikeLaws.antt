@@ -1,5 +1,5 @@
 -- The lines, the files and what is typed determine a session, in whatever pieces what is typed comes.
-use Rattle.std.proofs.Common.{◌≡◌, ℕ, inl, inr, List, [], ◌∷◌, ◌++◌, Option, None, Some, refl, ap, sym, subst, ◌∙◌}
+use Rattle.std.proofs.Common.{◌≡◌, ℕ, inl, inr, List, [], ◌∷◌, ◌++◌, Option, None, Some, refl, ap, sym, subst, ◌∙◌, append-nil}
 use Rattle.std.specs.Prelude.{Result, Ok}
 use Rattle.std.specs.Io.KnownBytes.{prepend_known, IsAtEnd}
 use Rattle.dc_frontend.specs.declared.shown.Shown.{Shown}
@@ -8,7 +8,6 @@ use Rattle.dc_outside.specs.Disk.{Disk}
 use Rattle.dc_outside.specs.LinkCalls.{Tells}
 use Rattle.dc_outside.specs.Talk.{sent, got, then_pieces}
 use Rattle.dc_outside.specs.declared.files.FilesCall.{FilesCall}
-use Rattle.dc_outside.specs.declared.link.LinkError.{LinkError}
 use Rattle.dc_outside.specs.declared.link.Piece.{Piece}
 use Rattle.dc_outside.specs.declared.link.Piece.TheVariants.{Sent}
 use Rattle.dc_text.specs.Ascii.{newline}
@@ -20,24 +19,27 @@ use Rattle.dc_proto.specs.declared.command.Heard.{Heard}
 use Rattle.dc_proto.specs.declared.command.Heard.TheVariants.{Nothing, Known, Refused}
 use Rattle.dc_serve.specs.Execution.{Transition, lines_of, state_after, IsExecution}
 use Rattle.dc_serve.specs.declared.machine.Response.{Response}
-use Rattle.dc_teletype.specs.Dialogue.{Goes, opening}
-use Rattle.dc_teletype.specs.TerminalLines.{TypeAhead}
-use Rattle.dc_teletype.specs.Typed.{ToldTerminal, DialogueOutcome, IsAsked, dialogue as dialogue_over, typed_lines}
+use Rattle.dc_teletype.specs.Dialogue.{HeldDialogue, Goes, opening}
+use Rattle.dc_teletype.specs.TerminalLines.{TypeAhead, TerminalState}
+use Rattle.dc_teletype.specs.Typed.{ToldTerminal, DialogueOutcome, IsAsked, IsToldAs, AreTerminalsAlike, dialogue as dialogue_over, typed, typed_lines}
 use Rattle.dc_teletype.specs.declared.teletype.Asked.{Asked}
 use Rattle.dc_teletype.specs.declared.teletype.Asked.TheVariants.{Answers}
 use Rattle.dc_teletype.proofs.OutcomeLemmas.{comes_to}
 use Rattle.dc_teletype.proofs.TypedLemmas.{one_rest, used_last}
+use Rattle.dc_pass.specs.Passing.{Asks, tell_text}
 use Rattle.dc_store.specs.Plans.{stored}
-use Rattle.dc_session.specs.Alike.{IsToldAs, AreTerminalsAlike, AreAlike, AreTransitionsAlike, TellSame}
+use Rattle.dc_session.specs.Alike.{AreScreensAlike, AreAlike, AreTransitionsAlike, TellSame}
 use Rattle.dc_session.specs.Answers.{answer}
-use Rattle.dc_session.specs.Displays.{Display, Blank, OneLine, Dialogue, HasLine, HasDialogue, displayed, Shows}
+use Rattle.dc_session.specs.Displays.{Display, Blank, OneLine, Dialogue, Told, Request, HasLine, HasDialogue, HasTold, HasRequest, displayed, Shows}
 use Rattle.dc_session.specs.Machine.{Handles, TakesLine, TellsStore, Steps, StepsHeard, HasDone, Looks, file_of, sent_in}
-use Rattle.dc_session.specs.SessionState.{FilesState, LinkState, TerminalState, SessionState}
+use Rattle.dc_session.specs.SessionState.{FilesState, LinkState, ReadAhead, ScreenState, SessionState, typed_at}
 use Rattle.dc_session.specs.declared.asking.Asking.{Asking}
+use Rattle.dc_session.specs.declared.stepped.StepError.{StepError}
 use Rattle.dc_session.specs.declared.stepped.Stepped.{Stepped}
 use Rattle.dc_session.proofs.Determined.{IsTold, one_looked, takes_told, files_left}
 use Rattle.dc_session.proofs.SameAnswers.{same_answer, same_display}
 use Rattle.dc_session.proofs.TellingLemmas.{takes_tells, none_told, more_told}
+use Rattle.dc_pass.proofs.DeterminedLemmas.{same_answers}
 
 -- ---- one use of a terminal
 
@@ -45,7 +47,7 @@ rest_told : (taken : List ℕ) (left : Option (List ℕ)) (input : List ℕ) →
 rest_told taken None input took = absurd (cc)
 rest_told taken (Some rest) input took = (rest, refl)
 
-module _ (asking : Asking) (questions : List Shown) (old new : TerminalState) (asked : Asked) (told : ToldTerminal) (is : IsToldAs old told) (has : HasDialogue asking questions old new (Ok asked)) where
+module _ (asking : Asking) (questions : List Shown) (old new : TerminalState) (asked : Asked) (told : ToldTerminal) (is : IsToldAs old told) (has : HeldDialogue asking.backup asking.title questions old new (Ok asked)) where
   abbrev all_pieces : List Piece
   all_pieces = has.held.gone ++ has.held.last
 
@@ -84,67 +86,140 @@ module _ (asking : Asking) (questions : List Shown) (old new : TerminalState) (a
     used_up = used_last asking.backup (opening asking.title questions) told told_then asked asked_there;
   }
 
-line_told : (text : List ℕ) (old new : TerminalState) (asked : Asked) (told : ToldTerminal) → IsToldAs old told → HasLine text old new (Ok asked)
-    → IsToldAs new (record { ahead = told.ahead; talk = told.talk ++ Sent (text ++ newline ∷ []) ∷ []; input = told.input })
-line_told text old new asked told is has = record {
-  ahead = has.ahead ∙ is.ahead;
-  talk = ap (λ (k : LinkState). k.talk) has.said ∙ ap (λ (t : Option (List Piece)). then_pieces t (Sent (text ++ newline ∷ []) ∷ [])) is.talk;
-  input = ap (λ (k : LinkState). k.input) has.said ∙ is.input;
-  used_up = is.used_up;
+-- this was said on a terminal of which so much is told, and nothing that is typed there was used
+record HasSaid (new : TerminalState) (told : ToldTerminal) (text : List ℕ) : Type 0 where
+  told_then : ToldTerminal
+  is : IsToldAs new told_then
+  said : sent told_then.talk ≡ sent told.talk ++ text
+  same : typed told_then ≡ typed told
+
+module _ (text : List ℕ) (old new : TerminalState) (told : ToldTerminal) (is : IsToldAs old told) (ahead : new.ahead ≡ old.ahead) where
+  -- in one write
+  once_said : new.link ≡ record old.link { talk = then_pieces old.link.talk (Sent text ∷ []) } → HasSaid new told (sent (Sent text ∷ []))
+  once_said sends = record {
+    told_then = record { ahead = told.ahead; talk = told.talk ++ Sent text ∷ []; input = told.input };
+    is = record {
+      ahead = ahead ∙ is.ahead;
+      talk = ap (λ (k : LinkState). k.talk) sends ∙ ap (λ (t : Option (List Piece)). then_pieces t (Sent text ∷ [])) is.talk;
+      input = ap (λ (k : LinkState). k.input) sends ∙ is.input;
+      used_up = is.used_up;
+    };
+    said = sent-append told.talk (Sent text ∷ []);
+    same = refl;
+  }
+
+  -- nothing was
+  none_said : text ≡ [] → new.link ≡ old.link → HasSaid new told (sent (Sent text ∷ []))
+  none_said none same = record {
+    told_then = told;
+    is = record {
+      ahead = ahead ∙ is.ahead;
+      talk = ap (λ (k : LinkState). k.talk) same ∙ is.talk;
+      input = ap (λ (k : LinkState). k.input) same ∙ is.input;
+      used_up = is.used_up;
+    };
+    said = sym (append-nil (sent told.talk)) ∙ ap (λ (l : List ℕ). sent told.talk ++ sent (Sent l ∷ [])) (sym none);
+    same = refl;
+  }
+
+line_said : (text : List ℕ) (old new : ScreenState) (asked : Asked) (told : ToldTerminal) → IsToldAs (typed_at old) told → HasLine text old new (Ok asked)
+    → HasSaid (typed_at new) told (sent (Sent (text ++ newline ∷ []) ∷ []))
+line_said text old new asked told is has = once_said (text ++ newline ∷ []) (typed_at old) (typed_at new) told is (ap (λ (a : ReadAhead). a.typed) has.ahead) has.said
+
+told_said : (text : List ℕ) (old new : ScreenState) (asked : Asked) (told : ToldTerminal) → IsToldAs (typed_at old) told → HasTold text old new (Ok asked)
+    → HasSaid (typed_at new) told (sent (Sent (tell_text text) ∷ []))
+told_said text old new asked told is has = elim has.tells [
+  | inl none ↦ none_said (tell_text text) (typed_at old) (typed_at new) told is (ap (λ (a : ReadAhead). a.typed) has.ahead) none.0 none.1
+  | inr sends ↦ once_said (tell_text text) (typed_at old) (typed_at new) told is (ap (λ (a : ReadAhead). a.typed) has.ahead) sends
+]
+
+-- the same was said on terminals that are alike
+both_said : (text : List ℕ) (one other new left : TerminalState) (alike : AreTerminalsAlike one other) → HasSaid new alike.first text → HasSaid left alike.second text → AreTerminalsAlike new left
+both_said text one other new left alike first second = record {
+  first = first.told_then;
+  second = second.told_then;
+  one_is = first.is;
+  other_is = second.is;
+  said = first.said ∙ ap (λ (l : List ℕ). l ++ text) alike.said ∙ sym second.said;
+  same = first.same ∙ alike.same ∙ sym second.same;
 }
 
-same_ok : (a b : Asked) → ◌≡◌ {A = Result Asked LinkError} (Ok a) (Ok b) → a ≡ b
+same_ok : (a b : Asked) → ◌≡◌ {A = Result Asked StepError} (Ok a) (Ok b) → a ≡ b
 same_ok a b is = cc
 
--- terminals that are alike stay so, where the same is shown on them, and the same is answered there
-module _ (asking : Asking) (one other new left : TerminalState) (alike : AreTerminalsAlike one other) (asked again : Asked) where
-  moved_alike : new ≡ one → left ≡ other → AreTerminalsAlike new left
+held_alike : (asking : Asking) (questions : List Shown) (one other new left : TerminalState) → AreTerminalsAlike one other → (asked again : Asked) → HeldDialogue asking.backup asking.title questions one new (Ok asked)
+    → HeldDialogue asking.backup asking.title questions other left (Ok again) → (asked ≡ again) × AreTerminalsAlike new left
+held_alike asking questions one other new left alike asked again first second =
+    let start = opening asking.title questions in
+    let one_then = told_then asking questions one new asked alike.first alike.one_is first in
+    let other_then = told_then asking questions other left again alike.second alike.other_is second in
+    let one_done = asked_there asking questions one new asked alike.first alike.one_is first in
+    let other_done = asked_there asking questions other left again alike.second alike.other_is second in
+    let one_comes = comes_to asking.backup start alike.first one_then asked one_done in
+    let other_comes = comes_to asking.backup start alike.second other_then again other_done in
+    let outcome = ap (λ (l : List ℕ). dialogue_over asking.backup start (typed_lines l)) alike.same in (
+      one_comes.asked_is ∙ ap (λ (o : DialogueOutcome). o.asked) outcome ∙ sym other_comes.asked_is,
+      record {
+        first = one_then;
+        second = other_then;
+        one_is = is_then asking questions one new asked alike.first alike.one_is first;
+        other_is = is_then asking questions other left again alike.second alike.other_is second;
+        said = one_comes.said ∙ (λ i. alike.said i ++ (outcome i).said) ∙ sym other_comes.said;
+        same = one_rest asking.backup start alike.first one_then alike.second other_then asked again one_done other_done alike.same;
+      },
+    )
+
+-- terminals and wires that are alike stay so, where the same is shown on them, and the same is answered there
+module _ (asking : Asking) (one other new left : ScreenState) (alike : AreScreensAlike one other) (asked again : Asked) where
+  moved_alike : new ≡ one → left ≡ other → AreScreensAlike new left
   moved_alike first second =
-      subst (λ (t : TerminalState). AreTerminalsAlike new t) (sym second) (subst (λ (t : TerminalState). AreTerminalsAlike t other) (sym first) alike)
+      subst (λ (t : ScreenState). AreScreensAlike new t) (sym second) (subst (λ (t : ScreenState). AreScreensAlike t other) (sym first) alike)
 
-  line_alike : (text : List ℕ) → HasLine text one new (Ok asked) → HasLine text other left (Ok again) → (asked ≡ again) × AreTerminalsAlike new left
-  line_alike text first second =
-      let line : List Piece = Sent (text ++ newline ∷ []) ∷ [] in (
-        first.none ∙ sym second.none,
-        record {
-          first = record { ahead = alike.first.ahead; talk = alike.first.talk ++ line; input = alike.first.input };
-          second = record { ahead = alike.second.ahead; talk = alike.second.talk ++ line; input = alike.second.input };
-          one_is = line_told text one new asked alike.first alike.one_is first;
-          other_is = line_told text other left again alike.second alike.other_is second;
-          said = sent-append alike.first.talk line ∙ ap (λ (l : List ℕ). l ++ sent line) alike.said ∙ sym (sent-append alike.second.talk line);
-          same = alike.same;
-        },
-      )
+  -- as many lines of a wire came
+  same_got : new.ahead.got ≡ one.ahead.got → left.ahead.got ≡ other.ahead.got → new.ahead.got ≡ left.ahead.got
+  same_got first second = first ∙ alike.got ∙ sym second
 
-  dialogue_alike : (questions : List Shown) → HasDialogue asking questions one new (Ok asked) → HasDialogue asking questions other left (Ok again) → (asked ≡ again) × AreTerminalsAlike new left
+  line_alike : (text : List ℕ) → HasLine text one new (Ok asked) → HasLine text other left (Ok again) → (asked ≡ again) × AreScreensAlike new left
+  line_alike text first second = (
+    first.none ∙ sym second.none,
+    record {
+      terminals = both_said (sent (Sent (text ++ newline ∷ []) ∷ [])) (typed_at one) (typed_at other) (typed_at new) (typed_at left) alike.terminals
+          (line_said text one new asked alike.terminals.first alike.terminals.one_is first) (line_said text other left again alike.terminals.second alike.terminals.other_is second);
+      got = same_got (ap (λ (a : ReadAhead). a.got) first.ahead) (ap (λ (a : ReadAhead). a.got) second.ahead);
+    },
+  )
+
+  told_alike : (text : List ℕ) → HasTold text one new (Ok asked) → HasTold text other left (Ok again) → (asked ≡ again) × AreScreensAlike new left
+  told_alike text first second = (
+    first.none ∙ sym second.none,
+    record {
+      terminals = both_said (sent (Sent (tell_text text) ∷ [])) (typed_at one) (typed_at other) (typed_at new) (typed_at left) alike.terminals
+          (told_said text one new asked alike.terminals.first alike.terminals.one_is first) (told_said text other left again alike.terminals.second alike.terminals.other_is second);
+      got = same_got (ap (λ (a : ReadAhead). a.got) first.ahead) (ap (λ (a : ReadAhead). a.got) second.ahead);
+    },
+  )
+
+  dialogue_alike : (questions : List Shown) → HasDialogue asking questions one new (Ok asked) → HasDialogue asking questions other left (Ok again) → (asked ≡ again) × AreScreensAlike new left
   dialogue_alike questions first second =
-      let start = opening asking.title questions in
-      let one_then = told_then asking questions one new asked alike.first alike.one_is first in
-      let other_then = told_then asking questions other left again alike.second alike.other_is second in
-      let one_done = asked_there asking questions one new asked alike.first alike.one_is first in
-      let other_done = asked_there asking questions other left again alike.second alike.other_is second in
-      let one_comes = comes_to asking.backup start alike.first one_then asked one_done in
-      let other_comes = comes_to asking.backup start alike.second other_then again other_done in
-      let outcome = ap (λ (l : List ℕ). dialogue_over asking.backup start (typed_lines l)) alike.same in (
-        one_comes.asked_is ∙ ap (λ (o : DialogueOutcome). o.asked) outcome ∙ sym other_comes.asked_is,
-        record {
-          first = one_then;
-          second = other_then;
-          one_is = is_then asking questions one new asked alike.first alike.one_is first;
-          other_is = is_then asking questions other left again alike.second alike.other_is second;
-          said = one_comes.said ∙ (λ i. alike.said i ++ (outcome i).said) ∙ sym other_comes.said;
-          same = one_rest asking.backup start alike.first one_then alike.second other_then asked again one_done other_done alike.same;
-        },
-      )
+      let held = held_alike asking questions (typed_at one) (typed_at other) (typed_at new) (typed_at left) alike.terminals asked again first.dialogue second.dialogue in
+      (held.0, record { terminals = held.1; got = same_got first.got second.got })
 
-  shows_alike : (display : Display) → Shows asking display one (Ok asked) new → Shows asking display other (Ok again) left → (asked ≡ again) × AreTerminalsAlike new left
+  request_alike : (questions : List Shown) → HasRequest asking questions one new (Ok asked) → HasRequest asking questions other left (Ok again) → (asked ≡ again) × AreScreensAlike new left
+  request_alike questions first second =
+      let same = same_answers asking.backup asking.title questions one.ahead.got new.ahead.got left.ahead.got (typed_at one) (typed_at new) (typed_at other) (typed_at left) asked again alike.terminals first
+      (subst (λ (n : ℕ). Asks asking.backup asking.title questions n (typed_at other) (typed_at left) (Ok again) left.ahead.got) (sym alike.got) second) in
+      (same.0, record { terminals = same.2; got = same.1 })
+
+  shows_alike : (display : Display) → Shows asking display one (Ok asked) new → Shows asking display other (Ok again) left → (asked ≡ again) × AreScreensAlike new left
   shows_alike Blank first second = (same_ok asked (Answers []) first.0 ∙ sym (same_ok again (Answers []) second.0), moved_alike first.1 second.1)
   shows_alike (OneLine text) first second = line_alike text first second
   shows_alike (Dialogue questions) first second = dialogue_alike questions first second
+  shows_alike (Told text) first second = told_alike text first second
+  shows_alike (Request questions) first second = request_alike questions first second
 
 -- ---- one line
 
-module _ (disk : Disk) (old : SessionState) (terminal : TerminalState) (err : LinkState) (alike : AreTerminalsAlike old.terminal terminal) (told : IsTold disk old.files.view) (one other : Stepped) (new left : SessionState) (files : new.files ≡ left.files) where
+module _ (disk : Disk) (old : SessionState) (terminal : ScreenState) (err : LinkState) (alike : AreScreensAlike old.terminal terminal) (told : IsTold disk old.files.view) (one other : Stepped) (new left : SessionState) (files : new.files ≡ left.files) where
   abbrev there : SessionState
   there = record old { terminal = terminal; err = err }
 
@@ -181,21 +256,21 @@ module _ (disk : Disk) (old : SessionState) (terminal : TerminalState) (err : Li
   steps_alike TooLong first second = (first.0 ∙ sym second.0, kept_alike first.1 second.1)
   steps_alike (Whole line) first second = heard_alike (heard old.asking.escape line) first second
 
-heeds_alike : (disk : Disk) (old : SessionState) (terminal : TerminalState) (err : LinkState) → AreTerminalsAlike old.terminal terminal → IsTold disk old.files.view → (did other : Response) (new left : SessionState) → new.files ≡ left.files → (line : Line)
+heeds_alike : (disk : Disk) (old : SessionState) (terminal : ScreenState) (err : LinkState) → AreScreensAlike old.terminal terminal → IsTold disk old.files.view → (did other : Response) (new left : SessionState) → new.files ≡ left.files → (line : Line)
     → Handles old line did new → Handles (record old { terminal = terminal; err = err }) line other left → (did ≡ other) × AreAlike new left
 heeds_alike disk old terminal err alike told did other new left files line first second =
     let same = steps_alike disk old terminal err alike told first.stepped second.stepped new left files line first.steps second.steps in
     (first.did_is ∙ ap (sent_in old.asking.escape) same.0 ∙ sym second.did_is, same.1)
 
 -- what is left once it is told
-told_alike : (mid new other last : SessionState) → AreAlike mid other → TellsStore mid new → TellsStore other last → AreAlike new last
-told_alike mid new other last alike first second =
+stored_alike : (mid new other last : SessionState) → AreAlike mid other → TellsStore mid new → TellsStore other last → AreAlike new last
+stored_alike mid new other last alike first second =
     let one_terminal : new.terminal ≡ mid.terminal = ap (λ (s : SessionState). s.terminal) first.new_is in
     let other_terminal : last.terminal ≡ other.terminal = ap (λ (s : SessionState). s.terminal) second.new_is in
     record {
       rest = second.new_is ∙ ap (λ (s : SessionState). record s { store = stored s.store.layers []; err = last.err }) alike.rest
           ∙ ap (λ (s : SessionState). record s { terminal = other.terminal; err = last.err }) (sym first.new_is)
-          ∙ ap (λ (t : TerminalState). record new { terminal = t; err = last.err }) (sym other_terminal);
+          ∙ ap (λ (t : ScreenState). record new { terminal = t; err = last.err }) (sym other_terminal);
       terminals = moved_alike mid.asking mid.terminal other.terminal new.terminal last.terminal alike.terminals (Answers []) (Answers []) one_terminal other_terminal;
     }
 
@@ -216,7 +291,7 @@ takes_alike disk old other alike told did again new left files line first second
     let same = heeds_alike disk old other.terminal other.err alike.terminals told did again first.mid second.mid mids line first.handled handled in
     record {
       does = same.0;
-      leaves = told_alike first.mid new second.mid left same.1 first.tells second.tells;
+      leaves = stored_alike first.mid new second.mid left same.1 first.tells second.tells;
       told = first.mid.store.told;
       one_tells = takes_tells line old new did first;
       other_tells = subst (λ (t : List ℕ). Tells t other.err left.err) (ap (λ (s : SessionState). s.store.told) same.1.rest) (takes_tells line other left again second);

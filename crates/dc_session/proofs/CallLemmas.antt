@@ -11,7 +11,7 @@ use Rattle.dc_question.specs.Changes.{Does as DoesChange}
 use Rattle.dc_question.specs.Questions.{Answers}
 use Rattle.dc_question.specs.declared.errors.QuestionError.{QuestionError}
 use Rattle.dc_question.specs.declared.errors.QuestionError.TheVariants as error
-use Rattle.dc_session.specs.SessionState.{FilesState, TerminalState, SessionState}
+use Rattle.dc_session.specs.SessionState.{FilesState, ScreenState, SessionState}
 use Rattle.dc_session.specs.Answers.{CommandInputs, CommandOutcome, answer, names_on, reply_write, reply_read}
 use Rattle.dc_session.specs.Inside.{TellsRefusal, Tells, Comes, ComesAsking}
 use Rattle.dc_session.specs.Machine.{Gives, Does}
@@ -67,7 +67,7 @@ module _ (names : List (List ℕ)) (old : SessionState) where
 -- ---- what the call of the session did
 
 -- what it was given, then what the command came to
-pub asking_does : (command : Command) (given : CommandInputs) (old new : SessionState) (files : FilesState) (terminal : TerminalState) (outcome : CommandOutcome) (names : List (List ℕ)) (result : Result Stepped OutOfMemory)
+pub asking_does : (command : Command) (given : CommandInputs) (old new : SessionState) (files : FilesState) (terminal : ScreenState) (outcome : CommandOutcome) (names : List (List ℕ)) (result : Result Stepped OutOfMemory)
     → Gives command old given files terminal → outcome ≡ answer old command given → names ≡ names_on old command given
     → ComesAsking outcome names (record old { files = files; terminal = terminal }) new result → Does command old new result
 asking_does command given old new files terminal outcome names (Ok did) gives alike same comes =
@@ -75,7 +75,7 @@ asking_does command given old new files terminal outcome names (Ok did) gives al
     let left : terminal ≡ new.terminal = ap (λ (s : SessionState). s.terminal) (sym comes.1) in
     record {
       given = given;
-      gives = subst (λ (f : FilesState). Gives command old given f new.terminal) kept (subst (λ (t : TerminalState). Gives command old given files t) left gives);
+      gives = subst (λ (f : FilesState). Gives command old given f new.terminal) kept (subst (λ (t : ScreenState). Gives command old given files t) left gives);
       stepped_is = comes.0 ∙ ap (λ (o : CommandOutcome). o.stepped) alike;
       new_is = comes.1 ∙ (λ i. record old { store = (alike i).store; files = kept i; terminal = left i; asking = (alike i).asking });
     }
@@ -85,7 +85,7 @@ asking_does command given old new files terminal outcome names (Err memory) give
     inr record {
       part = inr record {
         given = given;
-        gives = subst (λ (f : FilesState). Gives command old given f new.terminal) kept (subst (λ (t : TerminalState). Gives command old given files t) left gives);
+        gives = subst (λ (f : FilesState). Gives command old given f new.terminal) kept (subst (λ (t : ScreenState). Gives command old given files t) left gives);
         others = subst (λ (ns : List (List ℕ)). AreSameButAll ns old.store.layers new.store.layers) same comes.0;
       };
       err = ap (λ (s : SessionState). s.err) comes.1;
@@ -99,7 +99,7 @@ pub comes_asking : (outcome : CommandOutcome) (names : List (List ℕ)) (old new
 comes_asking outcome names old new (Ok did) comes = comes
 comes_asking outcome names old new (Err memory) comes = (comes.0, comes.1 ∙ (λ i. record old { store = new.store; asking = sym (ap (λ (s : SessionState). s.asking) comes.1) i }))
 
-pub comes_does : (command : Command) (given : CommandInputs) (old new : SessionState) (files : FilesState) (terminal : TerminalState) (outcome : CommandOutcome) (names : List (List ℕ)) (result : Result Stepped OutOfMemory)
+pub comes_does : (command : Command) (given : CommandInputs) (old new : SessionState) (files : FilesState) (terminal : ScreenState) (outcome : CommandOutcome) (names : List (List ℕ)) (result : Result Stepped OutOfMemory)
     → Gives command old given files terminal → outcome ≡ answer old command given → names ≡ names_on old command given
     → Comes outcome names (record old { files = files; terminal = terminal }) new result → Does command old new result
 comes_does command given old new files terminal outcome names result gives alike same comes =

@@ -8,7 +8,7 @@ use Rattle.dc_text.specs.Bytes.{lower}
 use Rattle.dc_text.specs.Names.{is_name, is_field_key}
 use Rattle.dc_item.specs.Item.{ItemParts}
 use Rattle.dc_frontend.specs.declared.frontend.Frontend.{Frontend}
-use Rattle.dc_frontend.specs.declared.frontend.Frontend.TheVariants.{Noninteractive, Teletype}
+use Rattle.dc_frontend.specs.declared.frontend.Frontend.TheVariants.{Noninteractive, Teletype, Passthrough}
 use Rattle.dc_proto.specs.Replies.{reply}
 use Rattle.dc_proto.specs.declared.command.Command.{Command}
 use Rattle.dc_proto.specs.declared.command.Command.TheVariants as command
@@ -170,6 +170,12 @@ module _ (old : SessionState) (store : StoreState) (at : QuestionContext) (at_is
 
 -- ---- commands that read
 
+-- nothing is shown in any manner of asking
+pub where_blank : (frontend : Frontend) → where_asked frontend Blank ≡ Blank
+where_blank Noninteractive = refl
+where_blank Teletype = refl
+where_blank Passthrough = refl
+
 module _ (old : SessionState) where
   -- a word that is no name
   none_does : (command : Command) → Gives command old nothing old.files old.terminal → (word : List ℕ) → answer old command nothing ≡ reply_only old (no_question word)
@@ -177,10 +183,6 @@ module _ (old : SessionState) where
   none_does command gives word is result told =
       stored_does command old old gives (reply_only old (no_question word)) is result
       (unwritten (names_on old command nothing) old (reply_only old (no_question word)) refl refl result told)
-
-  where_blank : (frontend : Frontend) → where_asked frontend Blank ≡ Blank
-  where_blank Noninteractive = refl
-  where_blank Teletype = refl
 
   -- a word that is no name describes nothing
   none_described : (word : List ℕ) → is_name word ≡ false → where_asked old.policy.frontend (described old word) ≡ Blank

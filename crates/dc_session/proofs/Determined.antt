@@ -12,7 +12,6 @@ use Rattle.dc_outside.specs.declared.files.FilesCall.{FilesCall}
 use Rattle.dc_outside.specs.declared.files.FilesOp.TheVariants.{Read}
 use Rattle.dc_proto.specs.Commands.{heard}
 use Rattle.dc_outside.specs.LinkCalls.{Tells}
-use Rattle.dc_outside.specs.declared.link.LinkError.{LinkError}
 use Rattle.dc_teletype.specs.declared.teletype.Asked.{Asked}
 use Rattle.dc_teletype.specs.declared.teletype.Asked.TheVariants.{Answers}
 use Rattle.dc_proto.specs.declared.command.Command.{Command}
@@ -28,8 +27,9 @@ use Rattle.dc_session.specs.Alike.{IsSameButErr, AreTransitionsSame, TellSame}
 use Rattle.dc_session.specs.Answers.{CommandOutcome, answer}
 use Rattle.dc_session.specs.Displays.{Display, Blank, displayed, Shows}
 use Rattle.dc_session.specs.Machine.{Handles, TakesLine, Steps, StepsHeard, HasDone, Looks, file_of, sent_in}
-use Rattle.dc_session.specs.SessionState.{FilesState, LinkState, TerminalState, SessionState}
+use Rattle.dc_session.specs.SessionState.{FilesState, LinkState, ScreenState, SessionState}
 use Rattle.dc_session.specs.TemplateFiles.{Finds, HasRead}
+use Rattle.dc_session.specs.declared.stepped.StepError.{StepError}
 use Rattle.dc_session.specs.declared.stepped.Stepped.{Stepped}
 use Rattle.dc_session.specs.declared.template_files.Found.{Found}
 use Rattle.dc_session.specs.declared.template_files.Found.TheVariants.{Unreadable, Missing, Faulty, Templates}
@@ -47,7 +47,7 @@ not_none a is = cc
 abbrev pub IsTold : Disk → FilesView → Type 0
 IsTold disk told = (calls : List FilesCall) × (told ≡ record { disk = Some disk; calls = Some calls })
 
-same_ok : (a b : Asked) → ◌≡◌ {A = Result Asked LinkError} (Ok a) (Ok b) → a ≡ b
+same_ok : (a b : Asked) → ◌≡◌ {A = Result Asked StepError} (Ok a) (Ok b) → a ≡ b
 same_ok a b is = cc
 
 apart : (path : List ℕ) → ◌≡◌ {A = List FilesCall} (record { op = Read; path = path; ok = false } ∷ []) (record { op = Read; path = path; ok = true } ∷ []) → ⊥
@@ -125,7 +125,7 @@ module _ (disk : Disk) (old : SessionState) (err : LinkState) (nobody : AsksNobo
   there = record old { err = err }
 
   -- nothing is shown, and nothing answered
-  blank_given : (display : Display) (asked : Asked) (terminal : TerminalState) → display ≡ Blank → Shows old.asking display old.terminal (Ok asked) terminal → (asked ≡ Answers []) × (terminal ≡ old.terminal)
+  blank_given : (display : Display) (asked : Asked) (terminal : ScreenState) → display ≡ Blank → Shows old.asking display old.terminal (Ok asked) terminal → (asked ≡ Answers []) × (terminal ≡ old.terminal)
   blank_given display asked terminal blank shows =
       let still : Shows old.asking Blank old.terminal (Ok asked) terminal = subst (λ (d : Display). Shows old.asking d old.terminal (Ok asked) terminal) blank shows in
       (same_ok asked (Answers []) still.0, still.1)

@@ -75,11 +75,13 @@ part_keeps command old new done = elim done.part [
 idle_keeps : (old new : SessionState) (error : StepError) → BreaksIdle old error new → KeepsDisk old.files new.files
 idle_keeps old new step.OutOfMemory same = state_keeps old new same
 idle_keeps old new step.Term none = absurd none
+idle_keeps old new (step.Wire line) none = absurd none
 
 off_keeps : (command : Command) (old new : SessionState) (error : StepError) → BreaksOff command old error new → KeepsDisk old.files new.files
 off_keeps command old new step.OutOfMemory (inl same) = state_keeps old new same
 off_keeps command old new step.OutOfMemory (inr part) = part_keeps command old new part
 off_keeps command old new step.Term fails = ap (λ (s : SessionState). s.files.view.disk) fails.new_is
+off_keeps command old new (step.Wire line) fails = ap (λ (s : SessionState). s.files.view.disk) fails.new_is
 
 heard_breaks : (said : Heard) (old new : SessionState) (error : StepError) → BreaksHeard said old error new → KeepsDisk old.files new.files
 heard_breaks Nothing old new error idle = idle_keeps old new error idle

@@ -7,7 +7,7 @@ use Rattle.dc_proto.specs.declared.command.Command.{Command}
 use Rattle.dc_proto.specs.declared.command.Command.TheVariants.{Version, Capb, SetTitle, Title, Input, BeginBlock, EndBlock, Go, Clear, Stop, Get, Set, Reset, Subst, Fget, Fset, Metaget, Register, Unregister, Purge, ProgressStart, ProgressSet, ProgressStep, ProgressInfo, ProgressStop, LoadTemplateFile, XSave}
 use Rattle.dc_proto.specs.declared.command.Heard.TheVariants.{Known}
 use Rattle.dc_frontend.specs.declared.frontend.Frontend.{Frontend}
-use Rattle.dc_frontend.specs.declared.frontend.Frontend.TheVariants.{Noninteractive, Teletype}
+use Rattle.dc_frontend.specs.declared.frontend.Frontend.TheVariants.{Noninteractive, Teletype, Passthrough}
 use Rattle.dc_proto.specs.declared.reply.Reply.{Reply}
 use Rattle.dc_proto.specs.Replies.{reply}
 use Rattle.dc_question.specs.Changes.{values_set}
@@ -21,7 +21,7 @@ use Rattle.dc_session.specs.Asking.{description, is_to_be_shown, prepared_if, ch
 use Rattle.dc_session.specs.Answers.{CommandInputs, CommandOutcome, reply_read, reply_write, and_then, for_question, there, reply_asking, titled, with_bar, unless_busy, gone, input_reply, answered, heard_out, going, reply_only, told_code, is_supported, is_truth, answer}
 use Rattle.dc_session.specs.Machine.{Gives, Looks, HasDone, is_save}
 use Rattle.dc_session.specs.Refusals.{refusal, cant_change, is_busy, no_progress_bar}
-use Rattle.dc_session.specs.SessionState.{FilesState, TerminalState, SessionState}
+use Rattle.dc_session.specs.SessionState.{FilesState, ScreenState, SessionState}
 use Rattle.dc_session.specs.declared.asking.Bar.{Bar}
 use Rattle.dc_session.specs.declared.stepped.Stepped.{Stepped}
 use Rattle.dc_session.specs.declared.stepped.Stepped.TheVariants.{Silent, Replied, Save, Stopped}
@@ -115,6 +115,8 @@ input_sound : (frontend : Frontend) (shown : Bool) → IsSoundCode (input_reply 
 input_sound Noninteractive shown = thirty
 input_sound Teletype true = zero
 input_sound Teletype false = thirty
+input_sound Passthrough true = zero
+input_sound Passthrough false = thirty
 
 answered_sound : (state : SessionState) (batch : Result StoreState QuestionError) → IsSound (answered state batch).stepped
 answered_sound state (Ok store) = zero
@@ -131,8 +133,9 @@ fixed_sound state (Some name) asked = ten
 going_sound : (frontend : Frontend) (state : SessionState) (asked : Asked) → IsSound (going frontend state asked).stepped
 going_sound Noninteractive state asked = gone_sound state (values_set state.store state.at (choices_for state))
 going_sound Teletype state asked = fixed_sound state (first_fixed state) asked
+going_sound Passthrough state asked = fixed_sound state (first_fixed state) asked
 
-pub told_as_counted : (state : SessionState) (command : Command) (given : CommandInputs) (new : FilesState) (terminal : TerminalState) → Gives command state given new terminal
+pub told_as_counted : (state : SessionState) (command : Command) (given : CommandInputs) (new : FilesState) (terminal : ScreenState) → Gives command state given new terminal
     → IsToldAsCounted (is_save (Known command)) (answer state command given).stepped state.files.counts new.counts
 told_as_counted state (LoadTemplateFile path owner) given new terminal gives = file_told state path owner given.found given.asked new gives.looks
 told_as_counted state (Version version) given new terminal gives = inr (version_sound state version given (is_supported version) refl, ap (λ (f : FilesState). f.counts) gives.looks.1)

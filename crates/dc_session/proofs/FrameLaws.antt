@@ -10,7 +10,7 @@ use Rattle.dc_item.specs.Item.{ItemParts}
 use Rattle.dc_item.specs.declared.op.Op.{Op}
 use Rattle.dc_item.specs.declared.op.Op.TheVariants.{Put, SetField, SetFlag, SetVar}
 use Rattle.dc_frontend.specs.declared.frontend.Frontend.{Frontend}
-use Rattle.dc_frontend.specs.declared.frontend.Frontend.TheVariants.{Noninteractive, Teletype}
+use Rattle.dc_frontend.specs.declared.frontend.Frontend.TheVariants.{Noninteractive, Teletype, Passthrough}
 use Rattle.dc_proto.specs.Replies.{reply}
 use Rattle.dc_proto.specs.declared.command.Command.{Command}
 use Rattle.dc_proto.specs.declared.command.Command.TheVariants.{Version, Capb, SetTitle, Title, Input, BeginBlock, EndBlock, Go, Clear, Stop, Get, Set, Reset, Subst, Fget, Fset, Metaget, Register, Unregister, Purge, ProgressStart, ProgressSet, ProgressStep, ProgressInfo, ProgressStop, LoadTemplateFile, XSave}
@@ -30,7 +30,7 @@ use Rattle.dc_question.specs.Questions.{QuestionContext, question, flag, named_t
 use Rattle.dc_question.specs.declared.errors.QuestionError.{QuestionError}
 use Rattle.dc_question.specs.declared.errors.QuestionError.TheVariants as error
 use Rattle.dc_session.specs.SessionState.{SessionState}
-use Rattle.dc_session.specs.Answers.{CommandInputs, CommandOutcome, answer, answered, heard_out, going, going_names, loading, load_names, names_on, for_question, and_then, reply_only, reply_write, reply_read, unless_busy, there, gone, is_truth}
+use Rattle.dc_session.specs.Answers.{CommandInputs, CommandOutcome, answer, answered, heard_out, going, going_names, names_given, loading, load_names, names_on, for_question, and_then, reply_only, reply_write, reply_read, unless_busy, there, gone, is_truth}
 use Rattle.dc_session.specs.Asking.{first_busy, first_fixed, choices_for, to_show, values_given}
 use Rattle.dc_session.specs.Refusals.{bad_flag_value, cant_change, is_busy}
 use Rattle.dc_session.specs.declared.asking.Bar.{Bar}
@@ -215,7 +215,7 @@ module _ (state : SessionState) where
       (busy_keeps (names_of (leave_batch state.store.layers state.at state.owner (word ∷ []))) state (first_busy state.asking (word ∷ [])) (reply_write state (reply 0 []) (unregistered state.store state.at word state.owner))
       (does_keeps (names_of (leave_batch state.store.layers state.at state.owner (word ∷ []))) state (reply 0 []) (unregistered state.store state.at word state.owner) (unregister_keeps word (question state.store.layers state.at word))))
 
-  heard_keeps : (asked : Asked) → OutcomeKeeps (going_names Teletype state asked) state (heard_out state asked)
+  heard_keeps : (asked : Asked) → OutcomeKeeps (names_given state asked) state (heard_out state asked)
   heard_keeps Back = same_all_refl [] state.store.layers
   heard_keeps (Answers answers) =
       answered_keeps (each (λ a. a.0) (values_given (to_show state) answers)) (values_set state.store state.at (values_given (to_show state) answers)) (values_keep state.store state.at (values_given (to_show state) answers)) where
@@ -223,13 +223,14 @@ module _ (state : SessionState) where
         answered_keeps names (Ok new) keeps = keeps
         answered_keeps names (Err error) keeps = same_all_refl names state.store.layers
 
-  fixed_keeps : (fixed : Option (List ℕ)) (asked : Asked) → OutcomeKeeps (going_names Teletype state asked) state (option_map_or (λ name. reply_only state (cant_change name)) fixed (heard_out state asked))
+  fixed_keeps : (fixed : Option (List ℕ)) (asked : Asked) → OutcomeKeeps (names_given state asked) state (option_map_or (λ name. reply_only state (cant_change name)) fixed (heard_out state asked))
   fixed_keeps None asked = heard_keeps asked
-  fixed_keeps (Some name) asked = same_all_refl (going_names Teletype state asked) state.store.layers
+  fixed_keeps (Some name) asked = same_all_refl (names_given state asked) state.store.layers
 
   going_keeps : (frontend : Frontend) (asked : Asked) → OutcomeKeeps (going_names frontend state asked) state (going frontend state asked)
   going_keeps Noninteractive asked = gone_keeps (each (λ a. a.0) (choices_for state)) state (values_set state.store state.at (choices_for state)) (values_keep state.store state.at (choices_for state))
   going_keeps Teletype asked = fixed_keeps (first_fixed state) asked
+  going_keeps Passthrough asked = fixed_keeps (first_fixed state) asked
 
   answer_keeps : (command : Command) (given : CommandInputs) → AreSameButAll (names_on state command given) state.store.layers (answer state command given).store.layers
   answer_keeps (Get word) given = says_keeps [] state [] _ _

@@ -8,7 +8,7 @@ use Rattle.std.proofs.lemmas.List.Folds.{find-append}
 use Rattle.dc_text.specs.Maps.{AreDistinct}
 use Rattle.dc_text.specs.declared.memory.OutOfMemory.{OutOfMemory}
 use Rattle.dc_frontend.specs.declared.frontend.Frontend.{Frontend}
-use Rattle.dc_frontend.specs.declared.frontend.Frontend.TheVariants.{Teletype}
+use Rattle.dc_frontend.specs.declared.frontend.Frontend.TheVariants.{Noninteractive, Teletype, Passthrough}
 use Rattle.dc_frontend.specs.declared.shown.Shown.{Shown}
 use Rattle.dc_layer.specs.State.{LayerState}
 use Rattle.dc_proto.specs.Replies.{reply}
@@ -23,9 +23,9 @@ use Rattle.dc_teletype.specs.declared.teletype.Answer.TheVariants.{Keep, Value}
 use Rattle.dc_teletype.specs.declared.teletype.Asked.{Asked}
 use Rattle.dc_teletype.specs.declared.teletype.Asked.TheVariants.{Answers, Back}
 use Rattle.dc_template.specs.declared.kinds.Kind.{Kind}
-use Rattle.dc_session.specs.Answers.{CommandOutcome, answer, names_on, reply_only, going, going_names, heard_out, answered}
+use Rattle.dc_session.specs.Answers.{CommandOutcome, answer, names_on, reply_only, going, asked_out, going_names, names_given, heard_out, answered}
 use Rattle.dc_session.specs.Asking.{shown, to_show, values_given, first_fixed, with_name}
-use Rattle.dc_session.specs.Displays.{Blank, displayed, where_asked, dialogue}
+use Rattle.dc_session.specs.Displays.{Display, Blank, displayed, where_asked, dialogue}
 use Rattle.dc_session.specs.Inside.{TellsRefusal, ComesAsking, HasShown, StopsShowing, lifted}
 use Rattle.dc_session.specs.Machine.{DoesShowing, BreaksOff}
 use Rattle.dc_session.specs.Refusals.{cant_change}
@@ -34,7 +34,7 @@ use Rattle.dc_session.specs.declared.stepped.StepError.{StepError}
 use Rattle.dc_session.specs.declared.stepped.Stepped.{Stepped}
 use Rattle.dc_session.specs.declared.stepped.Stepped.TheVariants.{Replied}
 use Rattle.dc_session.proofs.TerminalLemmas.{answered_so, lifts, shown_asking, stops_showing}
-use Rattle.dc_session.proofs.CommandLemmas.{stored_does, quiet}
+use Rattle.dc_session.proofs.CommandLemmas.{where_blank, stored_does, quiet}
 use Rattle.dc_session.proofs.AskingLemmas.{told_comes, unset_comes}
 
 -- ---- a search name by name
@@ -95,36 +95,47 @@ given_distinct (question ∷ questions) (Value text ∷ answers) all = (given_ot
 
 -- ---- what GO comes to
 
-module _ (old : SessionState) (user : old.policy.frontend ≡ Teletype) where
-  shows_go : displayed old command.Go ≡ option_map_or (λ name. Blank) (first_fixed old) (dialogue (to_show old))
-  shows_go = ap (λ (f : Frontend). where_asked f (option_map_or (λ name. Blank) (first_fixed old) (dialogue (to_show old)))) user
+-- a user is asked
+going_asks : (frontend : Frontend) → frontend ≢ Noninteractive → (state : SessionState) (asked : Asked) → going frontend state asked ≡ asked_out state asked
+going_asks Noninteractive user state asked = absurd (user refl)
+going_asks Teletype user state asked = refl
+going_asks Passthrough user state asked = refl
+
+names_asks : (frontend : Frontend) → frontend ≢ Noninteractive → (state : SessionState) (asked : Asked) → names_given state asked ≡ going_names frontend state asked
+names_asks Noninteractive user state asked = absurd (user refl)
+names_asks Teletype user state asked = refl
+names_asks Passthrough user state asked = refl
+
+module _ (old : SessionState) (user : old.policy.frontend ≢ Noninteractive) where
+  -- what is asked where questions are asked
+  abbrev pub dialogue_shown : Display
+  dialogue_shown = where_asked old.policy.frontend (dialogue (to_show old))
 
   -- a value can't be changed
   module _ (name : List ℕ) (fixed : first_fixed old ≡ Some name) where
     pub fixed_does : (result : Result Stepped OutOfMemory) → IfOk result (λ did. did ≡ Replied (cant_change name)) → DoesShowing command.Go old old (lifted result)
     fixed_does result told =
         lifts command.Go old old result
-        (stored_does command.Go old old (quiet command.Go old refl (shows_go ∙ ap (λ (f : Option (List ℕ)). option_map_or (λ n. Blank) f (dialogue (to_show old))) fixed))
+        (stored_does command.Go old old
+        (quiet command.Go old refl
+        (ap (λ (f : Option (List ℕ)). where_asked old.policy.frontend (option_map_or (λ n. Blank) f (dialogue (to_show old)))) fixed ∙ where_blank old.policy.frontend))
         (reply_only old (cant_change name))
-        (ap (λ (f : Frontend). going f old (Answers [])) user ∙ ap (λ (f : Option (List ℕ)). option_map_or (λ n. reply_only old (cant_change n)) f (heard_out old (Answers []))) fixed)
+        (going_asks old.policy.frontend user old (Answers []) ∙ ap (λ (f : Option (List ℕ)). option_map_or (λ n. reply_only old (cant_change n)) f (heard_out old (Answers []))) fixed)
         result (told_comes old (names_on old command.Go (answered_so (Answers []))) (cant_change name) result told))
 
   module _ (free : first_fixed old ≡ None) where
-    pub shows_dialogue : displayed old command.Go ≡ dialogue (to_show old)
-    shows_dialogue = shows_go ∙ ap (λ (f : Option (List ℕ)). option_map_or (λ n. Blank) f (dialogue (to_show old))) free
+    pub shows_dialogue : displayed old command.Go ≡ dialogue_shown
+    shows_dialogue = ap (λ (f : Option (List ℕ)). where_asked old.policy.frontend (option_map_or (λ n. Blank) f (dialogue (to_show old)))) free
 
     pub comes_to : (asked : Asked) → heard_out old asked ≡ answer old command.Go (answered_so asked)
-    comes_to asked = sym (ap (λ (f : Frontend). going f old asked) user ∙ ap (λ (f : Option (List ℕ)). option_map_or (λ n. reply_only old (cant_change n)) f (heard_out old asked)) free)
-
-    sets : (asked : Asked) → going_names Teletype old asked ≡ names_on old command.Go (answered_so asked)
-    sets asked = ap (λ (f : Frontend). going_names f old asked) (sym user)
+    comes_to asked = sym (going_asks old.policy.frontend user old asked ∙ ap (λ (f : Option (List ℕ)). option_map_or (λ n. reply_only old (cant_change n)) f (heard_out old asked)) free)
 
     -- the dialogue was held, and this came of it
-    pub held_does : (asked : Asked) (mid new : SessionState) → HasShown (dialogue (to_show old)) old (Ok asked) mid → (result : Result Stepped OutOfMemory)
-        → ComesAsking (heard_out mid asked) (going_names Teletype old asked) mid new result → DoesShowing command.Go old new (lifted result)
+    pub held_does : (asked : Asked) (mid new : SessionState) → HasShown dialogue_shown old (Ok asked) mid → (result : Result Stepped OutOfMemory)
+        → ComesAsking (heard_out mid asked) (names_given old asked) mid new result → DoesShowing command.Go old new (lifted result)
     held_does asked mid new shown result comes =
-        shown_asking command.Go old refl (dialogue (to_show old)) shows_dialogue asked mid new shown (heard_out mid asked) (going_names Teletype old asked) result
-        (same_outcome ∙ comes_to asked) (sets asked) comes where
+        shown_asking command.Go old refl dialogue_shown shows_dialogue asked mid new shown (heard_out mid asked) (names_given old asked) result
+        (same_outcome ∙ comes_to asked) (names_asks old.policy.frontend user old asked) comes where
           by_asked : (a : Asked) (s : SessionState) → s ≡ record old { terminal = s.terminal } → heard_out s a ≡ heard_out old a
           by_asked Back s same = ap (λ (t : SessionState). heard_out t Back) same
           by_asked (Answers answers) s same = ap (λ (t : SessionState). heard_out t (Answers answers)) same ∙ stays (values_set old.store old.at (values_given (to_show old) answers)) where
@@ -136,8 +147,8 @@ module _ (old : SessionState) (user : old.policy.frontend ≡ Teletype) where
           same_outcome = by_asked asked mid shown.kept
 
     -- or it stopped
-    pub stops_does : (new : SessionState) (error : StepError) → StopsShowing (dialogue (to_show old)) old error new → BreaksOff command.Go old error new
-    stops_does new error stopped = stops_showing command.Go old refl (dialogue (to_show old)) shows_dialogue new error stopped
+    pub stops_does : (new : SessionState) (error : StepError) → StopsShowing dialogue_shown old error new → BreaksOff command.Go old error new
+    stops_does new error stopped = stops_showing command.Go old refl dialogue_shown shows_dialogue new error stopped
 
 -- ---- the answers are taken, or not
 

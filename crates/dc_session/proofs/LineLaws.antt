@@ -5,7 +5,7 @@ use Rattle.std.specs.Option.{option_map_or}
 use Rattle.dc_words.specs.declared.stream.Line.{Line}
 use Rattle.dc_words.specs.declared.stream.Line.TheVariants.{Whole, TooLong}
 use Rattle.dc_frontend.specs.declared.frontend.Frontend.{Frontend}
-use Rattle.dc_frontend.specs.declared.frontend.Frontend.TheVariants.{Noninteractive, Teletype}
+use Rattle.dc_frontend.specs.declared.frontend.Frontend.TheVariants.{Noninteractive, Teletype, Passthrough}
 use Rattle.dc_proto.specs.Commands.{heard}
 use Rattle.dc_proto.specs.Replies.{reply}
 use Rattle.dc_proto.specs.declared.command.Command.{Command}
@@ -89,11 +89,14 @@ fixed_meek state (Some name) asked = tells_meek state (cant_change name)
 going_meek : (frontend : Frontend) (state : SessionState) (asked : Asked) → IsMeek state (going frontend state asked)
 going_meek Noninteractive state asked = gone_meek state (values_set state.store state.at (choices_for state))
 going_meek Teletype state asked = fixed_meek state (first_fixed state) asked
+going_meek Passthrough state asked = fixed_meek state (first_fixed state) asked
 
 input_meek : (frontend : Frontend) (state : SessionState) (shown : Bool) (asking : Asking) → IsMeek state (reply_asking state (input_reply frontend shown) asking)
 input_meek Noninteractive state shown asking = record { store = inl refl; asking = inr (_, refl, inr refl) }
 input_meek Teletype state true asking = record { store = inl refl; asking = inr (_, refl, inl refl) }
 input_meek Teletype state false asking = record { store = inl refl; asking = inr (_, refl, inr refl) }
+input_meek Passthrough state true asking = record { store = inl refl; asking = inr (_, refl, inl refl) }
+input_meek Passthrough state false asking = record { store = inl refl; asking = inr (_, refl, inr refl) }
 
 answer_meek : (state : SessionState) (command : Command) (given : CommandInputs) → IsMeek state (answer state command given)
 answer_meek state (Version version) given = record { store = inl refl; asking = inl refl }

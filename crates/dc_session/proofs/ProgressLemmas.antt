@@ -5,7 +5,6 @@ use Rattle.std.specs.Option.{option_map_or}
 use Rattle.dc_text.specs.declared.memory.OutOfMemory.{OutOfMemory}
 use Rattle.dc_text.specs.Names.{is_name}
 use Rattle.dc_frontend.specs.declared.frontend.Frontend.{Frontend}
-use Rattle.dc_frontend.specs.declared.frontend.Frontend.TheVariants.{Noninteractive, Teletype}
 use Rattle.dc_item.specs.Item.{ItemParts}
 use Rattle.dc_layer.specs.State.{LayerState}
 use Rattle.dc_proto.specs.Replies.{reply}
@@ -29,14 +28,10 @@ use Rattle.dc_session.specs.declared.stepped.StepError.{StepError}
 use Rattle.dc_session.specs.declared.stepped.Stepped.{Stepped}
 use Rattle.dc_session.specs.declared.stepped.Stepped.TheVariants.{Replied}
 use Rattle.dc_session.proofs.AskingLemmas.{told_does}
-use Rattle.dc_session.proofs.CommandLemmas.{quiet, on_name, on_none, there_found, there_none}
+use Rattle.dc_session.proofs.CommandLemmas.{where_blank, quiet, on_name, on_none, there_found, there_none}
 use Rattle.dc_session.proofs.TerminalLemmas.{lifts, shown_does, stops_showing}
 
 -- ---- descriptions
-
-where_blank : (frontend : Frontend) → where_asked frontend Blank ≡ Blank
-where_blank Noninteractive = refl
-where_blank Teletype = refl
 
 no_description : (layers : List LayerState) (at : QuestionContext) (name : List ℕ) → exists layers at name ≡ false → description layers at name ≡ Err (NoQuestion name)
 no_description layers at name none = by_item (question layers at name) none where

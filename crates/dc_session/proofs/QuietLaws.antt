@@ -17,7 +17,7 @@ use Rattle.dc_item.specs.Item.{ItemParts}
 use Rattle.dc_item.specs.declared.op.Op.{Op}
 use Rattle.dc_item.specs.declared.op.Op.TheVariants.{Put, SetField, SetFlag, SetVar, AddOwner, DropOwners}
 use Rattle.dc_frontend.specs.declared.frontend.Frontend.{Frontend}
-use Rattle.dc_frontend.specs.declared.frontend.Frontend.TheVariants.{Noninteractive, Teletype}
+use Rattle.dc_frontend.specs.declared.frontend.Frontend.TheVariants.{Noninteractive, Teletype, Passthrough}
 use Rattle.dc_proto.specs.Commands.{heard}
 use Rattle.dc_proto.specs.Replies.{reply}
 use Rattle.dc_proto.specs.declared.command.Command.{Command}
@@ -232,6 +232,7 @@ module _ (state : SessionState) (quiet : IsQuietSession state) where
   going_untold : (frontend : Frontend) (asked : Asked) → OutcomeUntold (going frontend state asked)
   going_untold Noninteractive asked = gone_untold (values_set state.store state.at (choices_for state)) (values_untold state.store state.at quiet.config quiet.templates (choices_for state))
   going_untold Teletype asked = fixed_untold (first_fixed state) asked
+  going_untold Passthrough asked = fixed_untold (first_fixed state) asked
 
   one_change : (word : List ℕ) (op : Op) → CallUntold state.store (changed state.store state.at word op)
   one_change word op = one state.store state.at quiet.config quiet.templates word op

@@ -5,7 +5,7 @@ use Rattle.std.specs.Option.{option_map_or}
 use Rattle.std.specs.Str.{bytes_eq}
 use Rattle.dc_text.specs.Names.{is_name}
 use Rattle.dc_frontend.specs.declared.frontend.Frontend.{Frontend}
-use Rattle.dc_frontend.specs.declared.frontend.Frontend.TheVariants.{Noninteractive, Teletype}
+use Rattle.dc_frontend.specs.declared.frontend.Frontend.TheVariants.{Noninteractive, Teletype, Passthrough}
 use Rattle.dc_proto.specs.Replies.{reply}
 use Rattle.dc_proto.specs.declared.priority.Priority.{Priority}
 use Rattle.dc_proto.specs.declared.command.Command.{Command}
@@ -24,12 +24,12 @@ use Rattle.dc_session.specs.Answers.{CommandInputs, CommandOutcome, answer, repl
 use Rattle.dc_session.specs.Asking.{description, is_to_be_shown, shown_by, prepared_if, choices_for, to_show, first_fixed, values_given, first_busy}
 use Rattle.dc_session.specs.Displays.{displayed}
 use Rattle.dc_session.specs.Refusals.{cant_change, is_busy, bad_flag_value, no_progress_bar}
-use Rattle.dc_session.specs.SessionState.{LinkState, TerminalState, SessionState}
+use Rattle.dc_session.specs.SessionState.{LinkState, ScreenState, SessionState}
 use Rattle.dc_session.specs.declared.asking.Bar.{Bar}
 use Rattle.dc_session.specs.declared.template_files.Found.{Found}
 use Rattle.dc_session.specs.declared.template_files.Found.TheVariants.{Unreadable, Missing, Faulty, Templates}
 
-module _ (state : SessionState) (terminal : TerminalState) (err : LinkState) where
+module _ (state : SessionState) (terminal : ScreenState) (err : LinkState) where
   abbrev moved : SessionState
   moved = record state { terminal = terminal; err = err }
 
@@ -83,6 +83,7 @@ module _ (state : SessionState) (terminal : TerminalState) (err : LinkState) whe
   going_same : (frontend : Frontend) (asked : Asked) → going frontend moved asked ≡ going frontend state asked
   going_same Noninteractive asked = gone_same (values_set state.store state.at (choices_for state))
   going_same Teletype asked = unless_same cant_change (first_fixed state) (heard_out moved asked) (heard_out state asked) (heard_same asked)
+  going_same Passthrough asked = unless_same cant_change (first_fixed state) (heard_out moved asked) (heard_out state asked) (heard_same asked)
 
   loading_same : (owner : List ℕ) (found : Found) → loading moved owner found ≡ loading state owner found
   loading_same owner Unreadable = refl

@@ -11,7 +11,7 @@ use Rattle.dc_proto.specs.declared.command.Heard.TheVariants.{Nothing, Known, Re
 use Rattle.dc_proto.specs.declared.reply.Reply.{Reply}
 use Rattle.dc_session.specs.Answers.{answer}
 use Rattle.dc_session.specs.Machine.{Steps, StepsHeard, HasDone, asks_to_save, is_save}
-use Rattle.dc_session.specs.SessionState.{SessionState, TerminalState}
+use Rattle.dc_session.specs.SessionState.{SessionState, ScreenState}
 use Rattle.dc_session.specs.declared.stepped.Stepped.{Stepped}
 use Rattle.dc_session.specs.declared.stepped.Stepped.TheVariants.{Silent, Replied, Save}
 use Rattle.dc_session.proofs.FaultLaws.{IsFaultless, IsSound, told_as_counted}

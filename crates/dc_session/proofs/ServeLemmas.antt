@@ -21,13 +21,12 @@ use Rattle.dc_serve.specs.declared.outcome.LinkEnd.TheVariants as link
 use Rattle.dc_serve.proofs.Progress.{run_unstarted}
 use Rattle.dc_store.specs.Plans.{StoreState, stored}
 use Rattle.dc_store.specs.StoreLaws.{AreSameButAll}
-use Rattle.dc_teletype.specs.TerminalLines.{TypeAhead}
 use Rattle.dc_session.specs.Asking.{finished, nothing_asked, threshold_by, frontend_by, policy_by}
 use Rattle.dc_session.specs.declared.asking.Asking.{Asking}
 use Rattle.dc_session.specs.declared.policy.AskPolicy.{AskPolicy}
 use Rattle.dc_session.specs.Machine.{TellsStore}
 use Rattle.dc_session.specs.Serving.{IsServedBy, IsFinished, Finishes, Resources, resources_of, resources_in, session_over}
-use Rattle.dc_session.specs.SessionState.{FilesState, LinkState, TerminalState, terminal_at, SessionState}
+use Rattle.dc_session.specs.SessionState.{FilesState, LinkState, ReadAhead, ScreenState, terminal_at, SessionState}
 
 -- ---- the end of a session
 
@@ -52,7 +51,7 @@ unfinished state new served others kept = inr (others, ap (λ (s : SessionState)
 -- ---- a session that was served
 
 -- the state that a session begins in, of equal parts
-pub begun_as : (layers others : List LayerState) (told : List ℕ) (files : FilesState) (terminal : TerminalState) (err : LinkState) (at other : QuestionContext) (owner name : List ℕ) (policy : AskPolicy) (frontend : Option Frontend) (threshold : Option Priority)
+pub begun_as : (layers others : List LayerState) (told : List ℕ) (files : FilesState) (terminal : ScreenState) (err : LinkState) (at other : QuestionContext) (owner name : List ℕ) (policy : AskPolicy) (frontend : Option Frontend) (threshold : Option Priority)
     (nonint : Bool) (asking : Asking)
     → layers ≡ others → told ≡ [] → at ≡ other → owner ≡ name → policy ≡ policy_by frontend threshold nonint layers at → asking ≡ nothing_asked
     → ◌≡◌ {A = SessionState} (record { store = stored layers told; files = files; terminal = terminal; err = err; at = at; owner = owner; policy = policy; asking = asking })
@@ -78,7 +77,7 @@ module _ {B : Type 0} (steps : SessionState → Line → Response → SessionSta
   }
 
   -- the same, of what it began as and left
-  pub served_as : (start begun : SessionState) (layers others : List LayerState) (files kept : FilesState) (link stays : LinkState) (ahead unused : TypeAhead) (err told old new : LinkState) (ended : LinkEnd B) (before code : ℕ)
+  pub served_as : (start begun : SessionState) (layers others : List LayerState) (files kept : FilesState) (link stays : LinkState) (ahead unused : ReadAhead) (err told old new : LinkState) (ended : LinkEnd B) (before code : ℕ)
       → IsServedBy steps aborts start (resources_of layers files (terminal_at link ahead) err) old new ended before code
       → start ≡ begun → others ≡ layers → kept ≡ files → stays ≡ link → unused ≡ ahead → told ≡ err → IsServedBy steps aborts begun (resources_of others kept (terminal_at stays unused) told) old new ended before code
   served_as start begun layers others files kept link stays ahead unused err told old new ended before code served same are looked shown typed said =

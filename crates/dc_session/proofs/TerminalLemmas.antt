@@ -2,7 +2,6 @@
 use Rattle.std.proofs.Common.{◌≡◌, ℕ, List, refl, sym, ap, subst, inl, inr}
 use Rattle.std.specs.Prelude.{Option, None, Result, Ok, Err}
 use Rattle.dc_text.specs.declared.memory.OutOfMemory.{OutOfMemory}
-use Rattle.dc_outside.specs.declared.link.LinkError.TheVariants as link
 use Rattle.dc_proto.specs.declared.command.Command.{Command}
 use Rattle.dc_teletype.specs.declared.teletype.Asked.{Asked}
 use Rattle.dc_session.specs.Answers.{CommandInputs, CommandOutcome, answer, names_on}
@@ -47,12 +46,13 @@ module _ (command : Command) (old : SessionState) (none : file_of command ≡ No
 
   -- it wasn't shown
   pub stops_showing : (new : SessionState) (error : StepError) → StopsShowing display old error new → BreaksOff command old error new
-  stops_showing new step.Term shown = record { shows = subst (λ (d : Display). Shows old.asking d old.terminal (Err link.Failed) new.terminal) (sym is) shown.shows; new_is = shown.kept }
+  stops_showing new step.Term shown = record { shows = subst (λ (d : Display). Shows old.asking d old.terminal (Err step.Term) new.terminal) (sym is) shown.shows; new_is = shown.kept }
+  stops_showing new (step.Wire line) shown = record { shows = subst (λ (d : Display). Shows old.asking d old.terminal (Err (step.Wire line)) new.terminal) (sym is) shown.shows; new_is = shown.kept }
   stops_showing new step.OutOfMemory (inl same) = inl same
   stops_showing new step.OutOfMemory (inr shown) = inr record {
     part = inl record {
       store = ap (λ (s : SessionState). s.store) shown.kept;
-      gives = inr (subst (λ (d : Display). Shows old.asking d old.terminal (Err link.OutOfMemory) new.terminal) (sym is) shown.shows, ap (λ (s : SessionState). s.files) shown.kept);
+      gives = inr (subst (λ (d : Display). Shows old.asking d old.terminal (Err step.OutOfMemory) new.terminal) (sym is) shown.shows, ap (λ (s : SessionState). s.files) shown.kept);
     };
     at = ap (λ (s : SessionState). s.at) shown.kept;
     err = ap (λ (s : SessionState). s.err) shown.kept;

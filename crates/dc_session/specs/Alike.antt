@@ -1,33 +1,21 @@
 -- Sessions that differ in their terminals alone, and there only in how the bytes came, and in what stands on standard error.
-use Rattle.std.specs.Prelude.{◌≡◌, ⊤, ℕ, List, [], ◌∷◌, Some}
+use Rattle.std.specs.Prelude.{◌≡◌, ⊤, ℕ, List, [], ◌∷◌}
 use Rattle.dc_outside.specs.LinkCalls.{Tells}
-use Rattle.dc_outside.specs.Talk.{sent}
 use Rattle.dc_outside.specs.declared.link.Piece.{Piece}
 use Rattle.dc_serve.specs.Execution.{Transition}
 use Rattle.dc_serve.specs.Said.{said}
-use Rattle.dc_teletype.specs.Typed.{ToldTerminal, IsUsedUp, typed}
-use Rattle.dc_session.specs.SessionState.{LinkState, TerminalState, SessionState}
+use Rattle.dc_teletype.specs.Typed.{AreTerminalsAlike}
+use Rattle.dc_session.specs.SessionState.{LinkState, ScreenState, SessionState, typed_at}
 
--- all is told of the terminal, and it is this
-pub record IsToldAs (terminal : TerminalState) (told : ToldTerminal) : Type 0 where
-  pub ahead : terminal.ahead ≡ told.ahead
-  pub talk : terminal.link.talk ≡ Some told.talk
-  pub input : terminal.link.input ≡ Some told.input
-  pub used_up : IsUsedUp told.ahead told.input
-
--- all is told of both terminals: the same was said there, and the same is typed and wasn't used
-pub record AreTerminalsAlike (one other : TerminalState) : Type 0 where
-  pub first : ToldTerminal
-  pub second : ToldTerminal
-  pub one_is : IsToldAs one first
-  pub other_is : IsToldAs other second
-  pub said : sent first.talk ≡ sent second.talk
-  pub same : typed first ≡ typed second
+-- the terminals or wires are alike, and as many lines of a wire came there
+pub record AreScreensAlike (one other : ScreenState) : Type 0 where
+  pub terminals : AreTerminalsAlike (typed_at one) (typed_at other)
+  pub got : one.ahead.got ≡ other.ahead.got
 
 -- the sessions are the same but for their terminals, which are alike, and for standard error
 pub record AreAlike (one other : SessionState) : Type 0 where
   pub rest : other ≡ record one { terminal = other.terminal; err = other.err }
-  pub terminals : AreTerminalsAlike one.terminal other.terminal
+  pub terminals : AreScreensAlike one.terminal other.terminal
 
 -- the session is the same but for standard error
 abbrev pub IsSameButErr : SessionState → SessionState → Type 0

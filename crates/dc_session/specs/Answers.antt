@@ -9,7 +9,7 @@ use Rattle.std.specs.Str.{bytes_eq}
 use Rattle.dc_text.specs.Bytes.{lower}
 use Rattle.dc_text.specs.Names.{is_name, is_field_key}
 use Rattle.dc_frontend.specs.declared.frontend.Frontend.{Frontend}
-use Rattle.dc_frontend.specs.declared.frontend.Frontend.TheVariants.{Noninteractive, Teletype}
+use Rattle.dc_frontend.specs.declared.frontend.Frontend.TheVariants.{Noninteractive, Teletype, Passthrough}
 use Rattle.dc_proto.specs.Replies.{reply}
 use Rattle.dc_proto.specs.declared.command.Command.{Command}
 use Rattle.dc_proto.specs.declared.command.Command.TheVariants.{Version, Capb, SetTitle, Title, Input, BeginBlock, EndBlock, Go, Clear, Stop, Get, Set, Reset, Subst, Fget, Fset, Metaget, Register, Unregister, Purge, ProgressStart, ProgressSet, ProgressStep, ProgressInfo, ProgressStop, LoadTemplateFile, XSave}
@@ -25,7 +25,7 @@ use Rattle.dc_teletype.specs.declared.teletype.Asked.{Asked}
 use Rattle.dc_teletype.specs.declared.teletype.Asked.TheVariants.{Answers, Back}
 use Rattle.dc_session.specs.Asking.{is_among, description, is_to_be_shown, prepared_if, choices_for, skipped, to_show, first_fixed, values_given, were_shown, first_busy, bar_at}
 use Rattle.dc_session.specs.Refusals.{refusal, cant_change, is_busy, bad_flag_value, no_progress_bar, version_not_supported, read_fault, no_template_file, bad_template_file}
-use Rattle.dc_session.specs.SessionState.{FilesState, TerminalState, SessionState}
+use Rattle.dc_session.specs.SessionState.{FilesState, ScreenState, SessionState}
 use Rattle.dc_session.specs.declared.asking.Asking.{Asking}
 use Rattle.dc_session.specs.declared.asking.Bar.{Bar}
 use Rattle.dc_session.specs.declared.stepped.Stepped.{Stepped}
@@ -130,11 +130,17 @@ field_read state field name =
 abbrev pub capabilities : Frontend → List ℕ
 capabilities Noninteractive = codes "multiselect escape"
 capabilities Teletype = codes "multiselect escape backup"
+capabilities Passthrough = codes "multiselect escape backup"
+
+-- what is told of a question that is to be shown, or not
+abbrev pub prepared_reply : Bool → Reply
+prepared_reply shown = if shown then reply 0 (codes "question will be asked") else reply 30 (codes "question skipped")
 
 -- without a user a question is skipped
 abbrev pub input_reply : Frontend → Bool → Reply
 input_reply Noninteractive shown = reply 30 (codes "question skipped")
-input_reply Teletype shown = if shown then reply 0 (codes "question will be asked") else reply 30 (codes "question skipped")
+input_reply Teletype shown = prepared_reply shown
+input_reply Passthrough shown = prepared_reply shown
 
 -- the prepared questions were set to their choices, or one of them can't be changed
 abbrev pub gone : SessionState → Result StoreState QuestionError → CommandOutcome
@@ -151,10 +157,15 @@ abbrev pub heard_out : SessionState → Asked → CommandOutcome
 heard_out state Back = reply_asking state (reply 30 (codes "backup")) (record state.asking { prepared = [] })
 heard_out state (Answers answers) = answered state (values_set state.store state.at (values_given (to_show state) answers))
 
--- GO asks the prepared questions, unless the value of one can't be changed; without a user it sets those to a choice that have to have one
+-- what GO comes to where a user is asked: what was answered, unless the value of a question can't be changed
+abbrev pub asked_out : SessionState → Asked → CommandOutcome
+asked_out state asked = option_map_or (λ name. reply_only state (cant_change name)) (first_fixed state) (heard_out state asked)
+
+-- GO asks the prepared questions; without a user it sets those to a choice that have to have one
 abbrev pub going : Frontend → SessionState → Asked → CommandOutcome
 going Noninteractive state asked = gone state (values_set state.store state.at (choices_for state))
-going Teletype state asked = option_map_or (λ name. reply_only state (cant_change name)) (first_fixed state) (heard_out state asked)
+going Teletype state asked = asked_out state asked
+going Passthrough state asked = asked_out state asked
 
 -- what the templates of a file that was looked for come to, with an owner for their questions
 abbrev pub loading : SessionState → List ℕ → Found → CommandOutcome
@@ -227,7 +238,7 @@ answer state (LoadTemplateFile path owner) given = loading state (unwrap_or owne
 answer state XSave given = record { stepped = Save; store = state.store; asking = state.asking }
 
 -- the state that it leaves, with the files and the terminal as they are then
-abbrev pub after_command : SessionState → Command → CommandInputs → FilesState → TerminalState → SessionState
+abbrev pub after_command : SessionState → Command → CommandInputs → FilesState → ScreenState → SessionState
 after_command state command given files terminal = record state {
   store = (answer state command given).store;
   files = files;
@@ -241,11 +252,16 @@ abbrev pub load_names : SessionState → List ℕ → Found → List (List ℕ)
 load_names state owner (Templates templates) = names_of (load_batch state.store.layers state.at owner templates)
 load_names state owner _ = []
 
+-- the questions that were given values
+abbrev pub names_given : SessionState → Asked → List (List ℕ)
+names_given state (Answers answers) = each (λ answer. answer.0) (values_given (to_show state) answers)
+names_given state Back = []
+
 -- the questions that GO sets
 abbrev pub going_names : Frontend → SessionState → Asked → List (List ℕ)
 going_names Noninteractive state asked = each (λ answer. answer.0) (choices_for state)
-going_names Teletype state (Answers answers) = each (λ answer. answer.0) (values_given (to_show state) answers)
-going_names Teletype state Back = []
+going_names Teletype state asked = names_given state asked
+going_names Passthrough state asked = names_given state asked
 
 -- the names of the items that a command's writes are on
 abbrev pub names_on : SessionState → Command → CommandInputs → List (List ℕ)

@@ -5,6 +5,8 @@ use Rattle.dc_text.specs.Maps.{AreDistinct}
 use Rattle.dc_text.specs.Names.{is_name}
 use Rattle.dc_outside.specs.declared.link.LinkError.{LinkError}
 use Rattle.dc_outside.specs.declared.link.LinkError.TheVariants as link
+use Rattle.dc_pass.specs.declared.pass.PassError.{PassError}
+use Rattle.dc_pass.specs.declared.pass.PassError.TheVariants as wire
 use Rattle.dc_proto.specs.declared.command.Heard.{Heard}
 use Rattle.dc_proto.specs.Replies.{reply}
 use Rattle.dc_proto.specs.declared.reply.Reply.{Reply}
@@ -94,20 +96,31 @@ abbrev pub step_error : LinkError → StepError
 step_error link.Failed = step.Term
 step_error link.OutOfMemory = step.OutOfMemory
 
--- what a call of the terminal answered that only tells
-abbrev pub told : Result (Unit {0}) LinkError → Result Asked LinkError
+-- and at which a request over the wire had it
+abbrev pub wire_error : PassError → StepError
+wire_error wire.Failed = step.Term
+wire_error (wire.Bad line) = step.Wire line
+wire_error wire.OutOfMemory = step.OutOfMemory
+
+-- what a call of the terminal that only tells comes to
+abbrev pub done : Result (Unit {0}) LinkError → Result (Unit {0}) StepError
+done (Ok unit) = Ok unit
+done (Err error) = Err (step_error error)
+
+-- what a call answered that only tells
+abbrev pub told : Result (Unit {0}) StepError → Result Asked StepError
 told (Ok done) = Ok (Answers [])
 told (Err error) = Err error
 
 -- this was shown on the terminal, and nothing else was done
-pub record HasShown (display : Display) (old : SessionState) (result : Result Asked LinkError) (new : SessionState) : Type 0 where
+pub record HasShown (display : Display) (old : SessionState) (result : Result Asked StepError) (new : SessionState) : Type 0 where
   pub shows : Shows old.asking display old.terminal result new.terminal
   pub kept : new ≡ record old { terminal = new.terminal }
 
 -- how that stopped; memory may run out before anything is shown
 abbrev pub StopsShowing : Display → SessionState → StepError → SessionState → Type 0
-StopsShowing display old step.Term new = HasShown display old (Err link.Failed) new
-StopsShowing display old step.OutOfMemory new = (new ≡ old) ⊎ HasShown display old (Err link.OutOfMemory) new
+StopsShowing display old step.OutOfMemory new = (new ≡ old) ⊎ HasShown display old (Err step.OutOfMemory) new
+StopsShowing display old error new = HasShown display old (Err error) new
 
 -- this is shown by a call that says what was answered
 abbrev pub Asks : Display → SessionState → SessionState → Result Asked StepError → Type 0

@@ -8,6 +8,7 @@ pub mod Inside
 pub mod Machine
 pub mod Over
 pub mod Quiet
+pub mod ReadAhead
 pub mod Refusals
 pub mod Serving
 pub mod SessionState

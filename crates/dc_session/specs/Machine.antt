@@ -1,7 +1,6 @@
 -- The plain machine behind a link: what a line does, and what it leaves.
 use Rattle.std.specs.Prelude.{◌≡◌, ◌⊎◌, ℕ, Bool, true, false, List, [], Option, Some, None, Result, Ok, Err}
 use Rattle.dc_outside.specs.LinkCalls.{Tells}
-use Rattle.dc_outside.specs.declared.link.LinkError.TheVariants.{Failed, OutOfMemory}
 use Rattle.dc_text.specs.declared.memory.OutOfMemory as memory
 use Rattle.dc_words.specs.declared.stream.Line.{Line}
 use Rattle.dc_words.specs.declared.stream.Line.TheVariants.{Whole, TooLong}
@@ -19,7 +18,7 @@ use Rattle.dc_serve.specs.declared.machine.Response.TheVariants as heeded
 use Rattle.dc_session.specs.Answers.{CommandInputs, answer, after_command, names_on}
 use Rattle.dc_session.specs.Displays.{displayed, Shows}
 use Rattle.dc_session.specs.Refusals.{saved}
-use Rattle.dc_session.specs.SessionState.{FilesState, TerminalState, SessionState}
+use Rattle.dc_session.specs.SessionState.{FilesState, ScreenState, SessionState}
 use Rattle.dc_session.specs.declared.stepped.StepError.{StepError}
 use Rattle.dc_session.specs.declared.stepped.StepError.TheVariants as step
 use Rattle.dc_session.specs.TemplateFiles.{Finds, FindsNoMemory}
@@ -41,7 +40,7 @@ Looks None old found new = (found ≡ Missing) × (new ≡ old)
 Looks (Some path) old found new = Finds path old found new
 
 -- a command is given this, by the files and by the terminal
-pub record Gives (command : Command) (old : SessionState) (given : CommandInputs) (files : FilesState) (terminal : TerminalState) : Type 0 where
+pub record Gives (command : Command) (old : SessionState) (given : CommandInputs) (files : FilesState) (terminal : ScreenState) : Type 0 where
   pub looks : Looks (file_of command) old.files given.found files
   pub shows : Shows old.asking (displayed old command) old.terminal (Ok given.asked) terminal
 
@@ -61,7 +60,7 @@ LooksInVain (Some path) old new = FindsNoMemory path old new
 pub record GivesInPart (command : Command) (old new : SessionState) : Type 0 where
   pub store : new.store ≡ old.store
   pub gives : (LooksInVain (file_of command) old.files new.files × (new.terminal ≡ old.terminal))
-      ⊎ (Shows old.asking (displayed old command) old.terminal (Err OutOfMemory) new.terminal × (new.files ≡ old.files))
+      ⊎ (Shows old.asking (displayed old command) old.terminal (Err step.OutOfMemory) new.terminal × (new.files ≡ old.files))
 
 -- it was given all, and then memory ran out: at most the items that its writes are on changed
 pub record LeavesInPart (command : Command) (old new : SessionState) : Type 0 where
@@ -77,9 +76,9 @@ pub record IsDoneInPart (command : Command) (old new : SessionState) : Type 0 wh
   pub owner : new.owner ≡ old.owner
   pub policy : new.policy ≡ old.policy
 
--- the terminal failed at a command, and nothing else has changed
-pub record FailsToShow (command : Command) (old new : SessionState) : Type 0 where
-  pub shows : Shows old.asking (displayed old command) old.terminal (Err Failed) new.terminal
+-- the terminal or the wire failed at a command, or a line of the wire is unreadable, and nothing else has changed
+pub record FailsToShow (command : Command) (old : SessionState) (error : StepError) (new : SessionState) : Type 0 where
+  pub shows : Shows old.asking (displayed old command) old.terminal (Err error) new.terminal
   pub new_is : new ≡ record old { terminal = new.terminal }
 
 -- ---- lines
@@ -135,24 +134,26 @@ pub record TakesLine (old : SessionState) (line : Line) (did : Response) (new : 
 -- what a command leaves that isn't answered
 abbrev pub BreaksOff : Command → SessionState → StepError → SessionState → Type 0
 BreaksOff command old step.OutOfMemory new = (new ≡ old) ⊎ IsDoneInPart command old new
-BreaksOff command old step.Term new = FailsToShow command old new
+BreaksOff command old step.Term new = FailsToShow command old step.Term new
+BreaksOff command old (step.Wire line) new = FailsToShow command old (step.Wire line) new
 
 -- memory ran out where nothing is done
 abbrev pub BreaksIdle : SessionState → StepError → SessionState → Type 0
 BreaksIdle old step.OutOfMemory new = new ≡ old
 BreaksIdle old step.Term new = ⊥
+BreaksIdle old (step.Wire line) new = ⊥
 
 abbrev pub BreaksHeard : Heard → SessionState → StepError → SessionState → Type 0
 BreaksHeard Nothing old error new = BreaksIdle old error new
 BreaksHeard (Known command) old error new = BreaksOff command old error new
 BreaksHeard (Refused reply) old error new = BreaksIdle old error new
 
--- memory ran out at a line, or the terminal failed
+-- memory ran out at a line, or the terminal or the wire failed, or had an unreadable line
 abbrev pub Aborts : SessionState → Line → StepError → SessionState → Type 0
 Aborts old TooLong error new = BreaksIdle old error new
 Aborts old (Whole line) error new = BreaksHeard (heard old.asking.escape line) old error new
 
--- ---- what the calls of a session do: they are answered, or memory ran out, or the terminal failed
+-- ---- what the calls of a session do: they are answered, or memory ran out, or the terminal or the wire stopped them
 
 abbrev pub Does : Command → SessionState → SessionState → Result Stepped memory.OutOfMemory → Type 0
 Does command old new (Ok did) = HasDone command old did new

@@ -16,7 +16,7 @@ use Rattle.dc_store.specs.Plans.{stored}
 use Rattle.dc_store.specs.StoreLaws.{AreSameButAll}
 use Rattle.dc_session.specs.Asking.{finished, nothing_asked, policy_by}
 use Rattle.dc_session.specs.Machine.{TakesLine, Aborts}
-use Rattle.dc_session.specs.SessionState.{FilesState, LinkState, TerminalState, SessionState}
+use Rattle.dc_session.specs.SessionState.{FilesState, LinkState, ScreenState, SessionState}
 use Rattle.dc_session.specs.declared.serving.SessionSetup.{SessionSetup}
 use Rattle.dc_session.specs.declared.stepped.StepError.{StepError}
 
@@ -26,10 +26,10 @@ use Rattle.dc_session.specs.declared.stepped.StepError.{StepError}
 pub record Resources : Type 0 where
   pub layers : List LayerState
   pub files : FilesState
-  pub terminal : TerminalState
+  pub terminal : ScreenState
   pub err : LinkState
 
-abbrev pub resources_of : List LayerState → FilesState → TerminalState → LinkState → Resources
+abbrev pub resources_of : List LayerState → FilesState → ScreenState → LinkState → Resources
 resources_of layers files terminal err = record { layers = layers; files = files; terminal = terminal; err = err }
 
 -- A session over these, for an owner, by the plans of questions and of templates and for the user's language, that asks by the frontend, from the least

@@ -9,20 +9,25 @@ use Rattle.dc_layer.specs.State.{LayerState}
 use Rattle.dc_store.specs.Plans.{StoreState, stored}
 use Rattle.dc_store.specs.Views.{store_of}
 use Rattle.dc_question.specs.Questions.{QuestionContext}
-use Rattle.dc_teletype.specs.TerminalLines.{TypeAhead}
-pub use Rattle.dc_teletype.specs.TerminalLines.{TerminalState}
+use Rattle.dc_teletype.specs.TerminalLines.{TerminalState}
+pub use Rattle.dc_session.specs.ReadAhead.{ReadAhead, nothing_typed}
 use Rattle.dc_session.specs.declared.asking.Asking.{Asking}
 use Rattle.dc_session.specs.declared.policy.AskPolicy.{AskPolicy}
 use Rattle.dc_session.specs.declared.session.Session.{Session}
 use Rattle.dc_session.specs.declared.session_questions.SessionQuestions.{SessionQuestions}
 
--- nothing was typed on a terminal that wasn't used
-abbrev pub nothing_typed : TypeAhead
-nothing_typed = record { held = []; has_ended = Bool.false }
+-- where the user is: a terminal, or the wire to a program that asks there
+pub record ScreenState : Type 0 where
+  pub link : LinkState
+  pub ahead : ReadAhead
 
--- a terminal behind a link, with what was typed there and isn't used yet
-abbrev pub terminal_at : LinkState → TypeAhead → TerminalState
+-- it is behind a link, and this came from it and isn't used yet
+abbrev pub terminal_at : LinkState → ReadAhead → ScreenState
 terminal_at link ahead = record { link = link; ahead = ahead }
+
+-- the lines of it, as a terminal has them
+abbrev pub typed_at : ScreenState → TerminalState
+typed_at screen = record { link = screen.link; ahead = screen.ahead.typed }
 
 -- a link of which nothing is told, and nothing counted
 abbrev pub nowhere : LinkState
@@ -34,7 +39,7 @@ nowhere = record {
 }
 
 -- the terminal of a session that asks nobody
-abbrev pub no_terminal : TerminalState
+abbrev pub no_terminal : ScreenState
 no_terminal = terminal_at nowhere nothing_typed
 
 -- the layers and what they told; the files; the terminal; standard error; where questions and templates stand in the layers, with the user's language;
@@ -42,7 +47,7 @@ no_terminal = terminal_at nowhere nothing_typed
 pub record SessionState : Type 0 where
   pub store : StoreState
   pub files : FilesState
-  pub terminal : TerminalState
+  pub terminal : ScreenState
   pub err : LinkState
   pub at : QuestionContext
   pub owner : List ℕ
@@ -50,7 +55,7 @@ pub record SessionState : Type 0 where
   pub asking : Asking
 
 -- a session at a desk, by the states of its boxes, over these files, with this terminal and standard error, that asks so
-abbrev pub session_at_desk : {X : Type 0} {F : X → Type 0} → (DynBox X Global F → LayerState) → SessionQuestions X F → FilesState → TerminalState → LinkState → AskPolicy → Asking → SessionState
+abbrev pub session_at_desk : {X : Type 0} {F : X → Type 0} → (DynBox X Global F → LayerState) → SessionQuestions X F → FilesState → ScreenState → LinkState → AskPolicy → Asking → SessionState
 session_at_desk state desk files terminal err policy asking = record {
   store = store_of state desk.questions.store.now;
   files = files;
@@ -65,8 +70,8 @@ session_at_desk state desk files terminal err policy asking = record {
 -- a session, by the states of its boxes, its files, its terminal and standard error
 abbrev pub session_of : {A B C X : Type 0} {F : X → Type 0} → (DynBox X Global F → LayerState) → (A → FilesState) → (B → LinkState) → (C → LinkState) → Session A B C X F → SessionState
 session_of state files link err s =
-    session_at_desk state s.desk (files s.files.now) (terminal_at (link s.terminal.now) s.teletype.now.ahead) (err s.err.now) s.policy s.asking.now
+    session_at_desk state s.desk (files s.files.now) (terminal_at (link s.terminal.now) s.ahead.now) (err s.err.now) s.policy s.asking.now
 
 -- which store, files, terminal, type-ahead and standard error of its maker it works on
 abbrev pub borrows_of : {A B C X : Type 0} {F : X → Type 0} → Session A B C X F → GName × GName × GName × GName × GName
-borrows_of s = (s.desk.questions.store.ghost_name, s.files.ghost_name, s.terminal.ghost_name, s.teletype.ghost_name, s.err.ghost_name)
+borrows_of s = (s.desk.questions.store.ghost_name, s.files.ghost_name, s.terminal.ghost_name, s.ahead.ghost_name, s.err.ghost_name)

@@ -137,7 +137,7 @@ impl<'s, 'f, 't, 'h, 'e, F: Files, T: Link, E: Link> Session<'s, 'f, 't, 'h, 'e,
     {
         match self.policy.frontend {
             Frontend::Noninteractive => lifted(self.skip_prepared()),
-            Frontend::Teletype => self.ask_prepared(),
+            Frontend::Teletype | Frontend::Passthrough => self.ask_prepared(),
         }
     }
 
@@ -318,7 +318,7 @@ fn capabilities(frontend: Frontend) -> &'static [u8]
 {
     match frontend {
         Frontend::Noninteractive => b"multiselect escape",
-        Frontend::Teletype => b"multiselect escape backup",
+        Frontend::Teletype | Frontend::Passthrough => b"multiselect escape backup",
     }
 }
 
@@ -327,7 +327,11 @@ fn prepared_told(alloc: Global, frontend: Frontend, shown: bool) -> Mem<Stepped>
     ensures { IfOk result (λ told. told ≡ Replied (input_reply frontend shown)) }
 {
     match frontend {
-        Frontend::Teletype if shown => says(alloc, 0, b"question will be asked"),
+        Frontend::Teletype | Frontend::Passthrough if shown => says(
+            alloc,
+            0,
+            b"question will be asked",
+        ),
         _ => says(alloc, 30, b"question skipped"),
     }
 }

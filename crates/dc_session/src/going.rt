@@ -1,13 +1,13 @@
 // GO where a user is asked.
-ghost use Rattle.std.specs.Prelude.{◌≡◌, ◌++◌, [], IfOk, OnOk, OnErr, map as each, option_map, fold, option_copied};
+ghost use Rattle.std.specs.Prelude.{◌≡◌, ◌≢◌, ◌++◌, [], IfOk, OnOk, OnErr, map as each, option_map, fold, option_copied};
 ghost use Rattle.std.specs.List.{filter_map, cons_option, find};
 ghost use Rattle.dc_text.specs.Maps.{AreDistinct};
 ghost use Rattle.dc_proto.specs.declared.command.Command.TheVariants as command;
-ghost use Rattle.dc_frontend.specs.declared.frontend.Frontend.TheVariants.{Teletype as OfTeletype};
+ghost use Rattle.dc_frontend.specs.declared.frontend.Frontend.TheVariants.{Noninteractive};
 ghost use Rattle.dc_question.specs.Questions.{kind as kind_of};
 ghost use Rattle.dc_session.specs.Answers.{heard_out};
 ghost use Rattle.dc_session.specs.Asking.{shown as shown_of, value_given, to_show as to_show_of, first_fixed as first_fixed_of, is_fixed as is_fixed_of, has_value as has_value_of, values_given as values_given_of, with_name};
-ghost use Rattle.dc_session.specs.Displays.{dialogue};
+ghost use Rattle.dc_session.specs.Displays.{dialogue, where_asked};
 ghost use Rattle.dc_session.specs.Inside.{Asks, Comes, ComesAsking};
 ghost use Rattle.dc_session.specs.Machine.{DoesShowing};
 ghost use Rattle.dc_teletype.specs.declared.teletype.Asked.TheVariants.{Answers, Back};
@@ -16,8 +16,7 @@ ghost use Rattle.dc_session.specs.SessionState.{borrows_of};
 use crate::name_set::NameSet;
 use crate::replies::{refused, says, unchangeable};
 use crate::session::Session;
-use crate::stepped::{StepError, Stepped, lifted, step_error};
-use crate::terminal::ask_on;
+use crate::stepped::{StepError, Stepped, lifted};
 use dc_frontend::Shown;
 use dc_outside::{Files, Link};
 use dc_serve::LineMachine;
@@ -29,7 +28,7 @@ use std::alloc::Global;
 impl<'s, 'f, 't, 'h, 'e, F: Files, T: Link, E: Link> Session<'s, 'f, 't, 'h, 'e, F, T, E> {
     // Holds a dialogue over the prepared questions, unless the value of one can't be changed, and takes its answers.
     pub(crate) fn ask_prepared(&mut self) -> Result<Stepped, StepError>
-        requires asks { (⟦<Self as LineMachine>⟧.state self.old).policy.frontend ≡ OfTeletype }
+        requires asks { (⟦<Self as LineMachine>⟧.state self.old).policy.frontend ≢ Noninteractive }
         ensures does { DoesShowing command.Go (⟦<Self as LineMachine>⟧.state self.old) (⟦<Self as LineMachine>⟧.state self.new) result }
         ensures borrows { borrows_of self.new ≡ borrows_of self.old }
     {
@@ -96,16 +95,14 @@ impl<'s, 'f, 't, 'h, 'e, F: Files, T: Link, E: Link> Session<'s, 'f, 't, 'h, 'e,
 
     // Holds the dialogue, where there is a question.
     fn hold(&mut self, questions: &List<Shown>) -> Result<Asked, StepError>
-        ensures asks { Asks (dialogue questions.now) (⟦<Self as LineMachine>⟧.state self.old) (⟦<Self as LineMachine>⟧.state self.new) result }
+        ensures asks { Asks (where_asked (⟦<Self as LineMachine>⟧.state self.old).policy.frontend (dialogue questions.now))
+            (⟦<Self as LineMachine>⟧.state self.old) (⟦<Self as LineMachine>⟧.state self.new) result }
         ensures borrows { borrows_of self.new ≡ borrows_of self.old }
     {
         if questions.as_slice().is_empty() {
             return Ok(Asked::Answers(List::new(self.alloc)));
         }
-        match ask_on(self.terminal, self.teletype, self.asking, questions) {
-            Ok(asked) => Ok(asked),
-            Err(error) => Err(step_error(error)),
-        }
+        self.ahead.ask(self.policy.frontend, self.terminal, self.asking, questions)
     }
 
     #[tactic(auto, using(dc_store::proofs::RowLemmas::same_all_refl))]

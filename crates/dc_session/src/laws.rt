@@ -9,7 +9,7 @@ ghost use Rattle.dc_outside.specs.Disk.{Disk};
 ghost use Rattle.dc_outside.specs.declared.files.FilesCall.{FilesCall};
 ghost use Rattle.dc_outside.specs.declared.link.Piece.{Piece};
 ghost use Rattle.dc_outside.specs.declared.link.Piece.TheVariants.{Got};
-ghost use Rattle.dc_frontend.specs.declared.frontend.Frontend.TheVariants.{Noninteractive, Teletype};
+ghost use Rattle.dc_frontend.specs.declared.frontend.Frontend.TheVariants.{Noninteractive};
 ghost use Rattle.dc_proto.specs.Commands.{heard};
 ghost use Rattle.dc_proto.specs.declared.command.Command.{Command};
 ghost use Rattle.dc_proto.specs.declared.command.Command.TheVariants.{Get, Go, Set};
@@ -101,7 +101,7 @@ pub fn plans_without_debug_tell_nothing()
 /// Where a user is asked, and no prepared question has a value that can't be changed, GO does what the user answers: all questions that were
 /// shown are set to the values that they were given, or the user went back. The reply is `0 ok` or `30 backup`.
 pub fn given_answers_are_taken()
-    ensures { (old new : SessionState) (did : Stepped) → old.policy.frontend ≡ Teletype → first_fixed old ≡ None → (done : HasDone Go old did new)
+    ensures { (old new : SessionState) (did : Stepped) → old.policy.frontend ≢ Noninteractive → first_fixed old ≡ None → (done : HasDone Go old did new)
         → Takes old done.given.asked did new }
 {}
 

@@ -10,6 +10,7 @@ pub mod name_set;
 pub mod policy;
 pub mod progress_commands;
 pub mod question_commands;
+pub mod read_ahead;
 pub mod replies;
 pub mod serving;
 pub mod session;
@@ -21,6 +22,7 @@ pub mod terminal;
 
 pub use asking::{Asking, Bar};
 pub use policy::AskPolicy;
+pub use read_ahead::ReadAhead;
 pub use replies::sent_in;
 pub use serving::{SessionSetup, ask_policy, finish_served, serve_layers};
 pub use session::Session;

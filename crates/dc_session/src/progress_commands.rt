@@ -12,8 +12,7 @@ ghost use Rattle.dc_session.specs.SessionState.{borrows_of};
 use crate::asking::Bar;
 use crate::replies::{missing, named, says};
 use crate::session::Session;
-use crate::stepped::{StepError, Stepped, lifted, step_error};
-use crate::terminal::tell_on;
+use crate::stepped::{StepError, Stepped, lifted};
 use dc_frontend::Frontend;
 use dc_outside::{Files, Link};
 use dc_question::QuestionError;
@@ -111,13 +110,13 @@ impl<'s, 'f, 't, 'h, 'e, F: Files, T: Link, E: Link> Session<'s, 'f, 't, 'h, 'e,
             (⟦<Self as LineMachine>⟧.state self.old) (⟦<Self as LineMachine>⟧.state self.new) result }
         ensures borrows { borrows_of self.new ≡ borrows_of self.old }
     {
-        match self.policy.frontend {
-            Frontend::Noninteractive => Ok(()),
-            Frontend::Teletype => match self.description(name) {
-                Ok(text) => self.tell_line(&text),
-                Err(QuestionError::OutOfMemory) => Err(StepError::OutOfMemory),
-                Err(_) => Ok(()),
-            },
+        if self.policy.frontend == Frontend::Noninteractive {
+            return Ok(());
+        }
+        match self.description(name) {
+            Ok(text) => self.tell_line(&text),
+            Err(QuestionError::OutOfMemory) => Err(StepError::OutOfMemory),
+            Err(_) => Ok(()),
         }
     }
 
@@ -127,24 +126,21 @@ impl<'s, 'f, 't, 'h, 'e, F: Files, T: Link, E: Link> Session<'s, 'f, 't, 'h, 'e,
             (⟦<Self as LineMachine>⟧.state self.old) (⟦<Self as LineMachine>⟧.state self.new) result }
         ensures borrows { borrows_of self.new ≡ borrows_of self.old }
     {
-        match self.policy.frontend {
-            Frontend::Noninteractive => Ok(()),
-            Frontend::Teletype => {
-                let line = percent_text(self.alloc, bar)?;
-                self.tell_line(&line)
-            }
+        if self.policy.frontend == Frontend::Noninteractive {
+            return Ok(());
         }
+        let line = percent_text(self.alloc, bar)?;
+        self.tell_line(&line)
     }
 
-    // Writes a line on the terminal.
+    // Tells a line, where a user is asked.
     fn tell_line(&mut self, line: &Text) -> Result<(), StepError>
-        ensures tells { TellsUser (OneLine line.now) (⟦<Self as LineMachine>⟧.state self.old) (⟦<Self as LineMachine>⟧.state self.new) result }
+        ensures tells { TellsUser (where_asked (⟦<Self as LineMachine>⟧.state self.old).policy.frontend (OneLine line.now))
+            (⟦<Self as LineMachine>⟧.state self.old) (⟦<Self as LineMachine>⟧.state self.new) result }
         ensures borrows { borrows_of self.new ≡ borrows_of self.old }
     {
-        match tell_on(self.terminal, self.teletype, line) {
-            Ok(()) => Ok(()),
-            Err(error) => Err(step_error(error)),
-        }
+        self.ahead
+            .tell(self.policy.frontend, self.terminal, self.asking, line)
     }
 
     #[tactic(auto, using(dc_store::proofs::RowLemmas::same_all_refl))]

@@ -16,6 +16,7 @@ ghost use Rattle.dc_proto.specs.declared.priority.Priority.TheVariants.{High};
 
 use crate::asking::Asking;
 use crate::policy::AskPolicy;
+use crate::read_ahead::ReadAhead;
 use crate::session::Session;
 use crate::session_questions::SessionQuestions;
 use crate::stepped::StepError;
@@ -27,7 +28,6 @@ use dc_proto::Priority;
 use dc_question::{QuestionError, Questions};
 use dc_serve::{Conversation, LineMachine, LinkEnd, serve_link};
 use dc_store::Store;
-use dc_teletype::Teletype;
 use dc_text::{Mem, Name, OutOfMemory, Text};
 use std::alloc::Global;
 
@@ -47,13 +47,13 @@ pub struct SessionSetup<'s> {
 }
 
 /// Serves the commands that come on the link over these layers and files, by the plans of questions and of templates, and finishes the
-/// session. A user is asked on the terminal, where what was typed ahead is used first, and what isn't used stays in the teletype. The layers
+/// session. A user is asked on the terminal, where what was typed ahead is used first, and what isn't used stays ahead. The layers
 /// are given back as it left them, in their order. The code of the last reply so far is handed in and back.
 pub fn serve_layers<L: Link, T: Link, E: Link, F: Files>(
     alloc: Global,
     io: &mut L,
     terminal: &mut T,
-    teletype: &mut Teletype,
+    ahead: &mut ReadAhead,
     err: &mut E,
     files: &mut F,
     layers: &mut Vec<Box<dyn Layer>>,
@@ -67,8 +67,8 @@ pub fn serve_layers<L: Link, T: Link, E: Link, F: Files>(
     requires disjoint { are_disjoint (shape config.now) (shape templates.now) ≡ true }
     ensures { IsServed
         (session_by setup.now (shape config.now) (shape templates.now)
-        (resources_of (each state layers.old.items) (F.files files.old) (terminal_at (T.link terminal.old) teletype.old.ahead) (E.link err.old)))
-        (resources_of (each state layers.new.items) (F.files files.new) (terminal_at (T.link terminal.new) teletype.new.ahead) (E.link err.new))
+        (resources_of (each state layers.old.items) (F.files files.old) (terminal_at (T.link terminal.old) ahead.old) (E.link err.old)))
+        (resources_of (each state layers.new.items) (F.files files.new) (terminal_at (T.link terminal.new) ahead.new) (E.link err.new))
         (L.link io.old) (L.link io.new) result.end last_code result.last_code }
 {
     let mut store = Store::new(alloc, std::mem::replace(layers, Vec::new(alloc)));
@@ -81,7 +81,7 @@ pub fn serve_layers<L: Link, T: Link, E: Link, F: Files>(
                 alloc,
                 io,
                 terminal,
-                teletype,
+                ahead,
                 err,
                 files,
                 layers,
@@ -106,7 +106,7 @@ fn serve_desk<L: Link, T: Link, E: Link, F: Files>(
     alloc: Global,
     io: &mut L,
     terminal: &mut T,
-    teletype: &mut Teletype,
+    ahead: &mut ReadAhead,
     err: &mut E,
     files: &mut F,
     layers: &mut Vec<Box<dyn Layer>>,
@@ -116,16 +116,16 @@ fn serve_desk<L: Link, T: Link, E: Link, F: Files>(
     last_code: u8,
 ) -> Conversation<StepError>
     ensures { IsServed
-        (session_at_desk state desk.entry (F.files files.old) (terminal_at (T.link terminal.old) teletype.old.ahead) (E.link err.old) policy asking.old)
-        (resources_of (each state layers.new.items) (F.files files.new) (terminal_at (T.link terminal.new) teletype.new.ahead) (E.link err.new))
+        (session_at_desk state desk.entry (F.files files.old) (terminal_at (T.link terminal.old) ahead.old) (E.link err.old) policy asking.old)
+        (resources_of (each state layers.new.items) (F.files files.new) (terminal_at (T.link terminal.new) ahead.new) (E.link err.new))
         (L.link io.old) (L.link io.new) result.end last_code result.last_code }
 {
-    let mut session = Session::new(alloc, desk, files, terminal, teletype, err, policy, asking);
+    let mut session = Session::new(alloc, desk, files, terminal, ahead, err, policy, asking);
     let ended = serve_session(alloc, io, &mut session, last_code);
-    let (desk, files_left, terminal_left, teletype_left, err_left) = session.into_parts();
+    let (desk, files_left, terminal_left, ahead_left, err_left) = session.into_parts();
     let_go(files_left);
     let_go(terminal_left);
-    let_go(teletype_left);
+    let_go(ahead_left);
     let_go(err_left);
     *layers = desk.into_layers(alloc);
     ended

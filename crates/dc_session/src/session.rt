@@ -8,6 +8,7 @@ ghost use Rattle.dc_session.specs.Machine.{Handles as HandlesLine, TakesLine, Te
 
 use crate::asking::Asking;
 use crate::policy::AskPolicy;
+use crate::read_ahead::ReadAhead;
 use crate::replies::{says, sent_in};
 use crate::session_questions::SessionQuestions;
 use crate::stepped::{StepError, Stepped, lifted};
@@ -15,7 +16,6 @@ use dc_layer::Layer;
 use dc_outside::{Files, Link, tell};
 use dc_proto::{Command, Heard, read_command};
 use dc_serve::{LineMachine, Response};
-use dc_teletype::Teletype;
 use dc_words::Line;
 use std::alloc::Global;
 
@@ -27,7 +27,7 @@ pub struct Session<'s, 'f, 't, 'h, 'e, F: Files, T: Link, E: Link> {
     pub desk: SessionQuestions<'s>,
     pub files: &'f mut F,
     pub(crate) terminal: &'t mut T,
-    pub(crate) teletype: &'h mut Teletype,
+    pub(crate) ahead: &'h mut ReadAhead,
     pub(crate) err: &'e mut E,
     pub(crate) policy: AskPolicy,
     pub(crate) asking: &'s mut Asking,
@@ -41,18 +41,18 @@ impl<'s, 'f, 't, 'h, 'e, F: Files, T: Link, E: Link> Session<'s, 'f, 't, 'h, 'e,
         desk: SessionQuestions<'s>,
         files: &'f mut F,
         terminal: &'t mut T,
-        teletype: &'h mut Teletype,
+        ahead: &'h mut ReadAhead,
         err: &'e mut E,
         policy: AskPolicy,
         asking: &'s mut Asking,
     ) -> Session<'s, 'f, 't, 'h, 'e, F, T, E>
         requires plans { HasPlans desk.questions }
         ensures state { ⟦<Self as LineMachine>⟧.state result ≡ session_at_desk (λ b. (Layer-box b).state b.value) desk.entry (F.files files.old)
-            (terminal_at (T.link terminal.old) teletype.old.ahead) (E.link err.old) policy asking.old }
+            (terminal_at (T.link terminal.old) ahead.old) (E.link err.old) policy asking.old }
         ensures borrows { result.desk.questions.store.ghost_name ≡ desk.entry.questions.store.ghost_name }
         ensures files_held { result.files.ghost_name ≡ files.entry.ghost_name }
         ensures terminal_held { result.terminal.ghost_name ≡ terminal.entry.ghost_name }
-        ensures teletype_held { result.teletype.ghost_name ≡ teletype.entry.ghost_name }
+        ensures ahead_held { result.ahead.ghost_name ≡ ahead.entry.ghost_name }
         ensures err_held { result.err.ghost_name ≡ err.entry.ghost_name }
     {
         Session {
@@ -60,7 +60,7 @@ impl<'s, 'f, 't, 'h, 'e, F: Files, T: Link, E: Link> Session<'s, 'f, 't, 'h, 'e,
             desk,
             files,
             terminal,
-            teletype,
+            ahead,
             err,
             policy,
             asking,
@@ -74,14 +74,14 @@ impl<'s, 'f, 't, 'h, 'e, F: Files, T: Link, E: Link> Session<'s, 'f, 't, 'h, 'e,
         SessionQuestions<'s>,
         &'f mut F,
         &'t mut T,
-        &'h mut Teletype,
+        &'h mut ReadAhead,
         &'e mut E,
     )
         requires plans { HasPlans self.desk.questions }
         ensures desk { result.0 ≡ self.entry.desk }
         ensures files { result.1 ≡ self.entry.files }
         ensures terminal { result.2 ≡ self.entry.terminal }
-        ensures teletype { result.3 ≡ self.entry.teletype }
+        ensures ahead { result.3 ≡ self.entry.ahead }
         ensures err { result.4 ≡ self.entry.err }
     {
         let Session {
@@ -89,12 +89,12 @@ impl<'s, 'f, 't, 'h, 'e, F: Files, T: Link, E: Link> Session<'s, 'f, 't, 'h, 'e,
             desk,
             files,
             terminal,
-            teletype,
+            ahead,
             err,
             policy: _,
             asking: _,
         } = self;
-        (desk, files, terminal, teletype, err)
+        (desk, files, terminal, ahead, err)
     }
 
     /// Whether lines are read and replies are sent escaped now.

@@ -1,8 +1,9 @@
 // What a line comes to.
 ghost use Rattle.std.specs.Prelude.{◌≡◌};
-ghost use Rattle.dc_session.specs.Inside.{lifted as lifted_of, step_error as step_error_of};
+ghost use Rattle.dc_session.specs.Inside.{lifted as lifted_of, step_error as step_error_of, wire_error as wire_error_of};
 
 use dc_outside::LinkError;
+use dc_pass::PassError;
 use dc_proto::Reply;
 use dc_text::{Mem, OutOfMemory};
 
@@ -21,8 +22,10 @@ pub enum Stepped {
 /// Why a line came to nothing.
 #[derive(Clone, Copy, Debug, PartialEq, Eq)]
 pub enum StepError {
-    /// Reading from the terminal, or writing to it, failed.
+    /// Reading from the terminal or the wire, or writing to it, failed.
     Term,
+    /// This one of the lines that came on the wire is unreadable, counted from 1 over the run.
+    Wire { line: u64 },
     OutOfMemory,
 }
 
@@ -54,5 +57,16 @@ pub(crate) fn step_error(error: LinkError) -> StepError
     match error {
         LinkError::Failed => StepError::Term,
         LinkError::OutOfMemory => StepError::OutOfMemory,
+    }
+}
+
+// And at which a request over the wire had it.
+pub(crate) fn wire_error(error: PassError) -> StepError
+    ensures { result ≡ wire_error_of error }
+{
+    match error {
+        PassError::Failed => StepError::Term,
+        PassError::Bad { line } => StepError::Wire { line },
+        PassError::OutOfMemory => StepError::OutOfMemory,
     }
 }

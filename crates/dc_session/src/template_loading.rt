@@ -2,7 +2,7 @@
 ghost use Rattle.std.specs.Prelude.{◌≡◌};
 ghost use Rattle.dc_session.specs.FileLoading.{Takes};
 ghost use Rattle.dc_session.specs.Inside.{HasDistinctNames};
-ghost use Rattle.dc_session.specs.SessionState.{FilesState, LinkState, TerminalState, session_at_desk};
+ghost use Rattle.dc_session.specs.SessionState.{FilesState, LinkState, ScreenState, session_at_desk};
 ghost use Rattle.dc_session.specs.declared.asking.Asking.{Asking};
 ghost use Rattle.dc_session.specs.declared.policy.AskPolicy.{AskPolicy};
 
@@ -30,7 +30,7 @@ impl<'s> SessionQuestions<'s> {
     /// Loads the templates that were found, for the desk's owner (debconf-loadtemplate(1)): all of them, or none.
     pub fn take_templates(&mut self, found: &Found) -> Mem<FileEnd>
         requires distinct { HasDistinctNames found.now }
-        ensures takes { (files : FilesState) (terminal : TerminalState) (err : LinkState) (policy : AskPolicy) (asking : Asking) → Takes found.now
+        ensures takes { (files : FilesState) (terminal : ScreenState) (err : LinkState) (policy : AskPolicy) (asking : Asking) → Takes found.now
             (session_at_desk state self.old files terminal err policy asking)
             (session_at_desk state self.new files terminal err policy asking) result }
         ensures owner { self.new.owner.now ≡ self.old.owner.now }
