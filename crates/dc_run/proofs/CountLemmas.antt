@@ -31,12 +31,14 @@ use Rattle.dc_serve.specs.declared.outcome.LinkEnd.TheVariants as link
 use Rattle.dc_save.specs.declared.saving.SaveError.TheVariants as save
 use Rattle.dc_session.specs.Serving.{Resources}
 use Rattle.dc_outside.specs.State.{FilesState, LinkState}
-use Rattle.dc_session.specs.SessionState.{SessionState, TerminalState}
+use Rattle.dc_session.specs.SessionState.{ScreenState, SessionState}
 use Rattle.dc_session.specs.declared.stepped.StepError.{StepError}
 use Rattle.dc_session.specs.declared.stepped.StepError.TheVariants as step
 use Rattle.dc_session.proofs.TerminalLaws.{CountsBreak, AsksNobody, breaks_count, never_fails}
 use Rattle.dc_cli.specs.declared.tool.Tool.{Tool}
-use Rattle.dc_cli.specs.declared.tool.Tool.TheVariants.{Communicate, LoadTemplate, Run, Show, CopyDb, SetSelections, GetSelections, Drill}
+use Rattle.dc_cli.specs.declared.tool.Tool.TheVariants.{Communicate, LoadTemplate, Run, Show, CopyDb, SetSelections, GetSelections, Drill, Answer}
+use Rattle.dc_answer.specs.declared.answerer.AnswerBreak.{AnswerBreak}
+use Rattle.dc_answer.specs.declared.answerer.AnswerBreak.TheVariants as broken
 use Rattle.dc_run.specs.declared.outcome.End.{End}
 use Rattle.dc_run.specs.declared.outcome.End.TheVariants as end
 use Rattle.dc_run.specs.declared.outcome.Outcome.{Outcome}
@@ -45,7 +47,7 @@ use Rattle.dc_run.specs.declared.outcome.ToolEnd.{ToolEnd}
 use Rattle.dc_run.specs.declared.outcome.ToolEnd.TheVariants as tool
 use Rattle.dc_run.specs.declared.settings.Settings.{Settings}
 use Rattle.dc_run.specs.Roots.{CopyRoots, Roots}
-use Rattle.dc_run.specs.Ends.{tool_end_of, end_of, end_of_conf, end_of_pattern, end_of_load, end_unsent, end_unwaited, Both, Stays, MayRise, LinksCount, CountsLoads, CountsCalls, ProgramCounts}
+use Rattle.dc_run.specs.Ends.{answer_end, tool_end_of, end_of, end_of_conf, end_of_pattern, end_of_load, end_unsent, end_unwaited, Both, Stays, MayRise, LinksCount, CountsLoads, CountsCalls, ProgramCounts}
 use Rattle.dc_run.specs.Finishing.{Finishes, FinishesWhere, IsUnsent, SendsOf, SendsPiped, outgoing}
 use Rattle.dc_run.specs.Headline.{HasRunTool}
 use Rattle.dc_run.specs.OneRound.{HasUsed}
@@ -60,11 +62,12 @@ use Rattle.dc_run.specs.Saves.{Save}
 use Rattle.dc_run.specs.SavingSession.{TakesSaving, BreaksSaving, IsServedSaving}
 use Rattle.dc_run.specs.declared.saving_session.SavingBreak.{SavingBreak}
 use Rattle.dc_run.specs.declared.saving_session.SavingBreak.TheVariants as saving
-use Rattle.dc_run.specs.Running.{IsNotStarted, IsStarted, end_unstarted, Awaits}
+use Rattle.dc_run.specs.Running.{IsAnswering, IsNotStarted, IsStarted, end_unstarted, Awaits}
 use Rattle.dc_run.specs.Starting.{EndsBefore, EndsUnloaded, HasLoaded, begun, keeps_changes}
 use Rattle.dc_run.specs.TemplateLoading.{EndsAt}
 use Rattle.dc_run.specs.World.{Ground, Links, World, RunState, before_rounds, ground_in, ground_of, on_ground}
 use Rattle.dc_run.proofs.CrashLemmas.{state_left, broken_off}
+use Rattle.dc_run.proofs.WireLemmas.{WireCounts, wire_counts}
 use Rattle.dc_run.proofs.SavingLemmas.{lines_count, lines_nobody}
 use Rattle.dc_run.proofs.UsedLemmas.{as_used}
 use Rattle.dc_run.proofs.LoadCounts.{LastCounts, load_counts, loads_counted}
@@ -176,6 +179,7 @@ module _ (before now : Counts) where
   by_link link.OutOfMemory (inl rose) = inr (inr rose)
   by_link link.OutOfMemory (inr same) = inl same
   by_link (link.Broken (saving.Step step.Term)) same = same
+  by_link (link.Broken (saving.Step (step.Wire line))) same = same
   by_link (link.Broken (saving.Step step.OutOfMemory)) same = inl same
   by_link (link.Broken (saving.Save (save.Failed path))) same = same
   by_link (link.Broken (saving.Save save.OutOfMemory)) same = inl same
@@ -190,6 +194,7 @@ module _ (before now : Counts) where
   may_rise tool.TooLong same = inl same
   may_rise tool.OutOfMemory may = may
   may_rise (tool.FilesFault path) same = inl same
+  may_rise (tool.BadWire line) same = inl same
 
   by_session : (served ended : LinkEnd SavingBreak) → (ended ≡ served) ⊎ (ended ≡ link.OutOfMemory) → LinkCounts served before now → ServedCounts (tool_end_of ended) before now
   by_session served ended (inl same) counts = rw same (by_link served counts)
@@ -229,6 +234,7 @@ module _ (start new : SessionState) (turns : List (Transition SessionState)) (re
   unbroken : AsksNobody start → (error : StepError) → error ≡ step.Term → Answered BreaksSaving (link.Broken (saving.Step error)) start turns rest talk input code_before new code → ⊥
   unbroken nobody step.Term is answered = never_fails (state_after start turns) new answered.line (lines_nobody start turns nobody course) answered.broke
   unbroken nobody step.OutOfMemory is answered = cc
+  unbroken nobody (step.Wire line) is answered = cc
 
 -- ---- tools
 
@@ -254,6 +260,7 @@ module _ (before now : Links) (child : now.child ≡ before.child) where
   own_links tool.TooLong other same = record { on_io = same; on_child = unserved }
   own_links tool.OutOfMemory other may = record { on_io = may; on_child = inl unserved }
   own_links (tool.FilesFault path) other same = record { on_io = same; on_child = unserved }
+  own_links (tool.BadWire line) other same = record { on_io = same; on_child = unserved }
 
 no_term : (served ended : LinkEnd SavingBreak) → (ended ≡ served) ⊎ (ended ≡ link.OutOfMemory) → (served ≡ link.Broken (saving.Step step.Term) → ⊥) → tool_end_of ended ≡ tool.TermFault → ⊥
 no_term served link.Done by other is = cc
@@ -261,6 +268,7 @@ no_term served link.LinkFault by other is = cc
 no_term served link.TooLong by other is = cc
 no_term served link.OutOfMemory by other is = cc
 no_term served (link.Broken (saving.Step step.OutOfMemory)) by other is = cc
+no_term served (link.Broken (saving.Step (step.Wire line))) by other is = cc
 no_term served (link.Broken (saving.Save (save.Failed path))) by other is = cc
 no_term served (link.Broken (saving.Save save.OutOfMemory)) by other is = cc
 no_term served (link.Broken (saving.Step step.Term)) (inl same) other is = other (sym same)
@@ -287,6 +295,7 @@ silent_links tool.TooLong state rest new links ends = absurd ends
 silent_links tool.PrintFault state rest new links ends = absurd ends
 silent_links tool.TermFault state rest new links ends = absurd ends
 silent_links tool.ChildFault state rest new links ends = absurd ends
+silent_links (tool.BadWire line) state rest new links ends = absurd ends
 
 -- the program was served, and the user asked on the program's own link
 module _ (before now : Links) where
@@ -296,6 +305,7 @@ module _ (before now : Links) where
   both_links link.LinkFault child io = inr (record { on_io = io; on_child = child })
   both_links link.OutOfMemory child io = record { on_io = inl io; on_child = child }
   both_links (link.Broken (saving.Step step.Term)) child io = record { on_io = io; on_child = child }
+  both_links (link.Broken (saving.Step (step.Wire line))) child io = record { on_io = io; on_child = child }
   both_links (link.Broken (saving.Step step.OutOfMemory)) child (inl same) = record { on_io = inl same; on_child = child }
   both_links (link.Broken (saving.Step step.OutOfMemory)) child (inr rose) = record { on_io = inr (inr rose); on_child = child }
   both_links (link.Broken (saving.Save (save.Failed path))) child io = record { on_io = io; on_child = child }
@@ -307,6 +317,7 @@ module _ (before now : Links) where
   any_io link.LinkFault io = inl io
   any_io link.OutOfMemory io = inl io
   any_io (link.Broken (saving.Step step.Term)) io = inr (inl io)
+  any_io (link.Broken (saving.Step (step.Wire line))) io = inl io
   any_io (link.Broken (saving.Step step.OutOfMemory)) (inl same) = inl same
   any_io (link.Broken (saving.Step step.OutOfMemory)) (inr rose) = inr (inr rose)
   any_io (link.Broken (saving.Save error)) io = inl io
@@ -328,17 +339,35 @@ started_links command start before now code answer left saves asks is =
     (subst (λ (c : Counts). ServedCounts (tool_end_of is.ended) c now.child.counts) (ap (λ (l : LinkState). l.counts) is.starts.state)
     (served_counts start left is.mid now.child is.ended code answer.last_code saves is.served))
     (subst (λ (c : Counts). TerminalCounts served.served c now.io.counts) (ap (λ (l : LinkState). l.counts) asks)
-    (subst (λ (c : Counts). TerminalCounts served.served start.terminal.link.counts c) (ap (λ (l : LinkState). l.counts) (sym (is.io ∙ ap (λ (t : TerminalState). t.link) served.terminal_is))) shown)))
+    (subst (λ (c : Counts). TerminalCounts served.served start.terminal.link.counts c) (ap (λ (l : LinkState). l.counts) (sym (is.io ∙ ap (λ (t : ScreenState). t.link) served.terminal_is))) shown)))
 
-unstarted_links : (command : List (List ℕ)) (start : SessionState) (before now : Links) (code : ℕ) (answer : ToolAnswer) (left : Resources) (saves : List Save)
-    → IsNotStarted command start before now code answer left saves → ToolLinks answer.ended before now
-unstarted_links command start before now code answer left saves is = rw is.ended_is (by_error is.error is.starts) where
+unstarted_links : (command : List (List ℕ)) (before now : Links) (code : ℕ) (answer : ToolAnswer) → IsNotStarted command before now code answer → ToolLinks answer.ended before now
+unstarted_links command before now code answer is = rw is.ended_is (by_error is.error is.starts) where
   io : now.io.counts ≡ before.io.counts
   io = ap (λ (l : LinkState). l.counts) is.io
 
   by_error : (error : LinkError) → Starts {T = Unit {0}} command before.child now.child (Err error) → ToolLinks (end_unstarted error) before now
   by_error Failed failed = record { on_io = io; on_child = ap (λ (l : LinkState). l.counts) failed.state }
   by_error OutOfMemory refused = record { on_io = inl io; on_child = inr (inr refused.rose) }
+
+-- a program was started, and its requests were asked on the program's own link
+answered_by : (before now : Links) (ended : LinkEnd AnswerBreak) → LinkCounts ended before.child.counts now.child.counts → WireCounts ended before.io.counts now.io.counts → ToolLinks (answer_end ended) before now
+answered_by before now link.Done child io = record { on_io = io; on_child = child }
+answered_by before now link.TooLong child io = record { on_io = io; on_child = child }
+answered_by before now link.LinkFault child io = inr (record { on_io = io; on_child = child })
+answered_by before now link.OutOfMemory (inl rose) io = record { on_io = inl io; on_child = inr (inr rose) }
+answered_by before now link.OutOfMemory (inr same) io = record { on_io = inl io; on_child = inl same }
+answered_by before now (link.Broken (broken.Wire line)) child io = record { on_io = io; on_child = child }
+answered_by before now (link.Broken broken.Term) child io = record { on_io = io; on_child = child }
+answered_by before now (link.Broken broken.OutOfMemory) child (inl rose) = record { on_io = inr (inr rose); on_child = inl child }
+answered_by before now (link.Broken broken.OutOfMemory) child (inr same) = record { on_io = inl same; on_child = inl child }
+
+answering_links : (command : List (List ℕ)) (before now : Links) (code : ℕ) (answer : ToolAnswer) → IsAnswering command before now code answer → ToolLinks answer.ended before now
+answering_links command before now code answer is =
+    rw is.ended_is
+    (answered_by before now is.ended
+    (subst (λ (c : Counts). LinkCounts is.ended c now.child.counts) (ap (λ (l : LinkState). l.counts) is.starts.state) is.answered.serves.counts)
+    (wire_counts before.io now.io is.mid now.child is.ended is.answered))
 
 -- a text was printed
 printed_links : (text : List ℕ) (ended : ToolEnd) (before now : Links) → Prints text before.io now.io ended → now.child ≡ before.child → ToolLinks ended before now
@@ -351,6 +380,7 @@ printed_links text tool.TermFault before now none child = absurd none
 printed_links text tool.ChildFault before now none child = absurd none
 printed_links text tool.TooLong before now none child = absurd none
 printed_links text (tool.FilesFault path) before now none child = absurd none
+printed_links text (tool.BadWire line) before now none child = absurd none
 
 -- items were copied
 copied_links : (copy : Copying) (old new : List LayerState) (ended : ToolEnd) (said : List ℕ) (status : ℕ) (links : Links) → Copies copy old new ended said status → ToolLinks ended links links
@@ -362,6 +392,7 @@ copied_links copy old new tool.TermFault said status links none = absurd none
 copied_links copy old new tool.ChildFault said status links none = absurd none
 copied_links copy old new tool.TooLong said status links none = absurd none
 copied_links copy old new (tool.FilesFault path) said status links none = absurd none
+copied_links copy old new (tool.BadWire line) said status links none = absurd none
 
 copy_links : (found : Option CopyRoots) (start : SessionState) (before now : Links) (code : ℕ) (answer : ToolAnswer) (said : List ℕ) (left : Resources) → CopiesBy found start before now code answer said left → ToolLinks answer.ended before now
 copy_links None start before now code answer said left none = absurd none
@@ -403,7 +434,7 @@ tool_links (Communicate owner) state roots settings now answer said left saves u
 tool_links (LoadTemplate owner paths) state roots settings now answer said left saves uses =
     rw uses.0.links_are (silent_links answer.ended _ uses.0.loaded.rest uses.0.state state.world.links uses.0.loaded.ends)
 tool_links (Run owner frontend priority command) state roots settings now answer said left saves uses = elim uses.0 [
-  | inl none ↦ unstarted_links command (begun (Run owner frontend priority command) state roots settings) state.world.links now state.code answer left saves none
+  | inl none ↦ unstarted_links command state.world.links now state.code answer none.unstarted
   | inr started ↦ started_links command (begun (Run owner frontend priority command) state roots settings) state.world.links now state.code answer left saves refl started
 ]
 tool_links (Show database shown) state roots settings now answer said left saves uses = printed_links _ answer.ended state.world.links now uses.0.prints uses.0.child_is
@@ -413,6 +444,10 @@ tool_links (SetSelections verbose check unseen) state roots settings now answer 
     taken_links (record { verbose = verbose; check = check; unseen = unseen }) (begun (SetSelections verbose check unseen) state roots settings) state.world.links now state.code answer left uses.0 uses.1
 tool_links GetSelections state roots settings now answer said left saves uses = printed_links _ answer.ended state.world.links now uses.0.prints uses.0.child_is
 tool_links (Drill count) state roots settings now answer said left saves uses = made_links uses.0.result answer.ended state.world.links now uses.0.prints uses.0.child_is
+tool_links (Answer command) state roots settings now answer said left saves uses = elim uses.0 [
+  | inl none ↦ unstarted_links command state.world.links now state.code answer none
+  | inr answering ↦ answering_links command state.world.links now state.code answer answering
+]
 
 -- ---- the end of the run
 
@@ -433,6 +468,7 @@ module _ (before mid now : Links) (io : now.io.counts ≡ mid.io.counts) where
     same_links (end.Damaged path line) counts = both Stays Stays counts
     same_links end.OutOfMemory counts = both MayRise MayRise counts
     same_links (end.FilesFault path) counts = both Stays Stays counts
+    same_links (end.BadWire line) counts = both Stays Stays counts
     same_links end.LinkFault (inl counts) = inl (both FaultRose Stays counts)
     same_links end.LinkFault (inr counts) = inr (both Stays FaultRose counts)
     same_links end.TermFault counts = both FaultRose Stays counts
@@ -490,6 +526,7 @@ module _ (left new : Ground) (before : Links) (child : LinkState) where
   run_links tool.ChildFault how broken links = rw broken.end_is (stayed_links end.ChildFault broken.stays links)
   run_links tool.OutOfMemory how broken links = rw broken.end_is (stayed_links end.OutOfMemory broken.stays links)
   run_links (tool.FilesFault path) how broken links = rw broken.end_is (stayed_links (end.FilesFault path) broken.stays links)
+  run_links (tool.BadWire line) how broken links = rw broken.end_is (stayed_links (end.BadWire line) broken.stays links)
 
   -- how it ends where nothing is saved
   unsaved_links : (ended : ToolEnd) → ToolLinks ended before mid_links → LinksCount (end_of ended) before mid_links
@@ -501,6 +538,7 @@ module _ (left new : Ground) (before : Links) (child : LinkState) where
   unsaved_links tool.ChildFault links = links
   unsaved_links tool.OutOfMemory links = links
   unsaved_links (tool.FilesFault path) links = links
+  unsaved_links (tool.BadWire line) links = links
 
   ended_links : (keeps : Bool) (ended : ToolEnd) (how : End) → FinishesWhere keeps left new ended how → ToolLinks ended before mid_links → LinksCount how before now_links
   ended_links true ended how finished links = run_links ended how finished links
@@ -516,6 +554,7 @@ unwaited_links (end.PatternTooLarge place) before now links = links
 unwaited_links (end.Damaged path line) before now links = links
 unwaited_links end.OutOfMemory before now links = links
 unwaited_links (end.FilesFault path) before now links = links
+unwaited_links (end.BadWire line) before now links = links
 unwaited_links end.LinkFault before now links = links
 unwaited_links end.TermFault before now links = links
 unwaited_links end.ChildFault before now links = links
@@ -540,9 +579,19 @@ served_start link.LinkFault before now same = same
 served_start link.TooLong before now same = same
 served_start link.OutOfMemory before now same = same
 served_start (link.Broken (saving.Step step.Term)) before now same = same
+served_start (link.Broken (saving.Step (step.Wire line))) before now same = same
 served_start (link.Broken (saving.Step step.OutOfMemory)) before now same = same
 served_start (link.Broken (saving.Save (save.Failed path))) before now same = same
 served_start (link.Broken (saving.Save save.OutOfMemory)) before now same = same
+
+answered_start : (ended : LinkEnd AnswerBreak) (before now : ℕ) → now ≡ before → StartCounts (answer_end ended) before now
+answered_start link.Done before now same = same
+answered_start link.LinkFault before now same = same
+answered_start link.TooLong before now same = same
+answered_start link.OutOfMemory before now same = same
+answered_start (link.Broken (broken.Wire line)) before now same = same
+answered_start (link.Broken broken.Term) before now same = same
+answered_start (link.Broken broken.OutOfMemory) before now same = same
 
 silent_start : (ended : ToolEnd) (state : SessionState) (rest : List (List ℕ)) (new : SessionState) (count : ℕ) → EndsAt ended state rest new → StartCounts ended count count
 silent_start tool.Done state rest new count ends = refl
@@ -553,6 +602,7 @@ silent_start tool.TooLong state rest new count ends = absurd ends
 silent_start tool.PrintFault state rest new count ends = absurd ends
 silent_start tool.TermFault state rest new count ends = absurd ends
 silent_start tool.ChildFault state rest new count ends = absurd ends
+silent_start (tool.BadWire line) state rest new count ends = absurd ends
 
 unstarted_program : (command : List (List ℕ)) (error : LinkError) (before now : LinkState) → Starts {T = Unit {0}} command before now (Err error) → StartCounts (end_unstarted error) before.program.failures now.program.failures
 unstarted_program command Failed before now failed = failed.rose.failures
@@ -567,6 +617,7 @@ printed_start text tool.TermFault old new count none = absurd none
 printed_start text tool.ChildFault old new count none = absurd none
 printed_start text tool.TooLong old new count none = absurd none
 printed_start text (tool.FilesFault path) old new count none = absurd none
+printed_start text (tool.BadWire line) old new count none = absurd none
 
 copied_start : (copy : Copying) (old new : List LayerState) (ended : ToolEnd) (said : List ℕ) (status count : ℕ) → Copies copy old new ended said status → StartCounts ended count count
 copied_start copy old new tool.Done said status count copies = refl
@@ -577,6 +628,7 @@ copied_start copy old new tool.TermFault said status count none = absurd none
 copied_start copy old new tool.ChildFault said status count none = absurd none
 copied_start copy old new tool.TooLong said status count none = absurd none
 copied_start copy old new (tool.FilesFault path) said status count none = absurd none
+copied_start copy old new (tool.BadWire line) said status count none = absurd none
 
 copy_program : (found : Option CopyRoots) (start : SessionState) (before now : Links) (code : ℕ) (answer : ToolAnswer) (said : List ℕ) (left : Resources) → CopiesBy found start before now code answer said left
     → StartCounts answer.ended before.child.program.failures now.child.program.failures
@@ -601,7 +653,7 @@ tool_program (Communicate owner) roots start before now code answer said left sa
 tool_program (LoadTemplate owner paths) roots start before now code answer said left saves uses =
     rw uses.0.links_are (silent_start answer.ended _ uses.0.loaded.rest uses.0.state before.child.program.failures uses.0.loaded.ends)
 tool_program (Run owner frontend priority command) roots start before now code answer said left saves uses = elim uses.0 [
-  | inl none ↦ rw none.ended_is (unstarted_program command none.error before.child now.child none.starts)
+  | inl none ↦ rw none.unstarted.ended_is (unstarted_program command none.unstarted.error before.child now.child none.unstarted.starts)
   | inr started ↦ rw started.ended_is (served_start started.ended before.child.program.failures now.child.program.failures (ap (λ (p : Program). p.failures) started.served.by.program ∙ started.starts.began.failures))
 ]
 tool_program (Show database shown) roots start before now code answer said left saves uses =
@@ -613,6 +665,11 @@ tool_program GetSelections roots start before now code answer said left saves us
     subst (λ (c : LinkState). StartCounts answer.ended before.child.program.failures c.program.failures) (sym uses.0.child_is) (printed_start _ answer.ended before.io now.io before.child.program.failures uses.0.prints)
 tool_program (Drill count) roots start before now code answer said left saves uses =
     subst (λ (c : LinkState). StartCounts answer.ended before.child.program.failures c.program.failures) (sym uses.0.child_is) (made_start uses.0.result answer.ended before.io now.io before.child.program.failures uses.0.prints)
+tool_program (Answer command) roots start before now code answer said left saves uses = elim uses.0 [
+  | inl none ↦ rw none.ended_is (unstarted_program command none.error before.child now.child none.starts)
+  | inr answering ↦ rw answering.ended_is (answered_start answering.ended before.child.program.failures now.child.program.failures
+      (ap (λ (p : Program). p.failures) answering.answered.serves.program ∙ answering.starts.began.failures))
+]
 
 module _ (left new : Ground) (before now : ℕ) where
   unsent_program : (error : LinkError) → now ≡ before → ProgramCounts (end_unsent error) before now
@@ -637,6 +694,7 @@ module _ (left new : Ground) (before now : ℕ) where
   run_program tool.ChildFault how broken rose = rw broken.end_is rose
   run_program tool.OutOfMemory how broken same = rw broken.end_is (inl same)
   run_program (tool.FilesFault path) how broken same = rw broken.end_is (inl same)
+  run_program (tool.BadWire line) how broken same = rw broken.end_is (inl same)
 
   unsaved_program : (ended : ToolEnd) → StartCounts ended before now → ProgramCounts (end_of ended) before now
   unsaved_program tool.Done same = same
@@ -647,6 +705,7 @@ module _ (left new : Ground) (before now : ℕ) where
   unsaved_program tool.ChildFault rose = rose
   unsaved_program tool.OutOfMemory same = inl same
   unsaved_program (tool.FilesFault path) same = inl same
+  unsaved_program (tool.BadWire line) same = inl same
 
   ended_program : (keeps : Bool) (ended : ToolEnd) (how : End) → FinishesWhere keeps left new ended how → StartCounts ended before now → ProgramCounts how before now
   ended_program true ended how finished counts = run_program ended how finished counts
@@ -669,6 +728,7 @@ unwaited_program (end.PatternTooLarge place) before mid now counts rose = inr (r
 unwaited_program (end.Damaged path line) before mid now counts rose = inr (rose_after before mid now counts rose)
 unwaited_program end.OutOfMemory before mid now counts rose = inr (rose_after before mid now counts rose)
 unwaited_program (end.FilesFault path) before mid now counts rose = inr (rose_after before mid now counts rose)
+unwaited_program (end.BadWire line) before mid now counts rose = inr (rose_after before mid now counts rose)
 unwaited_program end.LinkFault before mid now counts rose = inr (rose_after before mid now counts rose)
 unwaited_program end.TermFault before mid now counts rose = inr (rose_after before mid now counts rose)
 unwaited_program end.ChildFault before mid now first rose = later_rose before mid now first rose

@@ -91,7 +91,7 @@ use Rattle.dc_run.specs.declared.outcome.ToolAnswer.{ToolAnswer}
 use Rattle.dc_run.specs.declared.outcome.ToolEnd.{ToolEnd}
 use Rattle.dc_run.specs.declared.outcome.ToolEnd.TheVariants as tool
 use Rattle.dc_cli.specs.declared.tool.Tool.{Tool}
-use Rattle.dc_cli.specs.declared.tool.Tool.TheVariants.{Communicate, LoadTemplate, Run, Show, CopyDb, SetSelections, GetSelections, Drill}
+use Rattle.dc_cli.specs.declared.tool.Tool.TheVariants.{Communicate, LoadTemplate, Run, Show, CopyDb, SetSelections, GetSelections, Drill, Answer}
 use Rattle.dc_run.proofs.RunLemmas.{ends_so}
 use Rattle.dc_run.specs.Crashes.{AreOfConfiguration, KeepsEachPath}
 
@@ -254,7 +254,7 @@ set_up_for (layer ∷ layers) (spec ∷ specs) e =
     let here : kind_of layer ≡ (spec.sort, Some spec) = first_kind _ _ _ _ e in
     ((ap (λ (k : Kind). k.1) here, ap (λ (k : Kind). k.0) here), set_up_for layers specs (other_kinds _ _ _ _ e))
 
-last_after : (start : SessionState) (gone : List (Transition SessionState)) (last : Transition SessionState) → state_after start (gone ++ last ∷ []) ≡ last.new
+pub last_after : {S : Type 0} (start : S) (gone : List (Transition S)) (last : Transition S) → state_after start (gone ++ last ∷ []) ≡ last.new
 last_after start [] last = refl
 last_after start (turn ∷ gone) last = last_after turn.new gone last
 
@@ -274,6 +274,7 @@ module _ (start new : SessionState) (turns : List (Transition SessionState)) (re
   state_left link.TooLong is answered = answered.answered.are_said.state_is
   state_left link.OutOfMemory is answered = absurd is
   state_left (link.Broken (saving.Step step.Term)) is answered = absurd is
+  state_left (link.Broken (saving.Step (step.Wire line))) is answered = absurd is
   state_left (link.Broken (saving.Step step.OutOfMemory)) is answered = absurd is
   state_left (link.Broken (saving.Save (save.Failed path))) is answered = absurd is
   state_left (link.Broken (saving.Save save.OutOfMemory)) is answered = absurd is
@@ -397,6 +398,7 @@ end_reads tool.TooLong state rest new ends = absurd ends
 end_reads tool.PrintFault state rest new ends = absurd ends
 end_reads tool.TermFault state rest new ends = absurd ends
 end_reads tool.ChildFault state rest new ends = absurd ends
+end_reads (tool.BadWire line) state rest new ends = absurd ends
 
 turn_keeps : (old : SessionState) (turn : FileTurn) → IsFileTurn old turn → specs_of turn.new ≡ specs_of old
 turn_keeps old turn is =
@@ -419,6 +421,7 @@ end_keeps tool.TooLong is state rest new ends = absurd ends
 end_keeps tool.PrintFault is state rest new ends = absurd is
 end_keeps tool.TermFault is state rest new ends = absurd is
 end_keeps tool.ChildFault is state rest new ends = absurd is
+end_keeps (tool.BadWire line) is state rest new ends = absurd is
 
 -- ---- tools
 
@@ -498,6 +501,8 @@ tool_keeps GetSelections roots start old new before given told left inner uses =
     none_made (keeps_changes GetSelections) start given.ended left.layers left.files inner uses.1 (ap (λ (l : Resources). l.files.view.disk) uses.0.left_is) (λ saves is. ap (λ (l : Resources). specs_in l.layers) uses.0.left_is)
 tool_keeps (Drill count) roots start old new before given told left inner uses =
     none_made (keeps_changes (Drill count)) start given.ended left.layers left.files inner uses.2 (ap (λ (l : Resources). l.files.view.disk) uses.0.left_is) (λ saves is. cc)
+tool_keeps (Answer command) roots start old new before given told left inner uses =
+    none_made (keeps_changes (Answer command)) start given.ended left.layers left.files inner uses.3 (ap (λ (l : Resources). l.files.view.disk) uses.1) (λ saves is. cc)
 
 -- ---- the save of a round
 
@@ -510,6 +515,7 @@ ended_then tool.TermFault is = cc
 ended_then tool.ChildFault is = cc
 ended_then tool.OutOfMemory is = cc
 ended_then (tool.FilesFault path) is = cc
+ended_then (tool.BadWire line) is = cc
 
 saved_then : (ended : ToolEnd) (given : Result (Unit {0}) SaveError) → end_by ended given ≡ end.Done → given ≡ Ok tt
 saved_then ended (Ok done) is = refl
@@ -521,6 +527,7 @@ saved_then tool.TermFault (Err (save.Failed path)) is = cc
 saved_then tool.ChildFault (Err (save.Failed path)) is = cc
 saved_then tool.OutOfMemory (Err (save.Failed path)) is = cc
 saved_then (tool.FilesFault fault) (Err (save.Failed path)) is = cc
+saved_then (tool.BadWire line) (Err (save.Failed path)) is = cc
 saved_then tool.Done (Err save.OutOfMemory) is = cc
 saved_then tool.LinkFault (Err save.OutOfMemory) is = cc
 saved_then tool.TooLong (Err save.OutOfMemory) is = cc
@@ -529,6 +536,7 @@ saved_then tool.TermFault (Err save.OutOfMemory) is = cc
 saved_then tool.ChildFault (Err save.OutOfMemory) is = cc
 saved_then tool.OutOfMemory (Err save.OutOfMemory) is = cc
 saved_then (tool.FilesFault fault) (Err save.OutOfMemory) is = cc
+saved_then (tool.BadWire line) (Err save.OutOfMemory) is = cc
 
 unsent_not_done : (error : LinkError) → end_unsent error ≡ end.Done → ⊥
 unsent_not_done Failed is = cc
@@ -552,6 +560,7 @@ of_done tool.TermFault is = cc
 of_done tool.ChildFault is = cc
 of_done tool.OutOfMemory is = cc
 of_done (tool.FilesFault path) is = cc
+of_done (tool.BadWire line) is = cc
 
 module _ (left new : Ground) (last : List Save) (how : End) (ended : ToolEnd) where
   -- a round that did all was one of a tool that did
@@ -590,6 +599,7 @@ waited_done end.LinkFault is = is
 waited_done end.TermFault is = is
 waited_done end.ChildFault is = is
 waited_done end.TooLong is = is
+waited_done (end.BadWire line) is = is
 
 pub done_before : (started : Bool) (mid now : LinkState) (how ended : End) (status left : ℕ) → Awaits started mid now how ended status left → ended ≡ end.Done → how ≡ end.Done
 done_before true mid now how ended status left (inl done) is = sym done.end_is ∙ is

@@ -17,7 +17,7 @@ use Rattle.dc_cli.specs.declared.tool.CopyWords.{CopyWords}
 use Rattle.dc_cli.specs.declared.tool.PlacedWord.{PlacedWord}
 use Rattle.dc_cli.specs.declared.tool.Shown.{Shown}
 use Rattle.dc_cli.specs.declared.tool.Tool.{Tool}
-use Rattle.dc_cli.specs.declared.tool.Tool.TheVariants.{Communicate, LoadTemplate, Run, Show, CopyDb, SetSelections, GetSelections, Drill}
+use Rattle.dc_cli.specs.declared.tool.Tool.TheVariants.{Communicate, LoadTemplate, Run, Show, CopyDb, SetSelections, GetSelections, Drill, Answer}
 use Rattle.dc_run.specs.Inside.{AreApartIn, AreFew, IsResolvedFor, IsUnresolvedFor, overlap_in, unknown_end}
 use Rattle.dc_run.specs.Starting.{AreDisjointIn, IsSomeConfiguration, IsWrongCopy, IsWrongWord, databases_of, first_unknown, is_known, roots}
 use Rattle.dc_run.specs.declared.outcome.End.{End}
@@ -161,6 +161,7 @@ unknown_ends (CopyDb copy) conf root first = copy_end_at conf copy root first
 unknown_ends (SetSelections verbose check unseen) conf root first = inl refl
 unknown_ends GetSelections conf root first = inl refl
 unknown_ends (Drill count) conf root first = inl refl
+unknown_ends (Answer command) conf root first = inl refl
 
 -- ---- roots that are known
 
@@ -199,6 +200,7 @@ wrong_is (CopyDb copy) conf plans known have = copy_wrong conf copy plans known.
 wrong_is (SetSelections verbose check unseen) conf plans known have = refl
 wrong_is GetSelections conf plans known have = refl
 wrong_is (Drill count) conf plans known have = refl
+wrong_is (Answer command) conf plans known have = refl
 
 no_overlap : (b : Bool) (place : ℕ) → cond b None (Some place) ≡ None → b ≡ true
 no_overlap true place none = refl
@@ -219,6 +221,7 @@ apart_in (CopyDb copy) conf plans have none disjoint = copy_apart conf copy plan
 apart_in (SetSelections verbose check unseen) conf plans have none disjoint = disjoint refl
 apart_in GetSelections conf plans have none disjoint = disjoint refl
 apart_in (Drill count) conf plans have none disjoint = disjoint refl
+apart_in (Answer command) conf plans have none disjoint = disjoint refl
 
 -- ---- a word is wrong in one way
 
@@ -249,6 +252,7 @@ right_not_wrong (CopyDb copy) conf word right wrong = right_copy (first_unknown 
 right_not_wrong (SetSelections verbose check unseen) conf word right wrong = not_one word wrong
 right_not_wrong GetSelections conf word right wrong = not_one word wrong
 right_not_wrong (Drill count) conf word right wrong = not_one word wrong
+right_not_wrong (Answer command) conf word right wrong = not_one word wrong
 
 -- ---- all that resolving promises
 

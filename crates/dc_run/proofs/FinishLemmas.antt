@@ -40,6 +40,7 @@ module _ (left new : Ground) where
   save_ends tool.ChildFault at sent (Err save.OutOfMemory) saves counts are = absurd at
   save_ends tool.OutOfMemory at sent (Err save.OutOfMemory) saves counts are = absurd at
   save_ends (tool.FilesFault path) at sent (Err save.OutOfMemory) saves counts are = absurd at
+  save_ends (tool.BadWire line) at sent (Err save.OutOfMemory) saves counts are = absurd at
 
   -- the tool had ended, and the images were saved or not
   pub finished : (ended : ToolEnd) → IsEnded ended → SendsOf ended left new (Ok tt) → (result : Result (Unit {0}) SaveError) → Saves (images_of left.used) files.view after.view result → SaveCounts files.view after.view result files.counts after.counts
@@ -52,3 +53,4 @@ module _ (left new : Ground) where
   finished tool.ChildFault at sent result saves counts are = absurd at
   finished tool.OutOfMemory at sent result saves counts are = absurd at
   finished (tool.FilesFault path) at sent result saves counts are = absurd at
+  finished (tool.BadWire line) at sent result saves counts are = absurd at

@@ -13,7 +13,7 @@ use Rattle.dc_outside.specs.State.{LinkState}
 use Rattle.dc_shelf.specs.Shelves.{GoesOn, LoadAnswer, LoadsAll, LoadsOne, Sources}
 use Rattle.dc_shelf.specs.declared.loading.SourceError.{SourceError}
 use Rattle.dc_cli.specs.declared.tool.Tool.{Tool}
-use Rattle.dc_cli.specs.declared.tool.Tool.TheVariants.{Communicate, LoadTemplate, Run, Show, CopyDb, SetSelections, GetSelections, Drill}
+use Rattle.dc_cli.specs.declared.tool.Tool.TheVariants.{Communicate, LoadTemplate, Run, Show, CopyDb, SetSelections, GetSelections, Drill, Answer}
 use Rattle.dc_run.specs.declared.outcome.End.{End}
 use Rattle.dc_run.specs.declared.outcome.Outcome.{Outcome}
 use Rattle.dc_run.specs.declared.outcome.ToolEnd.{ToolEnd}
@@ -48,6 +48,7 @@ other_among (CopyDb copy) is specs = absurd is
 other_among (SetSelections verbose check unseen) is specs = refl
 other_among GetSelections is specs = refl
 other_among (Drill count) is specs = refl
+other_among (Answer command) is specs = refl
 
 module _ (used : Tool) (is : IsOther used) (conf : Configuration) (none : misused_among used (databases_of used conf) ≡ None) where
   pub unpiped : AreUnpiped (databases_of used conf)
@@ -131,6 +132,7 @@ module _ (used : Tool) (is : IsOther used) (settings : Settings) (old new : Worl
   nothing keeps tool.ChildFault ended = refl
   nothing keeps tool.OutOfMemory ended = refl
   nothing keeps (tool.FilesFault path) ended = refl
+  nothing keeps (tool.BadWire line) ended = refl
 
   sent_alone : keeps_changes used ≡ true → (ended : ToolEnd) → run.answer.ended ≡ ended → SendsOf ended left (ground_in new) (Ok tt) → new.links.io ≡ run.links.io
   sent_alone keeps ended e sent = none_sent (all_done ended (piped_of run.left.layers)) run.links.io new.links.io (nothing keeps ended e) sent
@@ -171,6 +173,7 @@ module _ (used : Tool) (is : IsOther used) (settings : Settings) (old new : Worl
   by_end keeps tool.ChildFault e broken = stayed broken.stays
   by_end keeps tool.OutOfMemory e broken = stayed broken.stays
   by_end keeps (tool.FilesFault path) e broken = stayed broken.stays
+  by_end keeps (tool.BadWire line) e broken = stayed broken.stays
 
   by_keeping : (keeps : Bool) → keeps_changes used ≡ keeps → FinishesWhere keeps left (ground_in new) run.answer.ended run.how → new.links.io ≡ run.links.io
   by_keeping true keeps finishes = by_end keeps run.answer.ended refl finishes

@@ -6,7 +6,7 @@ use Rattle.dc_conf.specs.declared.plans.Plan.{Plan}
 use Rattle.dc_layer.specs.Patterns.{Sought}
 use Rattle.dc_cli.specs.declared.tool.CopyWords.{CopyWords}
 use Rattle.dc_cli.specs.declared.tool.Tool.{Tool}
-use Rattle.dc_cli.specs.declared.tool.Tool.TheVariants.{Communicate, LoadTemplate, Run, Show, CopyDb, SetSelections, GetSelections, Drill}
+use Rattle.dc_cli.specs.declared.tool.Tool.TheVariants.{Communicate, LoadTemplate, Run, Show, CopyDb, SetSelections, GetSelections, Drill, Answer}
 use Rattle.dc_run.specs.Inside.{IsCopyBy}
 use Rattle.dc_run.specs.Starting.{roots}
 
@@ -36,6 +36,7 @@ roots_of_other (CopyDb copy) conf none = absurd (none copy refl)
 roots_of_other (SetSelections verbose check unseen) conf none = refl
 roots_of_other GetSelections conf none = refl
 roots_of_other (Drill count) conf none = refl
+roots_of_other (Answer command) conf none = refl
 
 -- one that doesn't copy copies by no patterns
 pub no_copy_by : (used : Tool) (by_name by_owner : Option Sought) → ((copy : CopyWords) → used ≡ CopyDb copy → ⊥) → IsCopyBy used by_name by_owner None
@@ -47,3 +48,4 @@ no_copy_by (CopyDb copy) by_name by_owner none = absurd (none copy refl)
 no_copy_by (SetSelections verbose check unseen) by_name by_owner none = refl
 no_copy_by GetSelections by_name by_owner none = refl
 no_copy_by (Drill count) by_name by_owner none = refl
+no_copy_by (Answer command) by_name by_owner none = refl

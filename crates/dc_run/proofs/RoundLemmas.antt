@@ -97,6 +97,7 @@ module _ (left new : Ground) (last : List Save) (how : End) where
   finishes tool.ChildFault has = stopped tool.ChildFault has
   finishes tool.OutOfMemory has = stopped tool.OutOfMemory has
   finishes (tool.FilesFault path) has = stopped (tool.FilesFault path) has
+  finishes (tool.BadWire line) has = stopped (tool.BadWire line) has
 
 module _ (left new : Ground) (last : List Save) (how : End) where
   -- the same of a tool of which nothing is saved, or of any other

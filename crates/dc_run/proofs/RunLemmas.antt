@@ -12,11 +12,11 @@ use Rattle.dc_session.specs.Serving.{IsFinished, Finishes as FinishesSession, Re
 use Rattle.dc_drill.specs.Drilling.{Drills}
 use Rattle.std.specs.Prelude.{codes, Result}
 use Rattle.dc_outside.specs.State.{FilesState, LinkState}
-use Rattle.dc_session.specs.SessionState.{SessionState, TerminalState, nothing_typed, nowhere, terminal_at}
+use Rattle.dc_session.specs.SessionState.{ReadAhead, ScreenState, SessionState, nothing_typed, nowhere, terminal_at}
 use Rattle.dc_session.specs.declared.stepped.StepError.{StepError}
 use Rattle.dc_cli.specs.Tools.{AreRefusedAt, IsToolWords, Names, NamesTool, IsCommand, owner_of}
 use Rattle.dc_cli.specs.declared.tool.Tool.{Tool}
-use Rattle.dc_cli.specs.declared.tool.Tool.TheVariants.{Communicate, LoadTemplate, Run, Show, CopyDb, SetSelections, GetSelections, Drill}
+use Rattle.dc_cli.specs.declared.tool.Tool.TheVariants.{Communicate, LoadTemplate, Run, Show, CopyDb, SetSelections, GetSelections, Drill, Answer}
 use Rattle.dc_cli.specs.declared.tool.CopyWords.{CopyWords}
 use Rattle.dc_cli.specs.declared.tool.PlacedWord.{PlacedWord}
 use Rattle.dc_cli.specs.declared.tool.Shown.{Shown}
@@ -31,12 +31,11 @@ use Rattle.dc_run.specs.Ends.{status_of, tool_end_of, comes_to_save}
 use Rattle.dc_run.specs.Headline.{HasRunTool, HasRunWords}
 use Rattle.dc_run.specs.Jobs.{HasCommunicated, CopiesBy, answers_said, refused_status, shown_text}
 use Rattle.dc_run.specs.Rounds.{Whole, Round, HasDone}
-use Rattle.dc_teletype.specs.TerminalLines.{TypeAhead}
 use Rattle.dc_run.specs.Saves.{Save, Commits}
 use Rattle.dc_run.specs.SavingSession.{IsServedSaving}
 use Rattle.dc_run.specs.declared.saving_session.SavingBreak.{SavingBreak}
 use Rattle.dc_run.specs.Inside.{HasCommand, HasLoadedOver, HasServedProgram, HasPrinted, HasPrintedAnswers, DrillsOver, HasTakenOver, HasDrilledOver, CopiesOver, context_by}
-use Rattle.dc_run.specs.Running.{HasRunProgram, Awaits, end_unstarted}
+use Rattle.dc_run.specs.Running.{HasAnswered, HasRunProgram, Awaits, end_unstarted}
 use Rattle.dc_run.specs.Starting.{EndsBefore, HasStarted, begun, chosen, chosen_frontend, chosen_priority, keeps_changes, resources_for, session_at}
 use Rattle.dc_run.specs.World.{Ground, Links, World, RunState, before_rounds, ground_in, links_of, on_ground, run_state, stock_of}
 use Rattle.dc_run.proofs.RoundLemmas.{most_none, none_most}
@@ -99,7 +98,7 @@ was_served_for owner chosen_for least command state roots settings left old new 
   waits = waits;
 }
 
-module _ (roots : Roots) (settings : Settings) (io child new new_child err new_err : LinkState) (files left_files : FilesState) (layers left_layers : List LayerState) (ahead unused : TypeAhead) (before : ℕ) (answer : ToolAnswer) (saves : List Save) where
+module _ (roots : Roots) (settings : Settings) (io child new new_child err new_err : LinkState) (files left_files : FilesState) (layers left_layers : List LayerState) (ahead unused : ReadAhead) (before : ℕ) (answer : ToolAnswer) (saves : List Save) where
   abbrev found : RunState
   found = run_state io child err files layers ahead before
 
@@ -133,7 +132,7 @@ module _ (roots : Roots) (settings : Settings) (io child new new_child err new_e
     code_is = refl;
   }
 
-module _ (roots : Roots) (settings : Settings) (io child err new_err : LinkState) (files left_files : FilesState) (layers left_layers : List LayerState) (ahead : TypeAhead) (before : ℕ) (answer : ToolAnswer) where
+module _ (roots : Roots) (settings : Settings) (io child err new_err : LinkState) (files left_files : FilesState) (layers left_layers : List LayerState) (ahead : ReadAhead) (before : ℕ) (answer : ToolAnswer) where
   -- files were loaded
   pub loaded_files : (owner : List ℕ) (paths : List (List ℕ)) → HasLoadedOver (begun (LoadTemplate owner paths) (run_state io child err files layers ahead before) roots settings) paths err new_err before answer left_layers left_files
       → HasDone (LoadTemplate owner paths) roots settings (run_state io child err files layers ahead before) (run_state io child new_err left_files left_layers ahead answer.last_code) answer []
@@ -143,11 +142,11 @@ module _ (roots : Roots) (settings : Settings) (io child err new_err : LinkState
     uses = (record { state = over.state; left_is = refl; loaded = over.loads; last_code_is = over.last_code_is; links_are = refl; waits = over.waits }, refl);
     stock_is = λ i. stock_of (over.files_are i) (over.layers_are i);
     said = subst (λ (l : LinkState). HasSaid over.said l new_err) (sym over.err_is) over.telling;
-    ahead_is = sym (ap (λ (t : TerminalState). t.ahead) over.terminal_is);
+    ahead_is = sym (ap (λ (t : ScreenState). t.ahead) over.terminal_is);
     code_is = refl;
   }
 
-module _ (roots : Roots) (settings : Settings) (io new child err : LinkState) (files : FilesState) (layers left_layers : List LayerState) (ahead : TypeAhead) (before : ℕ) (answer : ToolAnswer) where
+module _ (roots : Roots) (settings : Settings) (io new child err : LinkState) (files : FilesState) (layers left_layers : List LayerState) (ahead : ReadAhead) (before : ℕ) (answer : ToolAnswer) where
   -- what is asked for was printed
   pub was_shown : (database : Option PlacedWord) (shown : Shown) → left_layers ≡ layers → HasPrinted (shown_text shown roots.conf layers (context_by roots settings.lang)) io new before answer
       → HasDone (Show database shown) roots settings (run_state io child err files layers ahead before) (run_state new child err files left_layers ahead answer.last_code) answer []
@@ -161,7 +160,7 @@ module _ (roots : Roots) (settings : Settings) (io new child err : LinkState) (f
     code_is = refl;
   }
 
-module _ (roots : Roots) (settings : Settings) (io child err new_err : LinkState) (files : FilesState) (layers left_layers : List LayerState) (ahead : TypeAhead) (before : ℕ) (answer : ToolAnswer) where
+module _ (roots : Roots) (settings : Settings) (io child err new_err : LinkState) (files : FilesState) (layers left_layers : List LayerState) (ahead : ReadAhead) (before : ℕ) (answer : ToolAnswer) where
   -- items were copied
   pub was_copied : (copy : CopyWords) → CopiesOver roots layers left_layers err new_err before answer
       → HasDone (CopyDb copy) roots settings (run_state io child err files layers ahead before) (run_state io child new_err files left_layers ahead answer.last_code) answer []
@@ -182,7 +181,7 @@ module _ (roots : Roots) (settings : Settings) (io child err new_err : LinkState
         code_is = refl;
       }
 
-module _ (roots : Roots) (settings : Settings) (io new child err new_err : LinkState) (files : FilesState) (layers left_layers : List LayerState) (ahead : TypeAhead) (before : ℕ) (answer : ToolAnswer) where
+module _ (roots : Roots) (settings : Settings) (io new child err new_err : LinkState) (files : FilesState) (layers left_layers : List LayerState) (ahead : ReadAhead) (before : ℕ) (answer : ToolAnswer) where
   -- selections were taken
   pub was_taken : (verbose check unseen : Bool)
       → HasTakenOver (record { verbose = verbose; check = check; unseen = unseen }) (context_by roots settings.lang) layers left_layers io new err new_err before answer
@@ -213,7 +212,7 @@ module _ (roots : Roots) (settings : Settings) (io new child err new_err : LinkS
         code_is = refl;
       }
 
-module _ (roots : Roots) (settings : Settings) (io new child err new_err : LinkState) (files : FilesState) (layers left_layers : List LayerState) (ahead : TypeAhead) (before : ℕ) (answer : ToolAnswer) where
+module _ (roots : Roots) (settings : Settings) (io new child err new_err : LinkState) (files : FilesState) (layers left_layers : List LayerState) (ahead : ReadAhead) (before : ℕ) (answer : ToolAnswer) where
   -- answers were printed
   pub was_said : left_layers ≡ layers → HasPrintedAnswers (answers_said layers (context_by roots settings.lang)) io new err new_err before answer
       → HasDone GetSelections roots settings (run_state io child err files layers ahead before) (run_state new child new_err files left_layers ahead answer.last_code) answer []
@@ -227,7 +226,7 @@ module _ (roots : Roots) (settings : Settings) (io new child err new_err : LinkS
     code_is = refl;
   }
 
-module _ (roots : Roots) (settings : Settings) (io new child err : LinkState) (files : FilesState) (layers left_layers : List LayerState) (ahead : TypeAhead) (before : ℕ) (answer : ToolAnswer) where
+module _ (roots : Roots) (settings : Settings) (io new child err : LinkState) (files : FilesState) (layers left_layers : List LayerState) (ahead : ReadAhead) (before : ℕ) (answer : ToolAnswer) where
   -- the numbers of a drill were printed
   pub was_drilled : (count : ℕ) → HasDrilledOver count roots settings layers left_layers io new before answer
       → HasDone (Drill count) roots settings (run_state io child err files layers ahead before) (run_state new child err files left_layers ahead answer.last_code) answer []
@@ -256,13 +255,27 @@ module _ (roots : Roots) (settings : Settings) (io new child err : LinkState) (f
         code_is = refl;
       }
 
+module _ (roots : Roots) (settings : Settings) (io child new new_child err : LinkState) (files : FilesState) (layers : List LayerState) (ahead : ReadAhead) (before : ℕ) (answer : ToolAnswer) where
+  -- a program's requests were asked, or it wasn't started
+  pub was_answered : (command : List (List ℕ)) → HasAnswered command (links_of io child) (links_of new new_child) before answer
+      → HasDone (Answer command) roots settings (run_state io child err files layers ahead before) (run_state new new_child err files layers ahead answer.last_code) answer []
+  was_answered command answered = record {
+    told = [];
+    left = resources_in (begun (Answer command) (run_state io child err files layers ahead before) roots settings);
+    uses = (answered, refl, refl, refl);
+    stock_is = refl;
+    said = none_said err;
+    ahead_is = refl;
+    code_is = refl;
+  }
+
 -- the owner and the least priority of a drill's session
 module _ (count : ℕ) (layers left : List LayerState) (roots : Roots) (settings : Settings) where
-  abbrev DrillsBy : List ℕ → Option Priority → Result (List ℕ) (LinkEnd StepError) → FilesState → TerminalState → LinkState → Type 0
+  abbrev DrillsBy : List ℕ → Option Priority → Result (List ℕ) (LinkEnd StepError) → FilesState → ScreenState → LinkState → Type 0
   DrillsBy owner threshold result files terminal err = Drills count (session_at (resources_of layers files terminal err) roots settings owner (Some Noninteractive) threshold) left result
 
   pub drilled_for : (owner : List ℕ) (threshold : Option Priority) (result : Result (List ℕ) (LinkEnd StepError)) → owner ≡ codes "drill" → threshold ≡ chosen settings roots
-      → ((files : FilesState) (terminal : TerminalState) (err : LinkState) → DrillsBy owner threshold result files terminal err) → DrillsOver count roots settings layers left result
+      → ((files : FilesState) (terminal : ScreenState) (err : LinkState) → DrillsBy owner threshold result files terminal err) → DrillsOver count roots settings layers left result
   drilled_for owner threshold result owner_is chosen_is drills files terminal err =
       subst (λ (o : List ℕ). DrillsBy o (chosen settings roots) result files terminal err) owner_is
       (subst (λ (t : Option Priority). DrillsBy owner t result files terminal err) chosen_is (drills files terminal err))
@@ -272,7 +285,7 @@ pub not_started : (command : List (List ℕ)) (start : SessionState) (old new : 
     → answer.ended ≡ end_unstarted error → Starts {T = Unit {0}} command old.child new.child (Err error) → new.io ≡ old.io → left ≡ resources_in start → answer.last_code ≡ before → answer.is_started ≡ false
     → (saves : List Save) × HasRunProgram command start old new before answer left saves
 not_started command start old new before answer kept error ended_is starts io left_is code_is waits =
-    ([], inl (record { error = error; ended_is = ended_is; starts = starts; io = io; left_is = left_is; code_is = code_is; waits = waits; saves_are = refl }))
+    ([], inl (record { unstarted = record { error = error; ended_is = ended_is; starts = starts; io = io; code_is = code_is; waits = waits }; left_is = left_is; saves_are = refl }))
 
 -- the program was started and served
 pub started_so : (command : List (List ℕ)) (start : SessionState) (old new : Links) (before : ℕ) (answer : ToolAnswer) (left : Resources) (mid : LinkState) (saves : List Save)
@@ -295,6 +308,7 @@ command_of word words (CopyDb copy) named = tt
 command_of word words (SetSelections verbose check unseen) named = tt
 command_of word words GetSelections named = tt
 command_of word words (Drill count) named = tt
+command_of word words (Answer command) named = some_words command (subst IsCommand (sym named.1) named.2)
 
 -- the command that words name has a word
 pub has_command : (words : List (List ℕ)) (used : Tool) → Names words used → HasCommand used
@@ -309,13 +323,13 @@ module _ (used : Tool) (settings : Settings) (old new : World) (outcome : Outcom
   ended_before before same said is =
       subst (λ (o : Outcome). HasRunTool used settings old new o []) (sym is) (inl (before, record { child_is = same; said = said; code_is = refl; status_is = refl }, refl))
 
-  pub ended_after : (mid : Ground) (roots : Roots) (ahead : TypeAhead) (left : RunState) (answer : ToolAnswer) (inner : List Save) (saved : End) (status : ℕ) → ahead ≡ nothing_typed → HasStarted used settings.conf_path (ground_in old).sources mid roots
+  pub ended_after : (mid : Ground) (roots : Roots) (ahead : ReadAhead) (left : RunState) (answer : ToolAnswer) (inner : List Save) (saved : End) (status : ℕ) → ahead ≡ nothing_typed → HasStarted used settings.conf_path (ground_in old).sources mid roots
       → HasDone used roots settings (run_state mid.sources.link old.links.child old.err mid.sources.files mid.used ahead 0) left answer inner → (commits : (last : List Save) × Commits (keeps_changes used && comes_to_save answer.ended) answer.ended (ground_in left.world) (ground_in new) last saved)
       → Awaits answer.is_started left.world.links.child new.links.child saved how answer.status status → HasSaid (end_line how) left.world.err new.err
       → outcome ≡ record { status = status_of how status; end = how; last_code = answer.last_code } → HasRunTool used settings old new outcome ((inner ++ commits.0) ++ [])
   ended_after mid roots ahead left answer inner saved status none started does commits awaits said is =
       let done : HasDone used roots settings (before_rounds (on_ground old mid)) left answer inner
-      = subst (λ (a : TypeAhead). HasDone used roots settings (run_state mid.sources.link old.links.child old.err mid.sources.files mid.used a 0) left answer inner) none does in
+      = subst (λ (a : ReadAhead). HasDone used roots settings (run_state mid.sources.link old.links.child old.err mid.sources.files mid.used a 0) left answer inner) none does in
       let after : RunState = record { world = record { stock = new.stock; links = new.links; err = left.world.err }; ahead = left.ahead; code = left.code } in
       let round : Round = record { job = Whole used; answer = answer; left = left; inner = inner; last = commits.0; finish = saved; status = status; how = how; new = after } in
       subst (λ (o : Outcome). HasRunTool used settings old new o ((inner ++ commits.0) ++ [])) (sym is) (inr (record {

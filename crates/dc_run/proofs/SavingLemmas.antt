@@ -18,7 +18,7 @@ use Rattle.dc_serve.specs.declared.outcome.LinkEnd.{LinkEnd}
 use Rattle.dc_session.specs.Answers.{names_on}
 use Rattle.dc_session.specs.Machine.{TakesLine, TellsStore, Steps, StepsHeard, asks_to_save, sent_in}
 use Rattle.dc_session.specs.Serving.{IsServedBy, Resources}
-use Rattle.dc_session.specs.SessionState.{SessionState, TerminalState}
+use Rattle.dc_session.specs.SessionState.{SessionState, ScreenState}
 use Rattle.dc_session.specs.declared.asking.Asking.{Asking}
 use Rattle.dc_session.specs.declared.policy.AskPolicy.{AskPolicy}
 use Rattle.dc_session.specs.declared.stepped.Stepped.{Stepped}
@@ -119,7 +119,7 @@ line_keeps old new line did takes = elim (takes_saving old new line did takes) [
 pub line_counts : (old new : SessionState) (line : Line) (did : Response) → TakesSaving old line did new → CountsNothing old new
 line_counts old new line did takes = elim (takes_saving old new line did takes) [
   | inl alone ↦ course_counts old (record { line = line; did = did; new = new } ∷ []) (alone, (λ stop. refl), tt)
-  | inr all ↦ ap (λ (s : SessionState). s.terminal.link.counts) all.1.new_is ∙ ap (λ (t : TerminalState). t.link.counts) (kept_terminal old takes.mid did all.0)
+  | inr all ↦ ap (λ (s : SessionState). s.terminal.link.counts) all.1.new_is ∙ ap (λ (t : ScreenState). t.link.counts) (kept_terminal old takes.mid did all.0)
 ]
 
 -- a session that asks nobody stays one
@@ -224,7 +224,7 @@ module _ (old mid new : SessionState) (line : Line) (stepped : Stepped) (steps :
       record { asks = asked; is = none.is; new_is = none.new_is }
 
 -- a session over the same, but for its layers and what they told
-pub same_session : (layers others : List LayerState) (told tells : List ℕ) (files : FilesState) (terminal : TerminalState) (err : LinkState) (at other : QuestionContext) (owner name : List ℕ) (policy : AskPolicy) (asking : Asking)
+pub same_session : (layers others : List LayerState) (told tells : List ℕ) (files : FilesState) (terminal : ScreenState) (err : LinkState) (at other : QuestionContext) (owner name : List ℕ) (policy : AskPolicy) (asking : Asking)
     → others ≡ layers → tells ≡ told → other ≡ at → name ≡ owner
     → ◌≡◌ {A = SessionState} (record { store = stored others tells; files = files; terminal = terminal; err = err; at = other; owner = name; policy = policy; asking = asking })
     (record { store = stored layers told; files = files; terminal = terminal; err = err; at = at; owner = owner; policy = policy; asking = asking })

@@ -24,7 +24,7 @@ use Rattle.dc_shelf.specs.Shelves.{LoadsAll, Sources, all_patterns, all_set_up, 
 use Rattle.dc_shelf.specs.declared.loading.SourceError.{SourceError}
 use Rattle.dc_cli.specs.declared.tool.CopyWords.{CopyWords}
 use Rattle.dc_cli.specs.declared.tool.Tool.{Tool}
-use Rattle.dc_cli.specs.declared.tool.Tool.TheVariants.{Communicate, LoadTemplate, Run, Show, CopyDb, SetSelections, GetSelections, Drill}
+use Rattle.dc_cli.specs.declared.tool.Tool.TheVariants.{Communicate, LoadTemplate, Run, Show, CopyDb, SetSelections, GetSelections, Drill, Answer}
 use Rattle.dc_run.specs.Inside.{AreApartIn, ArePatternsOf, IsCopyBy, IsMisusedIn, IsResolvedFor, IsUnbuilt, plans_of}
 use Rattle.dc_run.specs.Starting.{AreApart, AreDisjointFor, AreOver, EndsUnloaded, ReadsConf, HasEachOnce, HasLoaded, HasReadConf, HasStarted, IsConfiguration, IsCopyIn, IsCopyOver, IsFit, IsPlanIn, are_patterns, conf_read_in, conf_text, databases_of, dest_of, has_files, misused_among, pattern_words, roots, source_of}
 use Rattle.dc_run.specs.Ends.{end_of_conf}
@@ -83,6 +83,7 @@ some_text used (Some files) path answer reads = record { text = text_in (bytes_a
 
 pub own_text : (used : Tool) (disk : Option Disk) (path text : List ℕ) (answer : Result Configuration ConfError) → has_files used ≡ false → IsAnswer (conf_text used text) answer → HasText used disk path answer
 own_text (Drill count) disk path text answer none reads = some_text (Drill count) disk path answer (λ other. reads)
+own_text (Answer command) disk path text answer none reads = some_text (Answer command) disk path answer (λ other. reads)
 own_text (Communicate owner) disk path text answer none reads = absurd (cc)
 own_text (LoadTemplate owner paths) disk path text answer none reads = absurd (cc)
 own_text (Run owner frontend priority command) disk path text answer none reads = absurd (cc)
@@ -170,6 +171,7 @@ copied (CopyDb copy) conf by_name by_owner made are is have =
 copied (SetSelections verbose check unseen) conf by_name by_owner made are is have = none_copied made is
 copied GetSelections conf by_name by_owner made are is have = none_copied made is
 copied (Drill count) conf by_name by_owner made are is have = none_copied made is
+copied (Answer command) conf by_name by_owner made are is have = none_copied made is
 
 copy_once : (made : Option CopyRootsOf) → AllByRecursion IsOnce (dests made) → AllByRecursion HasEachOnce (option_to_list (option_map (λ copy. copy.dest) (option_map shaped_copy made)))
 copy_once None once = tt
@@ -192,6 +194,7 @@ apart_by (CopyDb copy) by_name by_owner taken count is over apart =
 apart_by (SetSelections verbose check unseen) by_name by_owner taken count is over apart = two_apart taken.config taken.templates taken.copy is apart
 apart_by GetSelections by_name by_owner taken count is over apart = two_apart taken.config taken.templates taken.copy is apart
 apart_by (Drill questions) by_name by_owner taken count is over apart = two_apart taken.config taken.templates taken.copy is apart
+apart_by (Answer command) by_name by_owner taken count is over apart = two_apart taken.config taken.templates taken.copy is apart
 
 disjoint_for : (used : Tool) (taken : RootsOf) (count : ℕ) → AreApart used (shaped taken) count → AreDisjointFor used (shaped taken)
 disjoint_for (Communicate owner) taken count apart = apart
@@ -202,6 +205,7 @@ disjoint_for (CopyDb copy) taken count apart = tt
 disjoint_for (SetSelections verbose check unseen) taken count apart = apart
 disjoint_for GetSelections taken count apart = apart
 disjoint_for (Drill questions) taken count apart = apart
+disjoint_for (Answer command) taken count apart = apart
 
 module _ (used : Tool) (conf : Configuration) (resolved : Resolved) (by_name by_owner : Option Sought) (taken : RootsOf) (are : AreRootsOf used conf resolved.plans by_name by_owner taken) (is : IsResolvedFor used conf resolved) where
   -- of the plans of the roots what is of all that were resolved
@@ -252,6 +256,7 @@ other_misuses (CopyDb copy) specs none = absurd (none copy refl)
 other_misuses (SetSelections verbose check unseen) specs none = refl
 other_misuses GetSelections specs none = refl
 other_misuses (Drill count) specs none = refl
+other_misuses (Answer command) specs none = refl
 
 -- what is found is one of them, and so is what is said of all
 found_is : (P Q : LayerSpec → Bool) (specs : List LayerSpec) (spec : LayerSpec) → find P specs ≡ Some spec → list_all Q specs ≡ true → Q spec ≡ true

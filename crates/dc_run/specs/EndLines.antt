@@ -32,6 +32,7 @@ end_line end.LinkFault = codes "dckit: link failed" ++ newline ∷ []
 end_line end.TermFault = codes "dckit: terminal failed" ++ newline ∷ []
 end_line end.ChildFault = codes "dckit: child failed" ++ newline ∷ []
 end_line end.TooLong = codes "dckit: input too long" ++ newline ∷ []
+end_line (end.BadWire at) = codes "dckit: other end, line " ++ decimal at ++ codes ": unreadable" ++ newline ∷ []
 
 -- a call failed or was refused for want of memory, and its count rose
 pub record HasRisen (before now : Counts) : Type 0 where

@@ -3,6 +3,8 @@ use Rattle.std.specs.Prelude.{◌≡◌, ◌⊎◌, ℕ, codes, Bool, true, fals
 use Rattle.dc_outside.specs.Counts.{Rose, FaultRose, RefusalRose}
 use Rattle.dc_outside.specs.Counts.{Counts}
 use Rattle.dc_outside.specs.State.{LinkState}
+use Rattle.dc_answer.specs.declared.answerer.AnswerBreak.{AnswerBreak}
+use Rattle.dc_answer.specs.declared.answerer.AnswerBreak.TheVariants as broken
 use Rattle.dc_conf.specs.declared.faults.ConfError.{ConfError}
 use Rattle.dc_conf.specs.declared.faults.ConfError.TheVariants as conf
 use Rattle.dc_layer.specs.declared.pattern.PatternError.{PatternError}
@@ -43,6 +45,7 @@ status_of end.LinkFault status = 124
 status_of end.TermFault status = 124
 status_of end.ChildFault status = 124
 status_of end.TooLong status = 125
+status_of (end.BadWire line) status = 124
 
 -- the end of a run whose configuration is refused
 abbrev pub end_of_conf : ConfError → End
@@ -81,9 +84,20 @@ tool_end_of link.LinkFault = tool.LinkFault
 tool_end_of link.TooLong = tool.TooLong
 tool_end_of link.OutOfMemory = tool.OutOfMemory
 tool_end_of (link.Broken (saving.Step step.Term)) = tool.TermFault
+tool_end_of (link.Broken (saving.Step (step.Wire line))) = tool.BadWire line
 tool_end_of (link.Broken (saving.Step step.OutOfMemory)) = tool.OutOfMemory
 tool_end_of (link.Broken (saving.Save (save.Failed path))) = tool.FilesFault path
 tool_end_of (link.Broken (saving.Save save.OutOfMemory)) = tool.OutOfMemory
+
+-- how `answer` ended, by the end of its wire
+abbrev pub answer_end : LinkEnd AnswerBreak → ToolEnd
+answer_end link.Done = tool.Done
+answer_end link.LinkFault = tool.LinkFault
+answer_end link.TooLong = tool.TooLong
+answer_end link.OutOfMemory = tool.OutOfMemory
+answer_end (link.Broken (broken.Wire line)) = tool.BadWire line
+answer_end (link.Broken broken.Term) = tool.TermFault
+answer_end (link.Broken broken.OutOfMemory) = tool.OutOfMemory
 
 -- the end of a run whose tool ended so
 abbrev pub end_of : ToolEnd → End
@@ -95,6 +109,7 @@ end_of tool.ChildFault = end.ChildFault
 end_of tool.TooLong = end.TooLong
 end_of tool.OutOfMemory = end.OutOfMemory
 end_of (tool.FilesFault path) = end.FilesFault path
+end_of (tool.BadWire line) = end.BadWire line
 
 -- The end of a run whose tool ended so, and whose layers weren't saved. A fault of the link and too long an input came first and
 -- stay.
@@ -118,6 +133,7 @@ comes_to_save tool.TermFault = false
 comes_to_save tool.ChildFault = false
 comes_to_save tool.OutOfMemory = false
 comes_to_save (tool.FilesFault path) = false
+comes_to_save (tool.BadWire line) = false
 
 -- the ends of a tool after which the layers are saved
 abbrev pub IsEnded : ToolEnd → Type 0
@@ -129,6 +145,7 @@ IsEnded tool.TermFault = ⊥
 IsEnded tool.ChildFault = ⊥
 IsEnded tool.OutOfMemory = ⊥
 IsEnded (tool.FilesFault path) = ⊥
+IsEnded (tool.BadWire line) = ⊥
 
 -- the end of a run that did all, but for a wait for its program that failed; another end stays
 abbrev pub end_unwaited : End → End
@@ -150,7 +167,7 @@ abbrev pub MayRise : Counts → Counts → Type 0
 MayRise before now = (now ≡ before) ⊎ FaultRose before now ⊎ RefusalRose before now
 
 -- How the links count the calls of a run, by its end: a fault where the served one failed, which the end tells unless what came after it found
--- no memory; a fault of the terminal, which is the program's own link; and a refusal where one found no memory itself.
+-- no memory; a fault of the terminal or the wire, which is the program's own link; and a refusal where one found no memory itself.
 abbrev pub LinksCount : End → Links → Links → Type 0
 LinksCount end.LinkFault before now = Both FaultRose Stays before now ⊎ Both Stays FaultRose before now
 LinksCount end.TermFault before now = Both FaultRose Stays before now

@@ -84,6 +84,7 @@ Finishes left new tool.PrintFault how = IsBrokenOff left new tool.PrintFault how
 Finishes left new tool.TermFault how = IsBrokenOff left new tool.TermFault how
 Finishes left new tool.ChildFault how = IsBrokenOff left new tool.ChildFault how
 Finishes left new (tool.FilesFault path) how = IsBrokenOff left new (tool.FilesFault path) how
+Finishes left new (tool.BadWire line) how = IsBrokenOff left new (tool.BadWire line) how
 Finishes left new ended how = IsSaved left new ended how ⊎ IsUnsaved left new ended how ⊎ IsWithoutMemory left new ended how ⊎ IsUnsent left new ended how
 
 -- the same of a tool of which nothing is saved, and of any other

@@ -43,7 +43,7 @@ use Rattle.dc_run.specs.declared.outcome.ToolAnswer.{ToolAnswer}
 use Rattle.dc_run.specs.declared.outcome.ToolEnd.{ToolEnd}
 use Rattle.dc_run.specs.declared.serving.RunAsking.{RunAsking}
 use Rattle.dc_cli.specs.declared.tool.Tool.{Tool}
-use Rattle.dc_cli.specs.declared.tool.Tool.TheVariants.{Run, Show, CopyDb}
+use Rattle.dc_cli.specs.declared.tool.Tool.TheVariants.{Run, Show, CopyDb, Answer}
 use Rattle.dc_cli.specs.declared.tool.PlacedWord.{PlacedWord}
 use Rattle.dc_tools.specs.declared.report.CopyReport.{CopyReport}
 use Rattle.dc_run.specs.Jobs.{Copies, Prints, PrintsMade, TellsUnsaid, refused_status, selections_end}
@@ -53,7 +53,7 @@ use Rattle.dc_preseed.specs.Selecting.{HasSelected, selections_over}
 use Rattle.dc_preseed.specs.declared.selected.Choices.{Choices}
 use Rattle.dc_text.specs.declared.memory.OutOfMemory.{OutOfMemory as NoMemory}
 use Rattle.dc_frontend.specs.declared.frontend.Frontend.TheVariants.{Noninteractive}
-use Rattle.dc_session.specs.SessionState.{TerminalState}
+use Rattle.dc_session.specs.SessionState.{ScreenState}
 use Rattle.dc_run.specs.declared.settings.Settings.{Settings}
 use Rattle.dc_run.specs.declared.outcome.ToolEnd.TheVariants as tool
 use Rattle.dc_run.specs.Starting.{IsRefusedFor, IsWrongWord, chosen, session_at, are_patterns, databases_of, misused_among, roots, sought}
@@ -169,6 +169,7 @@ asked_run asking command = Run asking.owner.now asking.frontend asking.priority 
 -- the command of a tool that has one has a word
 abbrev pub HasCommand : Tool → Type 0
 HasCommand (Run owner frontend priority command) = 0 < length command
+HasCommand (Answer command) = 0 < length command
 HasCommand used = Unit {0}
 
 -- ---- the databases of a tool
@@ -331,7 +332,7 @@ pub record HasTakenOver (choices : Choices) (at : QuestionContext) (layers left 
 -- a session of these roots over these layers, whatever else it works on, was served the commands for so many questions
 abbrev pub DrillsOver : ℕ → Roots → Settings → List LayerState → List LayerState → Result (List ℕ) (LinkEnd StepError) → Type 0
 DrillsOver count roots settings layers left result =
-    (files : FilesState) (terminal : TerminalState) (err : LinkState)
+    (files : FilesState) (terminal : ScreenState) (err : LinkState)
     → Drills count
     (session_at (resources_of layers files terminal err) roots settings (codes "drill") (Some Noninteractive) (chosen settings roots)) left result
 

@@ -26,7 +26,7 @@ use Rattle.dc_session.specs.SessionState.{SessionState}
 use Rattle.dc_session.specs.declared.stepped.StepError.{StepError}
 use Rattle.dc_run.specs.declared.outcome.ToolAnswer.{ToolAnswer}
 use Rattle.dc_cli.specs.declared.tool.Tool.{Tool}
-use Rattle.dc_cli.specs.declared.tool.Tool.TheVariants.{Communicate, LoadTemplate, Run, Show, CopyDb, SetSelections, GetSelections, Drill}
+use Rattle.dc_cli.specs.declared.tool.Tool.TheVariants.{Communicate, LoadTemplate, Run, Show, CopyDb, SetSelections, GetSelections, Drill, Answer}
 use Rattle.dc_cli.specs.declared.tool.Shown.{Shown}
 use Rattle.dc_cli.specs.declared.tool.Shown.TheVariants.{Questions, Owners, Databases}
 use Rattle.dc_run.specs.declared.outcome.ToolEnd.{ToolEnd}
@@ -34,7 +34,7 @@ use Rattle.dc_run.specs.declared.outcome.ToolEnd.TheVariants as tool
 use Rattle.dc_run.specs.Roots.{CopyRoots}
 use Rattle.dc_run.specs.Roots.{Roots}
 use Rattle.dc_run.specs.Ends.{tool_end_of}
-use Rattle.dc_run.specs.Running.{HasRunProgram}
+use Rattle.dc_run.specs.Running.{HasAnswered, HasRunProgram}
 use Rattle.dc_run.specs.Saves.{Save}
 use Rattle.dc_run.specs.SavingSession.{IsServedSaving}
 use Rattle.dc_run.specs.declared.saving_session.SavingBreak.{SavingBreak}
@@ -211,3 +211,5 @@ Uses (SetSelections verbose check unseen) roots start old new before answer said
 Uses GetSelections roots start old new before answer said left saves = HasSaidAnswers start old new before answer said left × (saves ≡ [])
 Uses (Drill count) roots start old new before answer said left saves =
     HasDrilled count start old new before answer left × (said ≡ []) × (saves ≡ [])
+Uses (Answer command) roots start old new before answer said left saves =
+    HasAnswered command old new before answer × (left ≡ resources_in start) × (said ≡ []) × (saves ≡ [])

@@ -42,7 +42,7 @@ use Rattle.dc_run.specs.Ends.{end_of_conf, end_of_pattern, end_of_patterns, end_
 use Rattle.dc_run.specs.World.{Ground, RunState}
 use Rattle.dc_cli.specs.Tools.{owner_of}
 use Rattle.dc_cli.specs.declared.tool.Tool.{Tool}
-use Rattle.dc_cli.specs.declared.tool.Tool.TheVariants.{Run, Show, CopyDb, SetSelections, Drill}
+use Rattle.dc_cli.specs.declared.tool.Tool.TheVariants.{Run, Show, CopyDb, SetSelections, Drill, Answer}
 use Rattle.dc_cli.specs.DatabaseWords.{is_name_field}
 use Rattle.dc_cli.specs.declared.tool.ConfigLine.{ConfigLine}
 use Rattle.dc_cli.specs.declared.tool.CopyWords.{CopyWords}
@@ -54,21 +54,24 @@ use Rattle.dc_cli.specs.declared.tool.PlacedWord.{PlacedWord}
 abbrev pub added_line : ConfigLine → List ℕ
 added_line line = (if is_name_field line.field then newline ∷ [] else []) ++ line.field ++ codes ": " ++ line.value ++ newline ∷ []
 
--- whether a tool works on databases that are kept in files; `drill` has some of its own, which are empty at first and nowhere kept
+-- whether a tool works on databases that are kept in files; `drill` has some of its own, which are empty at first and nowhere kept, and `answer`
+-- uses none
 abbrev pub has_files : Tool → Bool
 has_files (Drill count) = false
+has_files (Answer command) = false
 has_files used = true
 
--- the databases of `drill`: two of questions, of which the first rejects each name that ends with a two, and one of templates
-abbrev pub drill_configuration : List ℕ
-drill_configuration =
+-- the databases of a tool that stands on no configuration: two of questions, of which the first rejects each name that ends with a two, and one of templates
+abbrev pub own_configuration : List ℕ
+own_configuration =
     codes "Config: config\nTemplates: t\n\nName: config\nDriver: Stack\nStack: a, b\n\nName: a\nDriver: File\nFilename: a\nReject-Name: 2$\n"
     ++ codes "\nName: b\nDriver: File\nFilename: b\n\nName: t\nDriver: File\nFilename: t\n"
 
--- the text that a tool reads as its configuration, of what the file holds; `drill` has one of its own
+-- the text that a tool reads as its configuration, of what the file holds; a tool that stands on none has one of its own
 abbrev pub conf_text : Tool → List ℕ → List ℕ
 conf_text (CopyDb copy) text = text ++ newline ∷ flat_map added_line copy.config
-conf_text (Drill count) text = drill_configuration
+conf_text (Drill count) text = own_configuration
+conf_text (Answer command) text = own_configuration
 conf_text used text = text
 
 -- the text at the path gives a tool this configuration; a file that isn't there is the empty text

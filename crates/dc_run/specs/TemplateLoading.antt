@@ -88,6 +88,7 @@ EndsAt tool.TooLong state rest new = ⊥
 EndsAt tool.PrintFault state rest new = ⊥
 EndsAt tool.TermFault state rest new = ⊥
 EndsAt tool.ChildFault state rest new = ⊥
+EndsAt (tool.BadWire line) state rest new = ⊥
 
 -- From this state the files at the paths were loaded, up to the end of the tool: what was told, its status, and the state that it left.
 pub record HasLoadedFiles (start : SessionState) (paths : List (List ℕ)) (ended : ToolEnd) (said : List ℕ) (status : ℕ) (new : SessionState) : Type 0 where

@@ -3,10 +3,9 @@ use Rattle.std.specs.Prelude.{◌≡◌, ◌≤◌, ℕ, List, [], length, map a
 use Rattle.dc_conf.specs.declared.spec.LayerSort.TheVariants.{File, Tree, Pack, Pipe}
 use Rattle.dc_layer.specs.State.{LayerState}
 use Rattle.dc_outside.specs.State.{LinkState, FilesState}
-use Rattle.dc_session.specs.SessionState.{nothing_typed}
+use Rattle.dc_session.specs.SessionState.{ReadAhead, nothing_typed}
 use Rattle.dc_shelf.specs.Shelves.{AreBlank, Sources, sources_of}
 use Rattle.dc_shelf.specs.declared.shelf.Shelf.{Shelf}
-use Rattle.dc_teletype.specs.TerminalLines.{TypeAhead}
 
 -- the files, and the layers that are used
 pub record Stock : Type 0 where
@@ -41,7 +40,7 @@ on_ground world found =
 -- what one round of a run hands to the next: the world, what was typed on the terminal and isn't used yet, and the code of the last reply
 pub record RunState : Type 0 where
   pub world : World
-  pub ahead : TypeAhead
+  pub ahead : ReadAhead
   pub code : ℕ
 
 -- a run in this world, before its first round
@@ -61,7 +60,7 @@ abbrev pub links_of : LinkState → LinkState → Links
 links_of io child = record { io = io; child = child }
 
 -- these links, standard error, files and layers, with what was typed ahead and the code of the last reply
-abbrev pub run_state : LinkState → LinkState → LinkState → FilesState → List LayerState → TypeAhead → ℕ → RunState
+abbrev pub run_state : LinkState → LinkState → LinkState → FilesState → List LayerState → ReadAhead → ℕ → RunState
 run_state io child err files used ahead code =
     record { world = record { stock = stock_of files used; links = links_of io child; err = err }; ahead = ahead; code = code }
 

@@ -3,7 +3,7 @@ ghost use Rattle.std.specs.Prelude.{◌≡◌, ◌||◌, [], is_some, length, ma
 ghost use Rattle.dc_conf.specs.Plans.{IsOver, are_disjoint};
 ghost use Rattle.dc_conf.specs.Trees.{shape};
 ghost use Rattle.dc_session.specs.Serving.{resources_of};
-ghost use Rattle.dc_session.specs.SessionState.{LinkState, TerminalState};
+ghost use Rattle.dc_session.specs.SessionState.{LinkState, ScreenState};
 ghost use Rattle.dc_session.specs.declared.asking.Asking.{Asking};
 ghost use Rattle.dc_session.specs.declared.policy.AskPolicy.{AskPolicy};
 ghost use Rattle.dc_run.specs.Inside.{end_text, is_unread, status_by, loading_over, LoadsOne, LoadsFiles, HasLoadedOver};
@@ -23,14 +23,14 @@ use std::marker::PhantomData;
 /// What template files are loaded into.
 trait TakesTemplates {
     ghost use Rattle.std.specs.Prelude.{◌≡◌, []};
-    ghost use Rattle.dc_session.specs.SessionState.{LinkState, SessionState, TerminalState};
+    ghost use Rattle.dc_session.specs.SessionState.{LinkState, SessionState, ScreenState};
     ghost use Rattle.dc_store.specs.Plans.{stored};
     ghost use Rattle.dc_session.specs.FileLoading.{Loads};
     ghost use Rattle.dc_session.specs.declared.asking.Asking.{Asking};
     ghost use Rattle.dc_session.specs.declared.policy.AskPolicy.{AskPolicy};
 
     /// The state that it works on, of a session that asks so, which templates don't look at.
-    ghost state_at: { Self → TerminalState → LinkState → AskPolicy → Asking → SessionState };
+    ghost state_at: { Self → ScreenState → LinkState → AskPolicy → Asking → SessionState };
 
     ghost Kept: { Type 0 };
 
@@ -39,15 +39,15 @@ trait TakesTemplates {
 
     /// Loads the templates of the file at the path for the owner of the state (debconf-loadtemplate(1)): all of them, or none.
     fn load_file(&mut self, path: &Text) -> Mem<FileEnd>
-        ensures loads { (terminal : TerminalState) (err : LinkState) (policy : AskPolicy) (asking : Asking)
+        ensures loads { (terminal : ScreenState) (err : LinkState) (policy : AskPolicy) (asking : Asking)
             → Loads path.now (state_at self.old terminal err policy asking) (state_at self.new terminal err policy asking) result }
         ensures kept { kept self.new ≡ kept self.old };
 
     /// Takes what the layers told.
     fn take_told(&mut self) -> Text
-        ensures told { (terminal : TerminalState) (err : LinkState) (policy : AskPolicy) (asking : Asking)
+        ensures told { (terminal : ScreenState) (err : LinkState) (policy : AskPolicy) (asking : Asking)
             → result ≡ (state_at self.old terminal err policy asking).store.told }
-        ensures left { (terminal : TerminalState) (err : LinkState) (policy : AskPolicy) (asking : Asking)
+        ensures left { (terminal : ScreenState) (err : LinkState) (policy : AskPolicy) (asking : Asking)
             → state_at self.new terminal err policy asking ≡ record (state_at self.old terminal err policy asking) {
               store = stored (state_at self.old terminal err policy asking).store.layers [];
             } }
@@ -116,7 +116,7 @@ pub fn load_template_files<E: Link, F: Files>(
     requires config { IsOver (shape config.now) (length layers.old.items) }
     requires templates { IsOver (shape templates.now) (length layers.old.items) }
     requires disjoint { are_disjoint (shape config.now) (shape templates.now) ≡ true }
-    ensures { (terminal : TerminalState) (untold : LinkState) (policy : AskPolicy) (asking : Asking) → HasLoadedOver
+    ensures { (terminal : ScreenState) (untold : LinkState) (policy : AskPolicy) (asking : Asking) → HasLoadedOver
         (loading_over (resources_of (each state layers.old.items) (F.files files.old) terminal untold)
         (record { config = shape config.now; templates = shape templates.now; lang = lang.now }) owner.now policy asking)
         paths.now (E.link err.old) (E.link err.new) last_code result (each state layers.new.items) (F.files files.new) }
@@ -157,7 +157,7 @@ fn load_files<S: TakesTemplates, E: Link>(
     err: &mut E,
     paths: &[Text],
 ) -> FilesLoaded
-    ensures loads { (terminal : TerminalState) (untold : LinkState) (policy : AskPolicy) (asking : Asking) → LoadsFiles
+    ensures loads { (terminal : ScreenState) (untold : LinkState) (policy : AskPolicy) (asking : Asking) → LoadsFiles
         (S.state_at session.old terminal untold policy asking)
         paths.now (E.link err.old) (E.link err.new) result (S.state_at session.new terminal untold policy asking) }
     ensures kept { S.kept session.new ≡ S.kept session.old }
@@ -189,7 +189,7 @@ fn load_one<S: TakesTemplates, E: Link>(
     err: &mut E,
     path: &Text,
 ) -> Result<bool, ToolEnd>
-    ensures loads { (terminal : TerminalState) (untold : LinkState) (policy : AskPolicy) (asking : Asking) → LoadsOne
+    ensures loads { (terminal : ScreenState) (untold : LinkState) (policy : AskPolicy) (asking : Asking) → LoadsOne
         (S.state_at session.old terminal untold policy asking)
         path.now (E.link err.old) (E.link err.new) result (S.state_at session.new terminal untold policy asking) }
     ensures kept { S.kept session.new ≡ S.kept session.old }

@@ -12,6 +12,7 @@ ghost use Rattle.dc_run.specs.Starting.{AreApart, AreOver};
 ghost use Rattle.dc_run.specs.World.{IsReady, run_state, world};
 ghost use Rattle.dc_run.specs.Roots.{shaped};
 
+use crate::answering::answer_program;
 use crate::copying::copy_database;
 use crate::drilling::drill_layers;
 use crate::finishing::finish_used;
@@ -28,8 +29,8 @@ use dc_cli::{Tool, ToolError, read_tool};
 use dc_layer::Layer;
 use dc_outside::{Child, Files, Link};
 use dc_preseed::Choices;
+use dc_session::ReadAhead;
 use dc_shelf::Shelf;
-use dc_teletype::Teletype;
 use dc_text::{List, Text};
 use std::alloc::Global;
 
@@ -43,8 +44,9 @@ use std::alloc::Global;
 /// the other go out on it. `set-selections` answers questions
 /// before they are asked, as debconf-set-selections(1) does, by the lines that come on the link, and `get-selections` prints such lines of all answers, as
 /// debconf-get-selections(1) does. Then what changed in the layers is saved, and the
-/// program waited for. `drill N` serves many valid commands over databases of its own, which are nowhere kept, and counts them. An end other
-/// than `Done` is told on `err`.
+/// program waited for. `drill N` serves many valid commands over databases of its own, which are nowhere kept, and counts them. `answer COMMAND` starts a
+/// program, and asks on `io` what that asks for over its wire, as the other end of the frontend `passthrough` (debconf(7)); it uses no database. An end
+/// other than `Done` is told on `err`.
 pub fn run_words<L: Link, E: Link, C: Child, F: Files>(
     alloc: Global,
     words: &List<Text>,
@@ -93,7 +95,7 @@ fn run_tool<L: Link, E: Link, C: Child, F: Files>(
     match start(alloc, tool, &settings.conf_path, io, files, shelf) {
         Err(end) => end_run(err, end, 0, 0),
         Ok(roots) => {
-            let mut teletype = Teletype::new(alloc);
+            let mut ahead = ReadAhead::new(alloc);
             let answer = use_tool(
                 alloc,
                 tool,
@@ -104,7 +106,7 @@ fn run_tool<L: Link, E: Link, C: Child, F: Files>(
                 child,
                 files,
                 &mut shelf.used,
-                &mut teletype,
+                &mut ahead,
                 0,
             );
             let ToolAnswer {
@@ -139,7 +141,7 @@ fn use_tool<L: Link, E: Link, C: Child, F: Files>(
     child: &mut C,
     files: &mut F,
     used: &mut Vec<Box<dyn Layer>>,
-    teletype: &mut Teletype,
+    ahead: &mut ReadAhead,
     last_code: u8,
 ) -> ToolAnswer
     requires roots { AreOver (shaped roots.now) (length used.old.items) }
@@ -147,15 +149,15 @@ fn use_tool<L: Link, E: Link, C: Child, F: Files>(
     requires idle { IsIdle (C.link child.old).program.life }
     requires command { HasCommand tool.now }
     ensures does { (saves : List Save) × HasDone tool.now (shaped roots.now) settings.now
-        (run_state (L.link io.old) (C.link child.old) (E.link err.old) (F.files files.old) (each state used.old.items) teletype.old.ahead last_code)
-        (run_state (L.link io.new) (C.link child.new) (E.link err.new) (F.files files.new) (each state used.new.items) teletype.new.ahead
+        (run_state (L.link io.old) (C.link child.old) (E.link err.old) (F.files files.old) (each state used.old.items) ahead.old last_code)
+        (run_state (L.link io.new) (C.link child.new) (E.link err.new) (F.files files.new) (each state used.new.items) ahead.new
         result.last_code)
         result saves }
     ensures running { result.is_started ≡ true → IsRunning (C.link child.new).program.life }
 {
     match tool {
         Tool::Communicate { owner } => communicate(
-            alloc, owner, roots, settings, io, err, files, used, teletype, last_code,
+            alloc, owner, roots, settings, io, err, files, used, ahead, last_code,
         ),
         Tool::LoadTemplate { owner, paths } => load_template_files(
             alloc,
@@ -181,7 +183,7 @@ fn use_tool<L: Link, E: Link, C: Child, F: Files>(
                 priority: *priority,
             };
             run_program(
-                alloc, command, &asking, roots, settings, io, err, child, files, used, teletype,
+                alloc, command, &asking, roots, settings, io, err, child, files, used, ahead,
                 last_code,
             )
         }
@@ -216,6 +218,7 @@ fn use_tool<L: Link, E: Link, C: Child, F: Files>(
         Tool::Drill { count } => {
             drill_layers(alloc, *count, roots, settings, io, used, last_code)
         }
+        Tool::Answer { command } => answer_program(alloc, command, io, child, last_code),
     }
 }
 

@@ -18,11 +18,10 @@ use dc_question::Questions;
 use dc_save::SaveError;
 use dc_serve::{Conversation, LineMachine, LinkEnd, Response, serve_link};
 use dc_session::{
-    AskPolicy, Asking, Session, SessionQuestions, SessionSetup, StepError, Stepped, ask_policy,
-    finish_served, sent_in,
+    AskPolicy, Asking, ReadAhead, Session, SessionQuestions, SessionSetup, StepError, Stepped,
+    ask_policy, finish_served, sent_in,
 };
 use dc_store::Store;
-use dc_teletype::Teletype;
 use dc_words::Line;
 use std::alloc::Global;
 use std::marker::PhantomData;
@@ -171,7 +170,7 @@ pub fn serve_saving<L: Link, T: Link, E: Link, F: Files>(
     alloc: Global,
     io: &mut L,
     terminal: &mut T,
-    teletype: &mut Teletype,
+    ahead: &mut ReadAhead,
     err: &mut E,
     files: &mut F,
     layers: &mut Vec<Box<dyn Layer>>,
@@ -185,8 +184,8 @@ pub fn serve_saving<L: Link, T: Link, E: Link, F: Files>(
     requires disjoint { are_disjoint (shape config.now) (shape templates.now) ≡ true }
     ensures { (saves : List Save) × IsServedSaving
         (session_by setup.now (shape config.now) (shape templates.now)
-        (resources_of (each state layers.old.items) (F.files files.old) (terminal_at (T.link terminal.old) teletype.old.ahead) (E.link err.old)))
-        (resources_of (each state layers.new.items) (F.files files.new) (terminal_at (T.link terminal.new) teletype.new.ahead) (E.link err.new))
+        (resources_of (each state layers.old.items) (F.files files.old) (terminal_at (T.link terminal.old) ahead.old) (E.link err.old)))
+        (resources_of (each state layers.new.items) (F.files files.new) (terminal_at (T.link terminal.new) ahead.new) (E.link err.new))
         (L.link io.old) (L.link io.new) result.end last_code result.last_code saves }
 {
     let mut store = Store::new(alloc, std::mem::replace(layers, Vec::new(alloc)));
@@ -199,7 +198,7 @@ pub fn serve_saving<L: Link, T: Link, E: Link, F: Files>(
                 alloc,
                 io,
                 terminal,
-                teletype,
+                ahead,
                 err,
                 files,
                 layers,
@@ -224,7 +223,7 @@ fn serve_desk<L: Link, T: Link, E: Link, F: Files>(
     alloc: Global,
     io: &mut L,
     terminal: &mut T,
-    teletype: &mut Teletype,
+    ahead: &mut ReadAhead,
     err: &mut E,
     files: &mut F,
     layers: &mut Vec<Box<dyn Layer>>,
@@ -234,11 +233,11 @@ fn serve_desk<L: Link, T: Link, E: Link, F: Files>(
     last_code: u8,
 ) -> Conversation<SavingBreak>
     ensures { (saves : List Save) × IsServedSaving
-        (session_at_desk state desk.entry (F.files files.old) (terminal_at (T.link terminal.old) teletype.old.ahead) (E.link err.old) policy asking.old)
-        (resources_of (each state layers.new.items) (F.files files.new) (terminal_at (T.link terminal.new) teletype.new.ahead) (E.link err.new))
+        (session_at_desk state desk.entry (F.files files.old) (terminal_at (T.link terminal.old) ahead.old) (E.link err.old) policy asking.old)
+        (resources_of (each state layers.new.items) (F.files files.new) (terminal_at (T.link terminal.new) ahead.new) (E.link err.new))
         (L.link io.old) (L.link io.new) result.end last_code result.last_code saves }
 {
-    let session = Session::new(alloc, desk, files, terminal, teletype, err, policy, asking);
+    let session = Session::new(alloc, desk, files, terminal, ahead, err, policy, asking);
     let mut saving = SavingSession {
         alloc,
         session,
@@ -250,10 +249,10 @@ fn serve_desk<L: Link, T: Link, E: Link, F: Files>(
         session,
         of: _,
     } = saving;
-    let (desk, files_left, terminal_left, teletype_left, err_left) = session.into_parts();
+    let (desk, files_left, terminal_left, ahead_left, err_left) = session.into_parts();
     let_go(files_left);
     let_go(terminal_left);
-    let_go(teletype_left);
+    let_go(ahead_left);
     let_go(err_left);
     *layers = desk.into_layers(alloc);
     ended

@@ -25,8 +25,7 @@ use dc_layer::Layer;
 use dc_outside::{Child, Files, Link, LinkError};
 use dc_proto::Priority;
 use dc_serve::Conversation;
-use dc_session::{NoTerminal, SessionSetup};
-use dc_teletype::Teletype;
+use dc_session::{NoTerminal, ReadAhead, SessionSetup};
 use dc_text::{List, Name, Text};
 use std::alloc::Global;
 
@@ -49,18 +48,18 @@ pub fn communicate<L: Link, E: Link, F: Files>(
     err: &mut E,
     files: &mut F,
     used: &mut Vec<Box<dyn Layer>>,
-    teletype: &mut Teletype,
+    ahead: &mut ReadAhead,
     last_code: u8,
 ) -> ToolAnswer
     requires roots { AreOver (shaped roots.now) (length used.old.items) }
     requires disjoint { are_disjoint (shape roots.now.config) (shape roots.now.templates) ≡ true }
     ensures served { (saves : List Save) × ((child : LinkState) → HasCommunicated
         (begun (Communicate owner.now)
-        (run_state (L.link io.old) child (E.link err.old) (F.files files.old) (each state used.old.items) teletype.old.ahead last_code)
+        (run_state (L.link io.old) child (E.link err.old) (F.files files.old) (each state used.old.items) ahead.old last_code)
         (shaped roots.now) settings.now)
         (L.link io.old) (L.link io.new) last_code result
         (resources_for (Communicate owner.now)
-        (run_state (L.link io.new) child (E.link err.new) (F.files files.new) (each state used.new.items) teletype.new.ahead result.last_code))
+        (run_state (L.link io.new) child (E.link err.new) (F.files files.new) (each state used.new.items) ahead.new result.last_code))
         saves) }
 {
     let served = serve_for(
@@ -75,7 +74,7 @@ pub fn communicate<L: Link, E: Link, F: Files>(
         err,
         files,
         used,
-        teletype,
+        ahead,
         last_code,
     );
     ToolAnswer {
@@ -99,7 +98,7 @@ pub fn run_program<L: Link, E: Link, C: Child, F: Files>(
     child: &mut C,
     files: &mut F,
     used: &mut Vec<Box<dyn Layer>>,
-    teletype: &mut Teletype,
+    ahead: &mut ReadAhead,
     last_code: u8,
 ) -> ToolAnswer
     requires roots { AreOver (shaped roots.now) (length used.old.items) }
@@ -108,11 +107,11 @@ pub fn run_program<L: Link, E: Link, C: Child, F: Files>(
     requires some { 0 < length command.now }
     ensures ran { (saves : List Save) × HasRunProgram command.now
         (begun (asked_run asking.now command.now)
-        (run_state (L.link io.old) (C.link child.old) (E.link err.old) (F.files files.old) (each state used.old.items) teletype.old.ahead last_code)
+        (run_state (L.link io.old) (C.link child.old) (E.link err.old) (F.files files.old) (each state used.old.items) ahead.old last_code)
         (shaped roots.now) settings.now)
         (links_of (L.link io.old) (C.link child.old)) (links_of (L.link io.new) (C.link child.new)) last_code result
         (resources_for (asked_run asking.now command.now)
-        (run_state (L.link io.new) (C.link child.new) (E.link err.new) (F.files files.new) (each state used.new.items) teletype.new.ahead
+        (run_state (L.link io.new) (C.link child.new) (E.link err.new) (F.files files.new) (each state used.new.items) ahead.new
         result.last_code))
         saves }
     ensures running { result.is_started ≡ true → IsRunning (C.link child.new).program.life }
@@ -125,7 +124,7 @@ pub fn run_program<L: Link, E: Link, C: Child, F: Files>(
             status: 0,
         },
         Ok(()) => serve_program(
-            alloc, asking, roots, settings, io, err, child, files, used, teletype, last_code,
+            alloc, asking, roots, settings, io, err, child, files, used, ahead, last_code,
         ),
     }
 }
@@ -141,18 +140,18 @@ fn serve_program<L: Link, E: Link, C: Child, F: Files>(
     child: &mut C,
     files: &mut F,
     used: &mut Vec<Box<dyn Layer>>,
-    teletype: &mut Teletype,
+    ahead: &mut ReadAhead,
     last_code: u8,
 ) -> ToolAnswer
     requires roots { AreOver (shaped roots.now) (length used.old.items) }
     requires disjoint { are_disjoint (shape roots.now.config) (shape roots.now.templates) ≡ true }
     ensures served { (saves : List Save) × ((command : List (List ℕ)) → HasServedProgram
         (begun (asked_run asking.now command)
-        (run_state (L.link io.old) (C.link child.old) (E.link err.old) (F.files files.old) (each state used.old.items) teletype.old.ahead last_code)
+        (run_state (L.link io.old) (C.link child.old) (E.link err.old) (F.files files.old) (each state used.old.items) ahead.old last_code)
         (shaped roots.now) settings.now)
         (C.link child.old) (C.link child.new) last_code result
         (resources_for (asked_run asking.now command)
-        (run_state (L.link io.new) (C.link child.new) (E.link err.new) (F.files files.new) (each state used.new.items) teletype.new.ahead
+        (run_state (L.link io.new) (C.link child.new) (E.link err.new) (F.files files.new) (each state used.new.items) ahead.new
         result.last_code))
         saves) }
 {
@@ -168,7 +167,7 @@ fn serve_program<L: Link, E: Link, C: Child, F: Files>(
         err,
         files,
         used,
-        teletype,
+        ahead,
         last_code,
     );
     ToolAnswer {
@@ -192,16 +191,16 @@ fn serve_for<L: Link, T: Link, E: Link, F: Files>(
     err: &mut E,
     files: &mut F,
     used: &mut Vec<Box<dyn Layer>>,
-    teletype: &mut Teletype,
+    ahead: &mut ReadAhead,
     last_code: u8,
 ) -> Conversation<SavingBreak>
     requires roots { AreOver (shaped roots.now) (length used.old.items) }
     requires disjoint { are_disjoint (shape roots.now.config) (shape roots.now.templates) ≡ true }
     ensures { (saves : List Save) × IsServedSaving
         (session_at
-        (resources_of (each state used.old.items) (F.files files.old) (terminal_at (T.link terminal.old) teletype.old.ahead) (E.link err.old))
+        (resources_of (each state used.old.items) (F.files files.old) (terminal_at (T.link terminal.old) ahead.old) (E.link err.old))
         (shaped roots.now) settings.now owner.now frontend threshold)
-        (resources_of (each state used.new.items) (F.files files.new) (terminal_at (T.link terminal.new) teletype.new.ahead) (E.link err.new))
+        (resources_of (each state used.new.items) (F.files files.new) (terminal_at (T.link terminal.new) ahead.new) (E.link err.new))
         (L.link io.old) (L.link io.new) result.end last_code result.last_code saves }
 {
     let setup = SessionSetup {
@@ -215,7 +214,7 @@ fn serve_for<L: Link, T: Link, E: Link, F: Files>(
         alloc,
         io,
         terminal,
-        teletype,
+        ahead,
         err,
         files,
         used,
@@ -227,7 +226,7 @@ fn serve_for<L: Link, T: Link, E: Link, F: Files>(
 }
 
 // How the tool ends where the program isn't started.
-fn end_unstarted(error: LinkError) -> ToolEnd
+pub(crate) fn end_unstarted(error: LinkError) -> ToolEnd
     ensures { result ≡ end_unstarted_of error }
 {
     match error {

@@ -32,8 +32,8 @@ use dc_shelf::{NotSetUp, Shelf, SourceError, load_all, set_up_all};
 use dc_text::{List, Mem, Text};
 use std::alloc::Global;
 
-// The databases of `drill`, which are nowhere kept.
-const DRILL_CONFIGURATION: &[u8] =
+// The databases of tools that stand on no configuration, which are nowhere kept.
+const OWN_CONFIGURATION: &[u8] =
     b"Config: config\nTemplates: t\n\nName: config\nDriver: Stack\nStack: a, b\n\nName: a\nDriver: File\nFilename: a\nReject-Name: 2$\n\nName: b\nDriver: File\nFilename: b\n\nName: t\nDriver: File\nFilename: t\n";
 
 /// What a tool takes from the configuration: the plans of its databases, over the layers in `used`, and what it copies by.
@@ -167,7 +167,7 @@ fn load_used<L: Link, F: Files>(
 fn has_files(tool: &Tool) -> bool
     ensures { result ≡ has_files_in tool.now }
 {
-    !matches!(tool, Tool::Drill { .. })
+    !matches!(tool, Tool::Drill { .. } | Tool::Answer { .. })
 }
 
 /// Whether what a tool changes is saved: not where lines of selections are only checked, nor what `drill` does.
@@ -313,7 +313,8 @@ fn configuration_in(alloc: Global, used: &Tool, found: &Option<Text>) -> Result<
     };
     match used {
         Tool::CopyDb(copy) => read_conf(alloc, extended(alloc, text, copy)?.bytes()),
-        Tool::Drill { count: _ } => read_conf(alloc, DRILL_CONFIGURATION),
+        Tool::Drill { count: _ } => read_conf(alloc, OWN_CONFIGURATION),
+        Tool::Answer { command: _ } => read_conf(alloc, OWN_CONFIGURATION),
         _ => read_conf(alloc, text),
     }
 }

@@ -99,6 +99,11 @@ pub fn tell_end<E: Link>(err: &mut E, end: &End)
         End::TermFault => say(err, b"dckit: terminal failed\n"),
         End::ChildFault => say(err, b"dckit: child failed\n"),
         End::TooLong => say(err, b"dckit: input too long\n"),
+        End::BadWire { line } => {
+            say(err, b"dckit: other end, line ");
+            say_number(err, *line);
+            say(err, b": unreadable\n")
+        }
     }
 }
 

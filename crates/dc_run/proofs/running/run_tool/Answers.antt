@@ -18,8 +18,8 @@ returns-in-Ok g c =
       ran = (
         _,
         ended_after c.args.tool.now c.args.settings.now old new c.end_run-in-Ok.result c.await_program-end.result.0
-            _ (shaped c.in-Ok.roots) c.new-teletype.result.ahead _ c.use_tool-answer.result c.use_tool-answer.ensures.does.0 c.finish_used-how.result
-            c.await_program-end.result.1 c.new-teletype.ensures c.in-Ok.ensures.starts c.use_tool-answer.ensures.does.1
+            _ (shaped c.in-Ok.roots) c.new-ahead.result _ c.use_tool-answer.result c.use_tool-answer.ensures.does.0 c.finish_used-how.result
+            c.await_program-end.result.1 c.new-ahead.ensures c.in-Ok.ensures.starts c.use_tool-answer.ensures.does.1
             (rw (← c.keeps_changes.ensures) c.finish_used-how.ensures) c.await_program-end.ensures c.end_run-in-Ok.ensures.said c.end_run-in-Ok.ensures.outcome,
       );
     }

@@ -24,3 +24,7 @@ returns-in-Damaged g c =
 pub returns-in-FilesFault : goal.returns-in-FilesFault
 returns-in-FilesFault g c =
     rw (c.in-FilesFault.is, ← c.bytes-in-FilesFault.ensures) (three_said_joined _ _ (codes ": read or write failed") (newline ∷ []) _ _ _ _ c.say-in-FilesFault.ensures c.say-in-FilesFault-2.ensures c.say-in-FilesFault-3.ensures)
+
+pub returns-in-BadWire : goal.returns-in-BadWire
+returns-in-BadWire g c =
+    rw c.in-BadWire.is (three_said_joined _ _ (codes ": unreadable") (newline ∷ []) _ _ _ _ c.say-in-BadWire.ensures c.say_number-in-BadWire.ensures c.say-in-BadWire-2.ensures)
