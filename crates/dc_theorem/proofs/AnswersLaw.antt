@@ -154,6 +154,6 @@ module _ (owner : List ℕ) (frontend : Option Frontend) (priority : Option Prio
 
   pub program_answered : AnswersAll start old.links.child new.links.child
   program_answered = elim run.uses.0 [
-    | inl never ↦ absurd (unstarted_other never.error (sym never.ended_is ∙ (at_save Used settings old new outcome run done).0))
+    | inl never ↦ absurd (unstarted_other never.unstarted.error (sym never.unstarted.ended_is ∙ (at_save Used settings old new outcome run done).0))
     | inr started ↦ started_answered started
   ]

@@ -89,11 +89,13 @@ module _ (old new : SessionState) where
   idle_left : (error : StepError) → BreaksIdle old error new → new.store.layers ≡ old.store.layers
   idle_left step.OutOfMemory same = store_stays same
   idle_left step.Term none = absurd none
+  idle_left (step.Wire line) none = absurd none
 
   off_left : (command : Command) (error : StepError) → BreaksOff command old error new → LeavesHeard (Known command) old new.store.layers
   off_left command step.OutOfMemory (inl same) = inl (store_stays same)
   off_left command step.OutOfMemory (inr part) = part_left command part
   off_left command step.Term fails = inl (ap (λ (s : SessionState). s.store.layers) fails.new_is)
+  off_left command (step.Wire line) fails = inl (ap (λ (s : SessionState). s.store.layers) fails.new_is)
 
   heard_left : (said : Heard) (error : StepError) → BreaksHeard said old error new → LeavesHeard said old new.store.layers
   heard_left Nothing error idle = idle_left error idle
@@ -344,6 +346,7 @@ module _ (left new : Ground) (how : End) (unsaved : EndsEarly how) where
   used_stays tool.ChildFault broken = ap (λ (g : Ground). g.used) broken.stays
   used_stays tool.OutOfMemory broken = ap (λ (g : Ground). g.used) broken.stays
   used_stays (tool.FilesFault path) broken = ap (λ (g : Ground). g.used) broken.stays
+  used_stays (tool.BadWire line) broken = ap (λ (g : Ground). g.used) broken.stays
 
 unwaited_unsaved : (how : End) → EndsEarly (end_unwaited how) → EndsEarly how
 unwaited_unsaved end.Done is = is
@@ -358,6 +361,7 @@ unwaited_unsaved end.LinkFault is = is
 unwaited_unsaved end.TermFault is = is
 unwaited_unsaved end.ChildFault is = is
 unwaited_unsaved end.TooLong is = is
+unwaited_unsaved (end.BadWire line) is = is
 
 awaited_unsaved : (started : Bool) (old new : LinkState) (how ended : End) (status left : ℕ) → Awaits started old new how ended status left → EndsEarly ended → EndsEarly how
 awaited_unsaved true old new how ended status left (inl has) is = subst EndsEarly has.end_is is
@@ -402,7 +406,7 @@ module _ (owner : List ℕ) (frontend : Option Frontend) (priority : Option Prio
 
   program_up : KeepUp start old.links.child run.links.child run.left.layers
   program_up = elim run.uses.0 [
-    | inl none ↦ subst (λ (l : Resources). KeepUp start old.links.child run.links.child l.layers) (sym none.left_is) (unstarted_up none.error none.starts)
+    | inl none ↦ subst (λ (l : Resources). KeepUp start old.links.child run.links.child l.layers) (sym none.left_is) (unstarted_up none.unstarted.error none.unstarted.starts)
     | inr started ↦ with_program start old.links.child started.mid run.links.child run.left.layers started.starts.state (served_up start run.left started.mid run.links.child started.ended 0 run.answer.last_code started.served.by)
   ]
 

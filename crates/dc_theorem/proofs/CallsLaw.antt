@@ -43,7 +43,7 @@ use Rattle.dc_session.specs.declared.template_files.Found.{Found}
 use Rattle.dc_session.specs.declared.template_files.Found.TheVariants.{Unreadable, Missing, Faulty, Templates}
 use Rattle.dc_session.specs.Serving.{Resources}
 use Rattle.dc_cli.specs.declared.tool.Tool.{Tool}
-use Rattle.dc_cli.specs.declared.tool.Tool.TheVariants.{Communicate, LoadTemplate, Run, Show, CopyDb, SetSelections, GetSelections, Drill}
+use Rattle.dc_cli.specs.declared.tool.Tool.TheVariants.{Communicate, LoadTemplate, Run, Show, CopyDb, SetSelections, GetSelections, Drill, Answer}
 use Rattle.dc_run.specs.Finishing.{images_of}
 use Rattle.dc_run.specs.OneRound.{HasUsed}
 use Rattle.dc_run.specs.SavingSession.{TakesSaving}
@@ -411,7 +411,7 @@ fails_at_most (LoadTemplate owner paths) settings old new outcome run done =
     (subst (λ (f : FilesState). AddCalls (IsReadIn begins []) run.mid.sources.files.view f.view) (sym (ap (λ (l : Resources). l.files) run.uses.0.left_is ∙ ap (λ (s : SessionState). s.files) ends))
     (files_add (IsReadIn begins []) begins loads.turns loads.course))
 fails_at_most (Run owner frontend priority command) settings old new outcome run done = elim run.uses.0 [
-  | inl none ↦ absurd (unstarted_other none.error (sym none.ended_is ∙ (at_save (Run owner frontend priority command) settings old new outcome run done).0))
+  | inl none ↦ absurd (unstarted_other none.unstarted.error (sym none.unstarted.ended_is ∙ (at_save (Run owner frontend priority command) settings old new outcome run done).0))
   | inr started ↦
       let Used : Tool = Run owner frontend priority command in
       let begins = begun Used (before_rounds (on_ground old run.mid)) run.roots settings in
@@ -435,6 +435,8 @@ fails_at_most (CopyDb copy) settings old new outcome run done =
 fails_at_most (SetSelections verbose check unseen) settings old new outcome run done =
     fails_without (SetSelections verbose check unseen) settings old new outcome run done refl (ap (λ (l : Resources). l.files) run.uses.0.left_is)
 fails_at_most GetSelections settings old new outcome run done = fails_without GetSelections settings old new outcome run done refl (ap (λ (l : Resources). l.files) run.uses.0.left_is)
+fails_at_most (Answer command) settings old new outcome run done =
+    fails_without (Answer command) settings old new outcome run done refl (ap (λ (l : Resources). l.files) run.uses.1)
 fails_at_most (Drill count) settings old new outcome run done = fails_without (Drill count) settings old new outcome run done refl (ap (λ (l : Resources). l.files) run.uses.0.left_is)
 
 -- behind its loads no call on its link failed

@@ -50,10 +50,13 @@ use Rattle.dc_preseed.specs.Selecting.{SelectorState, FinishesLast, Finishes as 
 use Rattle.dc_preseed.specs.declared.selected.Choices.{Choices}
 use Rattle.dc_tools.specs.Copying.{Copying}
 use Rattle.dc_cli.specs.declared.tool.PlacedWord.{PlacedWord}
+use Rattle.dc_answer.specs.Answering.{IsAnswered, LosesWireLine, answerer_at}
+use Rattle.dc_answer.specs.declared.answerer.AnswerBreak.{AnswerBreak}
+use Rattle.dc_answer.specs.declared.answerer.AnswerBreak.TheVariants as broken
 use Rattle.dc_cli.specs.declared.tool.Tool.{Tool}
-use Rattle.dc_cli.specs.declared.tool.Tool.TheVariants.{Communicate, LoadTemplate, Run, Show, CopyDb, SetSelections, GetSelections, Drill}
+use Rattle.dc_cli.specs.declared.tool.Tool.TheVariants.{Communicate, LoadTemplate, Run, Show, CopyDb, SetSelections, GetSelections, Drill, Answer}
 use Rattle.dc_cli.proofs.AnswerLemmas.{one_tool}
-use Rattle.dc_run.specs.Ends.{CountsLoads, LinksCount, ProgramCounts, end_of, end_of_conf, end_of_load, end_of_pattern, end_unsent, end_unwaited, tool_end_of}
+use Rattle.dc_run.specs.Ends.{answer_end, CountsLoads, LinksCount, ProgramCounts, end_of, end_of_conf, end_of_load, end_of_pattern, end_unsent, end_unwaited, tool_end_of}
 use Rattle.dc_run.specs.Finishing.{Finishes, FinishesWhere}
 use Rattle.dc_run.specs.Headline.{HasRunTool, HasRunWords}
 use Rattle.dc_run.specs.Jobs.{Copies, CopiesBy, HasTaken, Prints, PrintsMade, Uses, copying, selections_end}
@@ -256,6 +259,7 @@ abbrev LongServed : Tool → Links → Links → Type 0
 LongServed (Communicate owner) old new = CameLong old.io new.io
 LongServed (Run owner frontend priority command) old new = CameLong old.child new.child
 LongServed (SetSelections verbose check unseen) old new = CameLong old.io new.io
+LongServed (Answer command) old new = CameLong old.child new.child
 LongServed used old new = ⊥
 
 -- what the end of a tool tells: at too long an input that so much came, and at a fault of the files that it was counted
@@ -273,6 +277,7 @@ module _ (long : Type 0) (before now : Counts) where
   served_tells served link.TooLong (inr none) is failed = absurd (let no : ◌≡◌ {A = LinkEnd SavingBreak} link.TooLong link.OutOfMemory = none in cc)
   served_tells served link.OutOfMemory so is failed = tt
   served_tells served (link.Broken (saving.Step step.Term)) so is failed = tt
+  served_tells served (link.Broken (saving.Step (step.Wire line))) so is failed = tt
   served_tells served (link.Broken (saving.Step step.OutOfMemory)) so is failed = tt
   served_tells served (link.Broken (saving.Save save.OutOfMemory)) so is failed = tt
   served_tells served (link.Broken (saving.Save (save.Failed path))) (inl same) is failed = failed path (sym same)
@@ -299,6 +304,7 @@ module _ (long : Type 0) (before now : Counts) where
   printed_tells text tool.ChildFault old new none = absurd none
   printed_tells text tool.TooLong old new none = absurd none
   printed_tells text (tool.FilesFault path) old new none = absurd none
+  printed_tells text (tool.BadWire line) old new none = absurd none
 
   made_tells : {E : Type 0} (made : Result (List ℕ) E) (ended : ToolEnd) (old new : LinkState) → PrintsMade made old new ended → EndTells ended long before now
   made_tells (Ok text) ended old new prints = printed_tells text ended old new prints
@@ -313,6 +319,16 @@ module _ (long : Type 0) (before now : Counts) where
   copied_tells copy old new tool.ChildFault said status none = absurd none
   copied_tells copy old new tool.TooLong said status none = absurd none
   copied_tells copy old new (tool.FilesFault path) said status none = absurd none
+  copied_tells copy old new (tool.BadWire line) said status none = absurd none
+
+  answered_tells : (ended : LinkEnd AnswerBreak) → (ended ≡ link.TooLong → long) → EndTells (answer_end ended) long before now
+  answered_tells link.Done is = tt
+  answered_tells link.LinkFault is = tt
+  answered_tells link.TooLong is = is refl
+  answered_tells link.OutOfMemory is = tt
+  answered_tells (link.Broken (broken.Wire line)) is = tt
+  answered_tells (link.Broken broken.Term) is = tt
+  answered_tells (link.Broken broken.OutOfMemory) is = tt
 
   unstarted_tells : (error : LinkError) → EndTells (end_unstarted error) long before now
   unstarted_tells Failed = tt
@@ -329,6 +345,7 @@ module _ (long : Type 0) (before now : Counts) where
   file_tells tool.PrintFault state rest new later is none = absurd none
   file_tells tool.TermFault state rest new later is none = absurd none
   file_tells tool.ChildFault state rest new later is none = absurd none
+  file_tells (tool.BadWire line) state rest new later is none = absurd none
 
 module _ (start : SessionState) (left : Resources) (old new : LinkState) (ended : LinkEnd SavingBreak) (before code : ℕ) (is : IsServedBy TakesSaving BreaksSaving start left old new ended before code) where
   session_long : is.served ≡ link.TooLong → CameLong old new
@@ -361,6 +378,13 @@ selections_long choices start old new before answer left taken long =
     = subst (λ (e : LinkEnd NoMemory). Answered LosesSelection e begins ran.transitions ran.rest ran.pieces old.input before taken.selected.state answer.last_code) long ran.answered in
     (ran.pieces, ran.told_is, ran.took, answered.long)
 
+answered_long : (start terminal old new : LinkState) (ended : LinkEnd AnswerBreak) → (answered : IsAnswered start terminal old new ended) → ended ≡ link.TooLong → CameLong old new
+answered_long start terminal old new ended is long =
+    let ran = is.serves.run in
+    let answered : Answered LosesWireLine link.TooLong (answerer_at start) ran.transitions ran.rest ran.pieces old.input 0 is.state is.code
+    = subst (λ (e : LinkEnd AnswerBreak). Answered LosesWireLine e (answerer_at start) ran.transitions ran.rest ran.pieces old.input 0 is.state is.code) long ran.answered in
+    (ran.pieces, ran.told_is, ran.took, answered.long)
+
 copy_tells : (found : Option CopyRoots) (start : SessionState) (old new : Links) (before : ℕ) (answer : ToolAnswer) (said : List ℕ) (left : Resources) (long : Type 0) → CopiesBy found start old new before answer said left
     → EndTells answer.ended long start.files.counts left.files.counts
 copy_tells None start old new before answer said left long none = absurd none
@@ -375,7 +399,7 @@ tool_tells (LoadTemplate owner paths) roots start old new before answer said lef
     file_tells ⊥ start.files.counts left.files.counts answer.ended (file_state start loads.turns) loads.rest uses.0.state (later_so start.files.counts (file_state start loads.turns).files.counts (turns_kept start loads.turns loads.course))
     (ap (λ (l : Resources). l.files.counts) uses.0.left_is) loads.ends
 tool_tells (Run owner frontend priority command) roots start old new before answer said left saves uses = elim uses.0 [
-  | inl none ↦ rw none.ended_is (unstarted_tells (CameLong old.child new.child) start.files.counts left.files.counts none.error)
+  | inl none ↦ rw none.unstarted.ended_is (unstarted_tells (CameLong old.child new.child) start.files.counts left.files.counts none.unstarted.error)
   | inr started ↦
       rw started.ended_is
       (subst (λ (l : LinkState). EndTells (tool_end_of started.ended) (CameLong l new.child) start.files.counts left.files.counts) started.starts.state
@@ -389,6 +413,13 @@ tool_tells (SetSelections verbose check unseen) roots start old new before answe
     (selected_tells (CameLong old.io new.io) start.files.counts left.files.counts selected.state uses.0.state selected.served uses.0.ended selected.finishes
     (selections_long (record { verbose = verbose; check = check; unseen = unseen }) start old.io new.io before answer left uses.0))
 tool_tells GetSelections roots start old new before answer said left saves uses = printed_tells ⊥ start.files.counts left.files.counts _ answer.ended old.io new.io uses.0.prints
+tool_tells (Answer command) roots start old new before answer said left saves uses = elim uses.0 [
+  | inl none ↦ rw none.ended_is (unstarted_tells (CameLong old.child new.child) start.files.counts left.files.counts none.error)
+  | inr started ↦
+      rw started.ended_is
+      (subst (λ (l : LinkState). EndTells (answer_end started.ended) (CameLong l new.child) start.files.counts left.files.counts) started.starts.state
+      (answered_tells (CameLong started.mid new.child) start.files.counts left.files.counts started.ended (answered_long old.io new.io started.mid new.child started.ended started.answered)))
+]
 tool_tells (Drill count) roots start old new before answer said left saves uses = made_tells ⊥ start.files.counts left.files.counts uses.0.result answer.ended old.io new.io uses.0.prints
 
 -- ---- the end of a run whose tool was used
@@ -400,6 +431,7 @@ ComesOf end.OutOfMemory ended before now = Unit {0}
 ComesOf end.LinkFault ended before now = Unit {0}
 ComesOf end.TermFault ended before now = Unit {0}
 ComesOf end.ChildFault ended before now = Unit {0}
+ComesOf (end.BadWire line) ended before now = Unit {0}
 ComesOf end.TooLong ended before now = ended ≡ tool.TooLong
 ComesOf (end.FilesFault path) ended before now = (ended ≡ tool.FilesFault path) ⊎ Rose before.faults now.faults
 ComesOf how ended before now = ⊥
@@ -433,6 +465,7 @@ module _ (left new : Ground) (how : End) where
   saved_comes tool.ChildFault broken = rw broken.end_is tt
   saved_comes tool.OutOfMemory broken = rw broken.end_is tt
   saved_comes (tool.FilesFault path) broken = rw broken.end_is (inl refl)
+  saved_comes (tool.BadWire line) broken = rw broken.end_is tt
 
   unsaved_comes : (ended : ToolEnd) → ComesOf (end_of ended) ended found now
   unsaved_comes tool.Done = tt
@@ -443,6 +476,7 @@ module _ (left new : Ground) (how : End) where
   unsaved_comes tool.ChildFault = tt
   unsaved_comes tool.OutOfMemory = tt
   unsaved_comes (tool.FilesFault path) = inl refl
+  unsaved_comes (tool.BadWire line) = tt
 
   comes_of : (keeps : Bool) (ended : ToolEnd) → FinishesWhere keeps left new ended how → ComesOf how ended found now
   comes_of true ended finishes = saved_comes ended finishes
@@ -462,6 +496,7 @@ module _ (tool_ended : ToolEnd) (before now : Counts) where
   unwaited_comes end.TermFault comes = comes
   unwaited_comes end.ChildFault comes = comes
   unwaited_comes end.TooLong comes = comes
+  unwaited_comes (end.BadWire line) comes = comes
 
   awaited_comes : (started : Bool) (old new : LinkState) (how ended : End) (status left : ℕ) → Awaits started old new how ended status left → ComesOf how tool_ended before now → ComesOf ended tool_ended before now
   awaited_comes true old new how ended status left (inl has) comes = rw has.end_is comes
@@ -497,6 +532,7 @@ module _ (old start mid new : Links) (child_start : start.child ≡ old.child) (
   few_served (SetSelections verbose check unseen) io few long = few_own (io tt) few long
   few_served GetSelections io few long = long
   few_served (Drill count) io few long = long
+  few_served (Answer command) io few long = few_long start.child mid.child new.child child (subst (λ (l : LinkState). FewCame l new.child) (sym child_start) few) long
 
 -- ---- the whole run
 
@@ -618,37 +654,38 @@ module _ (words : List (List ℕ)) (used : Tool) (conf : Configuration) (setting
     own_rose mid (inr first) rose = clean.none_rose.io (rose_behind old.links.io.counts.faults mid.counts.faults new.links.io.counts.faults first.faults.later rose)
 
     used_well : (how : End) (mid : LinkState) → ComesOf how run.answer.ended run.left.files.counts new.stock.files.counts → CountsLoads old.links.io.counts mid.counts → LinksCount how (record old.links { io = mid }) new.links
-        → ProgramCounts how old.links.child.program.failures new.links.child.program.failures → EndsWell used conf how
-    used_well end.Done mid comes loads links program = tt
-    used_well end.OutOfMemory mid comes loads links program = tt
-    used_well end.LinkFault mid comes loads (inl own) program = own_rose mid loads own.on_io.faults
-    used_well end.LinkFault mid comes loads (inr child) program = clean.none_rose.child child.on_child.faults
-    used_well end.TermFault mid comes loads links program = own_rose mid loads links.on_io.faults
-    used_well end.ChildFault mid comes loads links program = clean.none_rose.program program
-    used_well end.TooLong mid comes loads links program = never_long_by comes
-    used_well (end.FilesFault path) mid comes loads links program = never_failed path comes
-    used_well (end.Usage word) mid none loads links program = none
-    used_well (end.ConfRefused line kind) mid none loads links program = none
-    used_well (end.BadPattern at) mid none loads links program = absurd none
-    used_well (end.PatternTooLarge at) mid none loads links program = absurd none
-    used_well (end.Damaged path line) mid none loads links program = none
+        → ProgramCounts how old.links.child.program.failures new.links.child.program.failures → ((line : ℕ) → how ≡ end.BadWire line → ⊥) → EndsWell used conf how
+    used_well end.Done mid comes loads links program wired = tt
+    used_well end.OutOfMemory mid comes loads links program wired = tt
+    used_well end.LinkFault mid comes loads (inl own) program wired = own_rose mid loads own.on_io.faults
+    used_well end.LinkFault mid comes loads (inr child) program wired = clean.none_rose.child child.on_child.faults
+    used_well end.TermFault mid comes loads links program wired = own_rose mid loads links.on_io.faults
+    used_well end.ChildFault mid comes loads links program wired = clean.none_rose.program program
+    used_well end.TooLong mid comes loads links program wired = never_long_by comes
+    used_well (end.FilesFault path) mid comes loads links program wired = never_failed path comes
+    used_well (end.Usage word) mid none loads links program wired = none
+    used_well (end.ConfRefused line kind) mid none loads links program wired = none
+    used_well (end.BadPattern at) mid none loads links program wired = absurd none
+    used_well (end.PatternTooLarge at) mid none loads links program wired = absurd none
+    used_well (end.Damaged path line) mid none loads links program wired = none
+    used_well (end.BadWire line) mid comes loads links program wired = absurd (wired line refl)
 
     comes : ComesOf outcome.end run.answer.ended run.left.files.counts new.stock.files.counts
     comes =
         awaited_comes run.answer.ended run.left.files.counts new.stock.files.counts run.answer.is_started run.links.child new.links.child run.how outcome.end run.answer.status run.status run.awaits
         (comes_of (ground_of run.left.files run.links.io run.left.layers) (ground_in new) run.how (keeps_changes used) run.answer.ended run.finishes)
 
-  tool_well : (outcome : Outcome) (saves : List Save) → HasRunTool used settings old new outcome saves → EndsWell used conf outcome.end
-  tool_well outcome saves (inl before) = before_well outcome.end before.0
-  tool_well outcome saves (inr worked) =
+  tool_well : (outcome : Outcome) (saves : List Save) → ((line : ℕ) → outcome.end ≡ end.BadWire line → ⊥) → HasRunTool used settings old new outcome saves → EndsWell used conf outcome.end
+  tool_well outcome saves wired (inl before) = before_well outcome.end before.0
+  tool_well outcome saves wired (inr worked) =
       let run = as_used used settings old new outcome saves worked in
       let counts = links_counted used settings old new outcome saves (inr worked) in
-      used_well outcome run outcome.end counts.mid (comes outcome run) counts.loads counts.behind (program_counted used settings old new outcome saves (inr worked))
+      used_well outcome run outcome.end counts.mid (comes outcome run) counts.loads counts.behind (program_counted used settings old new outcome saves (inr worked)) wired
 
-  words_well : (outcome : Outcome) (saves : List Save) → HasRunWords words settings old new outcome saves → EndsWell used conf outcome.end
-  words_well outcome saves (inl refused) = absurd (refused.0.refused.refused (used, clean.named))
-  words_well outcome saves (inr ran) = tool_well outcome saves (subst (λ (t : Tool). HasRunTool t settings old new outcome saves) (one_tool words ran.0 used ran.1 clean.named) ran.2)
+  words_well : (outcome : Outcome) (saves : List Save) → ((line : ℕ) → outcome.end ≡ end.BadWire line → ⊥) → HasRunWords words settings old new outcome saves → EndsWell used conf outcome.end
+  words_well outcome saves wired (inl refused) = absurd (refused.0.refused.refused (used, clean.named))
+  words_well outcome saves wired (inr ran) = tool_well outcome saves wired (subst (λ (t : Tool). HasRunTool t settings old new outcome saves) (one_tool words ran.0 used ran.1 clean.named) ran.2)
 
 pub ends_well : (words : List (List ℕ)) (used : Tool) (conf : Configuration) (settings : Settings) (old new : World) (outcome : Outcome) (saves : List Save) → IsUndisturbed words used conf settings old new
-    → HasRunWords words settings old new outcome saves → EndsWell used conf outcome.end
-ends_well words used conf settings old new outcome saves clean ran = words_well words used conf settings old new clean outcome saves ran
+    → HasRunWords words settings old new outcome saves → ((line : ℕ) → outcome.end ≡ end.BadWire line → ⊥) → EndsWell used conf outcome.end
+ends_well words used conf settings old new outcome saves clean ran wired = words_well words used conf settings old new clean outcome saves wired ran

@@ -35,7 +35,7 @@ use Rattle.dc_session.specs.declared.stepped.Stepped.{Stepped}
 use Rattle.dc_session.specs.declared.template_files.Found.{Found}
 use Rattle.dc_session.specs.declared.template_files.Found.TheVariants.{Unreadable, Missing, Faulty, Templates}
 use Rattle.dc_cli.specs.declared.tool.Tool.{Tool}
-use Rattle.dc_cli.specs.declared.tool.Tool.TheVariants.{Communicate, LoadTemplate, Run, Show, CopyDb, SetSelections, GetSelections, Drill}
+use Rattle.dc_cli.specs.declared.tool.Tool.TheVariants.{Communicate, LoadTemplate, Run, Show, CopyDb, SetSelections, GetSelections, Drill, Answer}
 use Rattle.dc_run.specs.Finishing.{Finishes, FinishesWhere, IsBrokenOff, IsSaved, IsUnsaved, IsUnsent, IsWithoutMemory}
 use Rattle.dc_run.specs.Jobs.{CopiesBy, Uses}
 use Rattle.dc_run.specs.Saves.{Save}
@@ -175,6 +175,16 @@ module _ (old new : SessionState) where
   line_shown TooLong none = absurd none
   line_shown (Whole line) aborts = heard_shown (heard old.asking.escape line) aborts
 
+  -- or a line of the wire was unreadable
+  heard_wired : (number : ℕ) (said : Heard) → BreaksHeard said old (step.Wire number) new → Kept old.files.counts new.files.counts
+  heard_wired number Nothing none = absurd none
+  heard_wired number (Known command) fails = files_kept old.files new.files (ap (λ (s : SessionState). s.files) fails.new_is)
+  heard_wired number (Refused reply) none = absurd none
+
+  line_wired : (number : ℕ) (line : Line) → Aborts old line (step.Wire number) new → Kept old.files.counts new.files.counts
+  line_wired number TooLong none = absurd none
+  line_wired number (Whole line) aborts = heard_wired number (heard old.asking.escape line) aborts
+
 -- what the layers told is told behind a line, which leaves the files
 pub takes_kept : (old new : SessionState) (line : Line) (did : Response) → TakesLine old line did new → Kept old.files.counts new.files.counts
 takes_kept old new line did takes =
@@ -196,12 +206,14 @@ course_kept start (turn ∷ turns) course =
 abbrev IsForMemory : SavingBreak → Type 0
 IsForMemory (saving.Step step.OutOfMemory) = Unit {0}
 IsForMemory (saving.Step step.Term) = ⊥
+IsForMemory (saving.Step (step.Wire line)) = ⊥
 IsForMemory (saving.Save save.OutOfMemory) = Unit {0}
 IsForMemory (saving.Save (save.Failed path)) = ⊥
 
 for_memory : (error : SavingBreak) → IsForMemory error ⊎ (IsForMemory error → ⊥)
 for_memory (saving.Step step.OutOfMemory) = inl tt
 for_memory (saving.Step step.Term) = inr (λ none. none)
+for_memory (saving.Step (step.Wire line)) = inr (λ none. none)
 for_memory (saving.Save save.OutOfMemory) = inl tt
 for_memory (saving.Save (save.Failed path)) = inr (λ none. none)
 
@@ -216,6 +228,7 @@ BreaksForMemory (link.Broken error) = IsForMemory error
 broken_tool : (error : SavingBreak) → IsForMemory error → tool_end_of (link.Broken error) ≡ tool.OutOfMemory
 broken_tool (saving.Step step.OutOfMemory) memory = refl
 broken_tool (saving.Step step.Term) none = absurd none
+broken_tool (saving.Step (step.Wire line)) none = absurd none
 broken_tool (saving.Save save.OutOfMemory) memory = refl
 broken_tool (saving.Save (save.Failed path)) none = absurd none
 
@@ -238,6 +251,7 @@ module _ (old new : SessionState) (line : Line) where
   breaks_later : (error : SavingBreak) → IsForMemory error → BreaksSaving old line error new → Later old.files.counts new.files.counts
   breaks_later (saving.Step step.OutOfMemory) memory aborts = line_later old new line aborts
   breaks_later (saving.Step step.Term) memory aborts = absurd memory
+  breaks_later (saving.Step (step.Wire number)) memory aborts = absurd memory
   breaks_later (saving.Save save.OutOfMemory) memory fails = unsaved_later fails
   breaks_later (saving.Save (save.Failed path)) memory fails = absurd memory
 
@@ -245,6 +259,7 @@ module _ (old new : SessionState) (line : Line) where
   breaks_kept : (error : SavingBreak) → (IsForMemory error → ⊥) → BreaksSaving old line error new → Kept old.files.counts new.files.counts
   breaks_kept (saving.Step step.OutOfMemory) other aborts = absurd (other tt)
   breaks_kept (saving.Step step.Term) other aborts = line_shown old new line aborts
+  breaks_kept (saving.Step (step.Wire number)) other aborts = line_wired old new number line aborts
   breaks_kept (saving.Save save.OutOfMemory) other fails = absurd (other tt)
   breaks_kept (saving.Save (save.Failed path)) other fails = failed old.files.counts new.files.counts fails.is.counts
 
@@ -307,6 +322,7 @@ end_kept tool.TooLong state rest new other none = absurd none
 end_kept tool.PrintFault state rest new other none = absurd none
 end_kept tool.TermFault state rest new other none = absurd none
 end_kept tool.ChildFault state rest new other none = absurd none
+end_kept (tool.BadWire line) state rest new other none = absurd none
 
 end_later : (ended : ToolEnd) (state : SessionState) (rest : List (List ℕ)) (new : SessionState) → EndsAt ended state rest new → Later state.files.counts new.files.counts
 end_later tool.Done state rest new ends = same_later state new ends.1
@@ -318,6 +334,7 @@ end_later tool.TooLong state rest new none = absurd none
 end_later tool.PrintFault state rest new none = absurd none
 end_later tool.TermFault state rest new none = absurd none
 end_later tool.ChildFault state rest new none = absurd none
+end_later (tool.BadWire line) state rest new none = absurd none
 
 -- ---- tools
 
@@ -350,6 +367,7 @@ module _ (roots : Roots) (start : SessionState) (old new : Links) (before : ℕ)
   tool_later (CopyDb copy) uses = left_later start left (copied_files roots.copy start old new before answer told left uses.0)
   tool_later (SetSelections verbose check unseen) uses = left_later start left (ap (λ (l : Resources). l.files) uses.0.left_is)
   tool_later GetSelections uses = left_later start left (ap (λ (l : Resources). l.files) uses.0.left_is)
+  tool_later (Answer command) uses = left_later start left (ap (λ (l : Resources). l.files) uses.1)
   tool_later (Drill count) uses = left_later start left (ap (λ (l : Resources). l.files) uses.0.left_is)
 
   -- at another end than for want of memory
@@ -368,6 +386,7 @@ module _ (roots : Roots) (start : SessionState) (old new : Links) (before : ℕ)
   tool_kept (CopyDb copy) other uses = left_kept start left (copied_files roots.copy start old new before answer told left uses.0)
   tool_kept (SetSelections verbose check unseen) other uses = left_kept start left (ap (λ (l : Resources). l.files) uses.0.left_is)
   tool_kept GetSelections other uses = left_kept start left (ap (λ (l : Resources). l.files) uses.0.left_is)
+  tool_kept (Answer command) other uses = left_kept start left (ap (λ (l : Resources). l.files) uses.1)
   tool_kept (Drill count) other uses = left_kept start left (ap (λ (l : Resources). l.files) uses.0.left_is)
 
 -- ---- loads
@@ -434,6 +453,7 @@ module _ (left new : Ground) (how : End) where
   finish_kept tool.ChildFault other broken = broken_kept tool.ChildFault broken
   finish_kept tool.OutOfMemory other broken = broken_kept tool.OutOfMemory broken
   finish_kept (tool.FilesFault path) other broken = broken_kept (tool.FilesFault path) broken
+  finish_kept (tool.BadWire line) other broken = broken_kept (tool.BadWire line) broken
 
   pub finished_kept : (keeps : Bool) (ended : ToolEnd) → (how ≡ end.OutOfMemory → ⊥) → FinishesWhere keeps left new ended how → Kept before now
   finished_kept true ended other finishes = finish_kept ended other finishes
@@ -461,6 +481,7 @@ module _ (left new : Ground) (how : End) where
   finish_later tool.ChildFault broken = broken_later tool.ChildFault broken
   finish_later tool.OutOfMemory broken = broken_later tool.OutOfMemory broken
   finish_later (tool.FilesFault path) broken = broken_later (tool.FilesFault path) broken
+  finish_later (tool.BadWire line) broken = broken_later (tool.BadWire line) broken
 
   pub end_of_later : (keeps : Bool) (ended : ToolEnd) → FinishesWhere keeps left new ended how → Later before now
   end_of_later true ended finishes = finish_later ended finishes

@@ -57,6 +57,7 @@ use Rattle.dc_theorem.specs.Runs.{IsClean}
 abbrev pub IsOfTool : End → Type 0
 IsOfTool end.Done = Unit {0}
 IsOfTool end.TermFault = Unit {0}
+IsOfTool (end.BadWire line) = Unit {0}
 IsOfTool how = ⊥
 
 conf_other : (error : ConfError) → IsOfTool (end_of_conf error) → ⊥
@@ -126,6 +127,7 @@ unwaited_other end.LinkFault is = cc
 unwaited_other end.TermFault is = cc
 unwaited_other end.ChildFault is = cc
 unwaited_other end.TooLong is = cc
+unwaited_other (end.BadWire line) is = cc
 
 -- no wait failed, and nothing more was said on the link to the program
 pub waited : (started : Bool) (old new : LinkState) (how ended : End) (before status : ℕ) → ended ≡ end.Done → Awaits started old new how ended before status → (how ≡ end.Done) × (new.talk ≡ old.talk)
@@ -181,6 +183,7 @@ module _ (left new : Ground) (how : End) (done : how ≡ end.Done) where
   saved_so tool.ChildFault broken = absurd (let e : end.ChildFault ≡ end.Done = sym broken.end_is ∙ done in cc)
   saved_so tool.OutOfMemory broken = absurd (no_memory (sym broken.end_is ∙ done))
   saved_so (tool.FilesFault path) broken = absurd (no_fault path (sym broken.end_is ∙ done))
+  saved_so (tool.BadWire line) broken = absurd (let e : end.BadWire line ≡ end.Done = sym broken.end_is ∙ done in cc)
 
 -- what is kept of a run that did all: all is saved, or nothing where a tool's changes aren't kept
 pub record HasKept (keeps : Bool) (layers used : List LayerState) (files new : FilesState) : Type 0 where
@@ -198,6 +201,7 @@ module _ (left new : Ground) (how : End) (done : how ≡ end.Done) where
   done_unsaved tool.ChildFault is = absurd (let e : end.ChildFault ≡ end.Done = sym is ∙ done in cc)
   done_unsaved tool.OutOfMemory is = absurd (no_memory (sym is ∙ done))
   done_unsaved (tool.FilesFault path) is = absurd (no_fault path (sym is ∙ done))
+  done_unsaved (tool.BadWire line) is = absurd (let e : end.BadWire line ≡ end.Done = sym is ∙ done in cc)
 
   pub kept_so : (keeps : Bool) (ended : ToolEnd) → FinishesWhere keeps left new ended how → (ended ≡ tool.Done) × HasKept keeps left.used new.used left.sources.files new.sources.files
   kept_so true ended finishes =
@@ -220,6 +224,7 @@ unstarted_other OutOfMemory is = cc
 
 broke_other : (error : SavingBreak) → tool_end_of (link.Broken error) ≡ tool.Done → ⊥
 broke_other (saving.Step step.Term) is = cc
+broke_other (saving.Step (step.Wire line)) is = cc
 broke_other (saving.Step step.OutOfMemory) is = cc
 broke_other (saving.Save (save.Failed path)) is = cc
 broke_other (saving.Save save.OutOfMemory) is = cc

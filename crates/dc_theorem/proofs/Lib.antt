@@ -1,3 +1,4 @@
+pub mod AnswerLaw
 pub mod AnswersLaw
 pub mod BehindLaw
 pub mod CallsLaw

@@ -9,7 +9,7 @@ use Rattle.dc_serve.specs.LinkRun.{IsLinkRun}
 use Rattle.dc_serve.specs.declared.outcome.LinkEnd.TheVariants as link
 use Rattle.dc_session.specs.Alike.{AreAlike}
 use Rattle.dc_session.specs.Asking.{finished}
-use Rattle.dc_session.specs.SessionState.{SessionState, TerminalState, nothing_typed}
+use Rattle.dc_session.specs.SessionState.{SessionState, ScreenState, nothing_typed}
 use Rattle.dc_run.specs.OneRound.{HasUsed}
 use Rattle.dc_run.specs.Running.{IsStarted}
 use Rattle.dc_run.specs.SavingSession.{BreaksSaving, TakesSaving}
@@ -39,7 +39,7 @@ module _ (words : List (List ℕ)) (owner : List ℕ) (frontend : Option Fronten
     -- its program was started
     started : IsStarted command start (on_ground old has.mid).links has.links 0 has.answer has.left has.inner
     started = elim has.uses.0 [
-      | inl none ↦ absurd (unstarted_other none.error (sym none.ended_is ∙ tool_done words (Run owner frontend priority command) settings disk calls old new outcome clean has))
+      | inl none ↦ absurd (unstarted_other none.unstarted.error (sym none.unstarted.ended_is ∙ tool_done words (Run owner frontend priority command) settings disk calls old new outcome clean has))
       | inr is ↦ is
     ]
 
@@ -93,12 +93,15 @@ module _ (words : List (List ℕ)) (owner : List ℕ) (frontend : Option Fronten
     starts_alike = record {
       rest = refl;
       terminals = record {
-        first = record { ahead = nothing_typed; talk = terminals.talk; input = terminals.input };
-        second = record { ahead = nothing_typed; talk = terminals.other_talk; input = terminals.input };
-        one_is = record { ahead = refl; talk = ap (λ (l : LinkState). l.talk) unused ∙ terminals.one_talk_is; input = ap (λ (l : LinkState). l.input) unused ∙ terminals.one_input_is; used_up = never terminals.input };
-        other_is = record { ahead = refl; talk = ap (λ (l : LinkState). l.talk) other_unused ∙ terminals.other_talk_is; input = ap (λ (l : LinkState). l.input) other_unused ∙ terminals.other_input_is; used_up = never terminals.input };
-        said = terminals.said;
-        same = refl;
+        got = refl;
+        terminals = record {
+          first = record { ahead = nothing_typed.typed; talk = terminals.talk; input = terminals.input };
+          second = record { ahead = nothing_typed.typed; talk = terminals.other_talk; input = terminals.input };
+          one_is = record { ahead = refl; talk = ap (λ (l : LinkState). l.talk) unused ∙ terminals.one_talk_is; input = ap (λ (l : LinkState). l.input) unused ∙ terminals.one_input_is; used_up = never terminals.input };
+          other_is = record { ahead = refl; talk = ap (λ (l : LinkState). l.talk) other_unused ∙ terminals.other_talk_is; input = ap (λ (l : LinkState). l.input) other_unused ∙ terminals.other_input_is; used_up = never terminals.input };
+          said = terminals.said;
+          same = refl;
+        };
       };
     }
 
@@ -136,11 +139,11 @@ module _ (words : List (List ℕ)) (owner : List ℕ) (frontend : Option Fronten
             same = same.0.replies;
           };
           shown = record {
-            talk = same.0.states.terminals.first.talk;
-            other_talk = same.0.states.terminals.second.talk;
-            one_is = ap (λ (l : LinkState). l.talk) (io_stays (Run owner frontend priority command) tt settings one new outcome has ∙ (started one new outcome input clean has input_is).io ∙ ap (λ (t : TerminalState). t.link) first.terminal_is) ∙ same.0.states.terminals.one_is.talk;
-            other_is = ap (λ (l : LinkState). l.talk) (io_stays (Run owner frontend priority command) tt settings other last again other_has ∙ (started other last again input other_clean other_has other_input_is).io ∙ ap (λ (t : TerminalState). t.link) second.terminal_is) ∙ same.0.states.terminals.other_is.talk;
-            said = same.0.states.terminals.said;
+            talk = same.0.states.terminals.terminals.first.talk;
+            other_talk = same.0.states.terminals.terminals.second.talk;
+            one_is = ap (λ (l : LinkState). l.talk) (io_stays (Run owner frontend priority command) tt settings one new outcome has ∙ (started one new outcome input clean has input_is).io ∙ ap (λ (t : ScreenState). t.link) first.terminal_is) ∙ same.0.states.terminals.terminals.one_is.talk;
+            other_is = ap (λ (l : LinkState). l.talk) (io_stays (Run owner frontend priority command) tt settings other last again other_has ∙ (started other last again input other_clean other_has other_input_is).io ∙ ap (λ (t : ScreenState). t.link) second.terminal_is) ∙ same.0.states.terminals.terminals.other_is.talk;
+            said = same.0.states.terminals.terminals.said;
           };
         }
 

@@ -6,7 +6,7 @@ use Rattle.std.specs.Str.{bytes_eq}
 use Rattle.dc_outside.specs.State.{FilesState, LinkState}
 use Rattle.dc_text.specs.Names.{is_name}
 use Rattle.dc_frontend.specs.declared.frontend.Frontend.{Frontend}
-use Rattle.dc_frontend.specs.declared.frontend.Frontend.TheVariants.{Noninteractive, Teletype}
+use Rattle.dc_frontend.specs.declared.frontend.Frontend.TheVariants.{Noninteractive, Teletype, Passthrough}
 use Rattle.dc_proto.specs.Replies.{reply}
 use Rattle.dc_proto.specs.declared.priority.Priority.{Priority}
 use Rattle.dc_proto.specs.declared.command.Command.{Command}
@@ -84,6 +84,7 @@ module _ (state : SessionState) (files : FilesState) (err : LinkState) where
   going_same : (frontend : Frontend) (asked : Asked) → going frontend moved asked ≡ going frontend state asked
   going_same Noninteractive asked = gone_same (values_set state.store state.at (choices_for state))
   going_same Teletype asked = unless_same cant_change (first_fixed state) (heard_out moved asked) (heard_out state asked) (heard_same asked)
+  going_same Passthrough asked = unless_same cant_change (first_fixed state) (heard_out moved asked) (heard_out state asked) (heard_same asked)
 
   pub loading_same : (owner : List ℕ) (found : Found) → loading moved owner found ≡ loading state owner found
   loading_same owner Unreadable = refl

@@ -12,10 +12,10 @@ use Rattle.dc_save.specs.Saving.{after_image, after_images, image_steps}
 use Rattle.dc_save.specs.Steps.{after_steps}
 use Rattle.dc_serve.specs.declared.machine.Response.{Response}
 use Rattle.dc_store.specs.Plans.{stored}
-use Rattle.dc_session.specs.Alike.{AreAlike, AreTerminalsAlike, IsSameButErr}
+use Rattle.dc_session.specs.Alike.{AreAlike, AreScreensAlike, IsSameButErr}
 use Rattle.dc_session.specs.Machine.{TakesLine, TellsStore, asks_to_save, printed_in}
 use Rattle.dc_session.specs.Refusals.{saved as saved_reply}
-use Rattle.dc_session.specs.SessionState.{SessionState, TerminalState}
+use Rattle.dc_session.specs.SessionState.{SessionState, ScreenState}
 use Rattle.dc_session.proofs.AlikeLaws.{TurnsAlike, takes_alike}
 use Rattle.dc_session.proofs.Determined.{IsTold, TurnsSame, takes_once, takes_told}
 use Rattle.dc_session.proofs.RunLaws.{DoesAlike}
@@ -127,9 +127,9 @@ module _ (old other : SessionState) (did again : Response) (new left : SessionSt
           rest = save_left other left again second
               ∙ ap (λ (s : SessionState). record s { store = stored (each saved s.store.layers) []; files = saved_files s.files s.store.layers; err = left.err }) alike.rest
               ∙ ap (λ (s : SessionState). record s { terminal = other.terminal; err = left.err }) (sym (save_left old new did first))
-              ∙ ap (λ (t : TerminalState). record new { terminal = t; err = left.err }) (sym other_terminal);
-          terminals = subst (λ (t : TerminalState). AreTerminalsAlike t left.terminal) (sym one_terminal)
-              (subst (λ (t : TerminalState). AreTerminalsAlike old.terminal t) (sym other_terminal) alike.terminals);
+              ∙ ap (λ (t : ScreenState). record new { terminal = t; err = left.err }) (sym other_terminal);
+          terminals = subst (λ (t : ScreenState). AreScreensAlike t left.terminal) (sym one_terminal)
+              (subst (λ (t : ScreenState). AreScreensAlike old.terminal t) (sym other_terminal) alike.terminals);
         };
         told = old.store.told;
         one_tells = save_tells old new did first;

@@ -33,7 +33,7 @@ use Rattle.dc_shelf.specs.declared.loading.SourceError.TheVariants as source
 use Rattle.dc_session.proofs.Determined.{IsTold}
 use Rattle.dc_cli.specs.declared.tool.CopyWords.{CopyWords}
 use Rattle.dc_cli.specs.declared.tool.Tool.{Tool}
-use Rattle.dc_cli.specs.declared.tool.Tool.TheVariants.{Communicate, LoadTemplate, Run, Show, CopyDb, SetSelections, GetSelections, Drill}
+use Rattle.dc_cli.specs.declared.tool.Tool.TheVariants.{Communicate, LoadTemplate, Run, Show, CopyDb, SetSelections, GetSelections, Drill, Answer}
 use Rattle.dc_conf.proofs.NodeLemmas.{one_plan}
 use Rattle.dc_run.specs.Starting.{has_files, loaded_of, IsConfiguration, IsCopyIn, IsCopyOf, IsPlanIn, conf_read, conf_read_in, conf_text, databases_of, HasStarted, source_of}
 use Rattle.dc_run.specs.World.{Ground}
@@ -411,6 +411,7 @@ one_copy (CopyDb copy) conf one other first second = copy_once copy conf one oth
 one_copy (SetSelections verbose check unseen) conf one other first second = first ∙ sym second
 one_copy GetSelections conf one other first second = first ∙ sym second
 one_copy (Drill count) conf one other first second = first ∙ sym second
+one_copy (Answer command) conf one other first second = first ∙ sym second
 
 conf_disk : (is : Bool) (files : FilesView) (path : List ℕ) → (if is then after_look files Read path true else files).disk ≡ files.disk
 conf_disk true files path = refl

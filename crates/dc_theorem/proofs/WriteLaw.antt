@@ -27,7 +27,7 @@ use Rattle.dc_serve.specs.declared.outcome.LinkEnd.TheVariants as link
 use Rattle.dc_session.specs.Serving.{Finishes as FinishesSession, Resources}
 use Rattle.dc_session.specs.SessionState.{SessionState}
 use Rattle.dc_cli.specs.declared.tool.Tool.{Tool}
-use Rattle.dc_cli.specs.declared.tool.Tool.TheVariants.{Communicate, LoadTemplate, Run, Show, CopyDb, SetSelections, GetSelections, Drill}
+use Rattle.dc_cli.specs.declared.tool.Tool.TheVariants.{Communicate, LoadTemplate, Run, Show, CopyDb, SetSelections, GetSelections, Drill, Answer}
 use Rattle.dc_run.specs.Ends.{CountsLoads, LinksCount, ProgramCounts, end_unsent, comes_to_save, end_by, end_of, end_of_load, end_unsaved, end_unwaited, tool_end_of}
 use Rattle.dc_run.specs.Finishing.{Finishes, FinishesWhere}
 use Rattle.dc_run.specs.Headline.{HasRunTool, HasRunWords, HasWorked}
@@ -75,6 +75,7 @@ unwaited_so goal other end.LinkFault is = is
 unwaited_so goal other end.TermFault is = is
 unwaited_so goal other end.ChildFault is = is
 unwaited_so goal other end.TooLong is = is
+unwaited_so goal other (end.BadWire line) is = is
 
 awaited_so : (goal : End) → (end.ChildFault ≡ goal → ⊥) → (started : Bool) (old new : LinkState) (how ended : End) (status left : ℕ) → Awaits started old new how ended status left → ended ≡ goal → how ≡ goal
 awaited_so goal other true old new how ended status left (inl has) is = sym has.end_is ∙ is
@@ -220,6 +221,7 @@ module _ (roots : Roots) (start : SessionState) (old new : Links) (before : ℕ)
   inner_done (CopyDb copy) uses = no_saves saves uses.1
   inner_done (SetSelections verbose check unseen) uses = no_saves saves uses.3
   inner_done GetSelections uses = no_saves saves uses.1
+  inner_done (Answer command) uses = no_saves saves uses.3
   inner_done (Drill count) uses = no_saves saves uses.2
 
 no_files : (path : List ℕ) → end.FilesFault path ≡ end.OutOfMemory → ⊥
@@ -240,6 +242,7 @@ failed_otherwise tool.TermFault path comes is = cc
 failed_otherwise tool.ChildFault path comes is = cc
 failed_otherwise tool.OutOfMemory path comes is = cc
 failed_otherwise (tool.FilesFault fault) path comes is = cc
+failed_otherwise (tool.BadWire line) path comes is = cc
 
 module _ (left new : Ground) (last : List Save) (how : End) (ended : ToolEnd) where
   -- the tool didn't fail to save where the run ends for want of memory
@@ -426,6 +429,7 @@ tool_other tool.TermFault is = is
 tool_other tool.ChildFault is = is
 tool_other tool.OutOfMemory is = is
 tool_other (tool.FilesFault path) is = is
+tool_other (tool.BadWire line) is = is
 
 -- nor of a save
 unsaved_other : (ended : ToolEnd) (path : List ℕ) → IsBeforeSaves (end_unsaved ended (save.Failed path)) → ⊥
@@ -437,6 +441,7 @@ unsaved_other tool.TermFault path is = is
 unsaved_other tool.ChildFault path is = is
 unsaved_other tool.OutOfMemory path is = is
 unsaved_other (tool.FilesFault fault) path is = is
+unsaved_other (tool.BadWire line) path is = is
 
 save_other : (ended : ToolEnd) (answer : Result (Unit {0}) SaveError) → IsBeforeSaves (end_by ended answer) → ⊥
 save_other ended (Ok done) is = tool_other ended is
@@ -456,6 +461,7 @@ unwaited_before end.LinkFault is = is
 unwaited_before end.TermFault is = is
 unwaited_before end.ChildFault is = is
 unwaited_before end.TooLong is = is
+unwaited_before (end.BadWire line) is = is
 
 awaited_before : (started : Bool) (old new : LinkState) (how ended : End) (status left : ℕ) → Awaits started old new how ended status left → IsBeforeSaves ended → IsBeforeSaves how
 awaited_before true old new how ended status left (inl has) is = subst IsBeforeSaves has.end_is is
@@ -489,110 +495,146 @@ pub before_saves : (words : List (List ℕ)) (settings : Settings) (old new : Wo
 before_saves words settings old new outcome saves (inl refused) before = refused.1
 before_saves words settings old new outcome saves (inr ran) before = tool_unsaved ran.0 settings old new outcome saves ran.2 before
 
--- ---- the terminal failed
+-- ---- the terminal failed, or a line of the wire was unreadable
 
-no_child_term : end.ChildFault ≡ end.TermFault → ⊥
-no_child_term is = cc
+-- the run ends so
+abbrev pub IsUserFault : End → Type 0
+IsUserFault end.TermFault = Unit {0}
+IsUserFault (end.BadWire line) = Unit {0}
+IsUserFault how = ⊥
+
+-- and its tool did
+abbrev StopsTool : ToolEnd → Type 0
+StopsTool tool.TermFault = Unit {0}
+StopsTool (tool.BadWire line) = Unit {0}
+StopsTool ended = ⊥
+
+ended_fault : (ended : ToolEnd) → IsUserFault (end_of ended) → StopsTool ended
+ended_fault tool.Done none = none
+ended_fault tool.LinkFault none = none
+ended_fault tool.TooLong none = none
+ended_fault tool.PrintFault none = none
+ended_fault tool.TermFault is = tt
+ended_fault tool.ChildFault none = none
+ended_fault tool.OutOfMemory none = none
+ended_fault (tool.FilesFault path) none = none
+ended_fault (tool.BadWire line) is = tt
 
 -- then no save is come to
-ended_term : (ended : ToolEnd) → end_of ended ≡ end.TermFault → ended ≡ tool.TermFault
-ended_term tool.Done is = absurd (cc)
-ended_term tool.LinkFault is = absurd (cc)
-ended_term tool.TooLong is = absurd (cc)
-ended_term tool.PrintFault is = absurd (cc)
-ended_term tool.TermFault is = refl
-ended_term tool.ChildFault is = absurd (cc)
-ended_term tool.OutOfMemory is = absurd (cc)
-ended_term (tool.FilesFault path) is = absurd (cc)
+never_saved : (ended : ToolEnd) → comes_to_save ended ≡ true → StopsTool ended → ⊥
+never_saved tool.Done comes none = none
+never_saved tool.LinkFault comes none = none
+never_saved tool.TooLong comes none = none
+never_saved tool.PrintFault comes none = none
+never_saved tool.TermFault comes is = cc
+never_saved tool.ChildFault comes none = none
+never_saved tool.OutOfMemory comes none = none
+never_saved (tool.FilesFault path) comes none = none
+never_saved (tool.BadWire line) comes is = cc
 
-unsaved_term : (ended : ToolEnd) (path : List ℕ) → comes_to_save ended ≡ true → end_unsaved ended (save.Failed path) ≡ end.TermFault → ⊥
-unsaved_term tool.Done path comes is = cc
-unsaved_term tool.LinkFault path comes is = cc
-unsaved_term tool.TooLong path comes is = cc
-unsaved_term tool.PrintFault path comes is = cc
-unsaved_term tool.TermFault path comes is = cc
-unsaved_term tool.ChildFault path comes is = cc
-unsaved_term tool.OutOfMemory path comes is = cc
-unsaved_term (tool.FilesFault fault) path comes is = cc
+unsaved_fault : (ended : ToolEnd) (path : List ℕ) → comes_to_save ended ≡ true → IsUserFault (end_unsaved ended (save.Failed path)) → ⊥
+unsaved_fault tool.Done path comes none = none
+unsaved_fault tool.LinkFault path comes none = none
+unsaved_fault tool.TooLong path comes none = none
+unsaved_fault tool.PrintFault path comes none = none
+unsaved_fault tool.TermFault path comes is = cc
+unsaved_fault tool.ChildFault path comes none = none
+unsaved_fault tool.OutOfMemory path comes none = none
+unsaved_fault (tool.FilesFault fault) path comes none = none
+unsaved_fault (tool.BadWire line) path comes is = cc
 
-saved_term : (ended : ToolEnd) (answer : Result (Unit {0}) SaveError) → comes_to_save ended ≡ true → end_by ended answer ≡ end.TermFault → ⊥
-saved_term ended (Ok done) comes is = let no : comes_to_save tool.TermFault ≡ true = subst (λ (e : ToolEnd). comes_to_save e ≡ true) (ended_term ended is) comes in cc
-saved_term ended (Err (save.Failed path)) comes is = unsaved_term ended path comes is
-saved_term ended (Err save.OutOfMemory) comes is = cc
+saved_fault : (ended : ToolEnd) (answer : Result (Unit {0}) SaveError) → comes_to_save ended ≡ true → IsUserFault (end_by ended answer) → ⊥
+saved_fault ended (Ok done) comes is = never_saved ended comes (ended_fault ended is)
+saved_fault ended (Err (save.Failed path)) comes is = unsaved_fault ended path comes is
+saved_fault ended (Err save.OutOfMemory) comes none = none
 
-unsent_term : (error : LinkError) → end_unsent error ≡ end.TermFault → ⊥
-unsent_term Failed is = cc
-unsent_term OutOfMemory is = cc
+unsent_fault : (error : LinkError) → IsUserFault (end_unsent error) → ⊥
+unsent_fault Failed none = none
+unsent_fault OutOfMemory none = none
 
-memory_term : end.OutOfMemory ≡ end.TermFault → ⊥
-memory_term is = cc
+committed_fault : (keeps saves : Bool) (ended : ToolEnd) (left new : Ground) (last : List Save) (how : End) → saves ≡ keeps && comes_to_save ended → Commits saves ended left new last how → IsUserFault how
+    → StopsTool ended × (last ≡ [])
+committed_fault keeps true ended left new last how is (inl saved) fault = absurd (saved_fault ended saved.answer (both_so keeps (comes_to_save ended) (sym is)) (subst IsUserFault saved.end_is fault))
+committed_fault keeps true ended left new last how is (inr (inl not)) fault = absurd (unsent_fault not.unsent.error (subst IsUserFault not.unsent.end_is fault))
+committed_fault keeps true ended left new last how is (inr (inr bare)) fault = absurd (subst IsUserFault bare.end_is fault)
+committed_fault keeps false ended left new last how is commits fault = (ended_fault ended (subst IsUserFault commits.end_is fault), commits.saves_are)
 
-committed_term : (keeps saves : Bool) (ended : ToolEnd) (left new : Ground) (last : List Save) (how : End) → saves ≡ keeps && comes_to_save ended → Commits saves ended left new last how → how ≡ end.TermFault
-    → (ended ≡ tool.TermFault) × (last ≡ [])
-committed_term keeps true ended left new last how is (inl saved) term = absurd (saved_term ended saved.answer (both_so keeps (comes_to_save ended) (sym is)) (sym saved.end_is ∙ term))
-committed_term keeps true ended left new last how is (inr (inl not)) term = absurd (unsent_term not.unsent.error (sym not.unsent.end_is ∙ term))
-committed_term keeps true ended left new last how is (inr (inr bare)) term = absurd (memory_term (sym bare.end_is ∙ term))
-committed_term keeps false ended left new last how is commits term = (ended_term ended (sym commits.end_is ∙ term), commits.saves_are)
-
-broken_term : (error : SaveError) → tool_end_of (link.Broken (saving.Save error)) ≡ tool.TermFault → ⊥
-broken_term (save.Failed path) is = cc
-broken_term save.OutOfMemory is = cc
+broken_fault : (error : SaveError) → StopsTool (tool_end_of (link.Broken (saving.Save error))) → ⊥
+broken_fault (save.Failed path) none = none
+broken_fault save.OutOfMemory none = none
 
 -- nor did one break off
-none_broken : (served ended : LinkEnd SavingBreak) (state after : SessionState) (left : Resources) → FinishesSession served state left ended → tool_end_of ended ≡ tool.TermFault → broken_save served after state ≡ []
-none_broken link.Done ended state after left finishes term = refl
-none_broken link.LinkFault ended state after left finishes term = refl
-none_broken link.TooLong ended state after left finishes term = refl
-none_broken link.OutOfMemory ended state after left finishes term = refl
-none_broken (link.Broken (saving.Step error)) ended state after left finishes term = refl
-none_broken (link.Broken (saving.Save error)) ended state after left finishes term = absurd (broken_term error (ap (λ (e : LinkEnd SavingBreak). tool_end_of e) (sym finishes.2) ∙ term))
+none_broken : (served ended : LinkEnd SavingBreak) (state after : SessionState) (left : Resources) → FinishesSession served state left ended → StopsTool (tool_end_of ended) → broken_save served after state ≡ []
+none_broken link.Done ended state after left finishes fault = refl
+none_broken link.LinkFault ended state after left finishes fault = refl
+none_broken link.TooLong ended state after left finishes fault = refl
+none_broken link.OutOfMemory ended state after left finishes fault = refl
+none_broken (link.Broken (saving.Step error)) ended state after left finishes fault = refl
+none_broken (link.Broken (saving.Save error)) ended state after left finishes fault = absurd (broken_fault error (subst (λ (e : LinkEnd SavingBreak). StopsTool (tool_end_of e)) finishes.2 fault))
 
-served_asked : (start : SessionState) (left : Resources) (old new : LinkState) (ended : LinkEnd SavingBreak) (before code : ℕ) (saves : List Save) → IsServedSaving start left old new ended before code saves → tool_end_of ended ≡ tool.TermFault
-    → AreAsked saves
-served_asked start left old new ended before code saves is term =
+served_asked : (start : SessionState) (left : Resources) (old new : LinkState) (ended : LinkEnd SavingBreak) (before code : ℕ) (saves : List Save) → IsServedSaving start left old new ended before code saves
+    → StopsTool (tool_end_of ended) → AreAsked saves
+served_asked start left old new ended before code saves is fault =
     let turns = is.by.ran.transitions in (
       start,
       turns,
       is.by.ran.course,
-      is.saves_are ∙ ap (λ (l : List Save). saves_in start turns ++ l) (none_broken is.by.served ended is.by.state (state_after start turns) left is.by.finishes term) ∙ append-nil (saves_in start turns),
+      is.saves_are ∙ ap (λ (l : List Save). saves_in start turns ++ l) (none_broken is.by.served ended is.by.state (state_after start turns) left is.by.finishes fault) ∙ append-nil (saves_in start turns),
     )
 
 none_asked : (start : SessionState) (saves : List Save) → saves ≡ [] → AreAsked saves
 none_asked start saves none = (start, [], tt, none)
 
-module _ (roots : Roots) (start : SessionState) (old new : Links) (before : ℕ) (answer : ToolAnswer) (told : List ℕ) (left : Resources) (saves : List Save) (term : answer.ended ≡ tool.TermFault) where
+module _ (roots : Roots) (start : SessionState) (old new : Links) (before : ℕ) (answer : ToolAnswer) (told : List ℕ) (left : Resources) (saves : List Save) (fault : StopsTool answer.ended) where
   inner_asked : (used : Tool) → Uses used roots start old new before answer told left saves → AreAsked saves
-  inner_asked (Communicate owner) uses = served_asked start left old.io new.io uses.0.ended before answer.last_code saves uses.0.served (sym uses.0.ended_is ∙ term)
+  inner_asked (Communicate owner) uses = served_asked start left old.io new.io uses.0.ended before answer.last_code saves uses.0.served (subst StopsTool uses.0.ended_is fault)
   inner_asked (LoadTemplate owner paths) uses = none_asked start saves uses.1
   inner_asked (Run owner frontend priority command) uses = elim uses.0 [
     | inl none ↦ none_asked start saves none.saves_are
-    | inr started ↦ served_asked start left started.mid new.child started.ended before answer.last_code saves started.served (sym started.ended_is ∙ term)
+    | inr started ↦ served_asked start left started.mid new.child started.ended before answer.last_code saves started.served (subst StopsTool started.ended_is fault)
   ]
   inner_asked (Show database shown) uses = none_asked start saves uses.2
   inner_asked (CopyDb copy) uses = none_asked start saves uses.1
   inner_asked (SetSelections verbose check unseen) uses = none_asked start saves uses.3
   inner_asked GetSelections uses = none_asked start saves uses.1
   inner_asked (Drill count) uses = none_asked start saves uses.2
+  inner_asked (Answer command) uses = none_asked start saves uses.3
 
-module _ (used : Tool) (settings : Settings) (old new : World) (outcome : Outcome) (saves : List Save) (term : outcome.end ≡ end.TermFault) where
+-- such an end comes of a tool
+is_of_tool : (how : End) → IsUserFault how → IsOfTool how
+is_of_tool end.Done none = absurd none
+is_of_tool (end.Usage word) none = none
+is_of_tool (end.ConfRefused line kind) none = none
+is_of_tool (end.BadPattern at) none = none
+is_of_tool (end.PatternTooLarge at) none = none
+is_of_tool (end.Damaged path line) none = none
+is_of_tool end.OutOfMemory none = none
+is_of_tool (end.FilesFault path) none = none
+is_of_tool end.LinkFault none = none
+is_of_tool end.TermFault is = tt
+is_of_tool end.ChildFault none = none
+is_of_tool end.TooLong none = none
+is_of_tool (end.BadWire line) is = tt
+
+module _ (used : Tool) (settings : Settings) (old new : World) (outcome : Outcome) (saves : List Save) (fault : IsUserFault outcome.end) where
   worked_asked : HasWorked used settings old new outcome saves → AreAsked saves
   worked_asked worked =
       let has_one = one used settings old new outcome saves worked in
       let r = has_one.round in
       let has = works used settings old new outcome saves worked in
       let start : SessionState = begins used settings old new outcome saves worked in
-      let so = committed_term (keeps_changes used) (keeps_changes used && comes_to_save r.answer.ended) r.answer.ended (ground_of has.left.files r.left.world.links.io has.left.layers) (ground_in new) r.last r.finish refl (commits used settings old new outcome saves worked)
-      (finish_so used settings old new outcome saves worked end.TermFault no_child_term term) in
+      let so = committed_fault (keeps_changes used) (keeps_changes used && comes_to_save r.answer.ended) r.answer.ended (ground_of has.left.files r.left.world.links.io has.left.layers) (ground_in new) r.last r.finish refl (commits used settings old new outcome saves worked)
+      (subst IsUserFault (sym (finish_so used settings old new outcome saves worked outcome.end (λ same. subst IsUserFault (sym same) fault) refl)) fault) in
       subst AreAsked (sym (has_one.saves_are ∙ ap (λ (l : List Save). r.inner ++ l) so.1 ∙ append-nil r.inner))
       (inner_asked worked.roots start (on_ground old worked.mid).links r.left.world.links 0 r.answer has.told has.left r.inner so.0 used has.uses)
 
   tool_asked : HasRunTool used settings old new outcome saves → AreAsked saves
-  tool_asked (inl before) = absurd (not_before used settings.conf_path (ground_in old).sources (ground_in new) outcome.end (subst IsOfTool (sym term) tt) before.0)
+  tool_asked (inl before) = absurd (not_before used settings.conf_path (ground_in old).sources (ground_in new) outcome.end (is_of_tool outcome.end fault) before.0)
   tool_asked (inr worked) = worked_asked worked
 
-pub asked_saves : (words : List (List ℕ)) (settings : Settings) (old new : World) (outcome : Outcome) (saves : List Save) → HasRunWords words settings old new outcome saves → outcome.end ≡ end.TermFault → AreAsked saves
-asked_saves words settings old new outcome saves (inl refused) term = absurd (subst IsOfTool refused.0.end_is (subst IsOfTool (sym term) tt))
-asked_saves words settings old new outcome saves (inr ran) term = tool_asked ran.0 settings old new outcome saves term ran.2
+pub asked_saves : (words : List (List ℕ)) (settings : Settings) (old new : World) (outcome : Outcome) (saves : List Save) → HasRunWords words settings old new outcome saves → IsUserFault outcome.end → AreAsked saves
+asked_saves words settings old new outcome saves (inl refused) fault = absurd (subst IsUserFault refused.0.end_is fault)
+asked_saves words settings old new outcome saves (inr ran) fault = tool_asked ran.0 settings old new outcome saves fault ran.2
 
 -- ---- a run that did all
 

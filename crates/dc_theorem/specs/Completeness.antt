@@ -25,13 +25,13 @@ use Rattle.dc_serve.specs.declared.machine.Response.{Response}
 use Rattle.dc_serve.specs.declared.machine.Response.TheVariants.{Replied}
 use Rattle.dc_session.specs.Answers.{CommandInputs, names_on}
 use Rattle.dc_session.specs.Machine.{Gives, HasDone, Steps, StepsHeard, TellsStore, asks_to_save, sent_in}
-use Rattle.dc_session.specs.SessionState.{SessionState, TerminalState}
+use Rattle.dc_session.specs.SessionState.{SessionState, ScreenState}
 use Rattle.dc_session.specs.declared.stepped.Stepped.{Stepped}
 use Rattle.dc_session.specs.declared.template_files.Found.TheVariants.{Unreadable}
 use Rattle.dc_cli.specs.Tools.{Names}
 use Rattle.dc_cli.specs.declared.tool.PlacedWord.{PlacedWord}
 use Rattle.dc_cli.specs.declared.tool.Tool.{Tool}
-use Rattle.dc_cli.specs.declared.tool.Tool.TheVariants.{Communicate, Run, SetSelections}
+use Rattle.dc_cli.specs.declared.tool.Tool.TheVariants.{Communicate, Run, SetSelections, Answer}
 use Rattle.dc_conf.specs.Configuration.{Configuration}
 use Rattle.dc_conf.specs.declared.spec.LayerSpec.{LayerSpec}
 use Rattle.dc_layer.specs.Patterns.{is_plain}
@@ -68,11 +68,12 @@ abbrev pub FewCame : LinkState → LinkState → Type 0
 FewCame old new =
     (pieces : List Piece) → new.talk ≡ then_pieces old.talk pieces → old.input ≡ prepend_known (got pieces) new.input → length (got pieces) < 2 ^ 40
 
--- the same of the link whose lines a tool serves, where it serves one: of `run` that to its program
+-- the same of the link whose lines a tool serves, where it serves one: of `run` and `answer` that to their program
 abbrev pub FewServed : Tool → Links → Links → Type 0
 FewServed (Communicate owner) old new = FewCame old.io new.io
 FewServed (Run owner frontend priority command) old new = FewCame old.child new.child
 FewServed (SetSelections verbose check unseen) old new = FewCame old.io new.io
+FewServed (Answer command) old new = FewCame old.child new.child
 FewServed used old new = Unit {0}
 
 -- no load of a database from this disk finds a damaged file
@@ -219,7 +220,7 @@ pub record FailsAtMost (used : Tool) (specs : List LayerSpec) (start : SessionSt
 pub record LeavesOthers (command : Command) (old : SessionState) (layers : List LayerState) : Type 0 where
   pub given : CommandInputs
   pub files : FilesState
-  pub terminal : TerminalState
+  pub terminal : ScreenState
   pub gives : Gives command old given files terminal
   pub others : AreSameButAll (names_on old command given) old.store.layers layers
 
@@ -276,11 +277,12 @@ pub record KeepUp (start : SessionState) (old new : LinkState) (layers : List La
   pub took : old.input ≡ prepend_known (got pieces) new.input
   pub stand : IsBeforeUnsaid start pieces old.input layers ⊎ IsBehindAll start pieces old.input layers
 
--- memory ran out, or the terminal failed, or a save did
+-- memory ran out, or the terminal failed, or a save did, or a line of the wire was unreadable
 abbrev pub EndsEarly : End → Type 0
 EndsEarly end.OutOfMemory = Unit {0}
 EndsEarly end.TermFault = Unit {0}
 EndsEarly (end.FilesFault path) = Unit {0}
+EndsEarly (end.BadWire line) = Unit {0}
 EndsEarly how = ⊥
 
 -- ---- the replies of a session at which no file was unreadable

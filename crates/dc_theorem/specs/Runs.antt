@@ -97,7 +97,7 @@ pub record CommunicateAlike (one new : World) (outcome : Outcome) (other last : 
   pub replies : SayAlike one.links.io new.links.io other.links.io last.links.io
   pub status : again.status ≡ outcome.status
 
--- two runs of `run` sent the same replies, and the same stands on their terminals; the status is the program's
+-- two runs of `run`, or of `answer`, sent the same replies, and the same stands on their terminals; the status is the program's
 pub record RunAlike (one new : World) (outcome : Outcome) (other last : World) (again : Outcome) : Type 0 where
   pub leave : LeaveAlike one new outcome other last again
   pub replies : SayAlike one.links.child new.links.child other.links.child last.links.child

@@ -11,18 +11,18 @@ ghost use Rattle.dc_run.specs.OneRound.{HasUsed};
 ghost use Rattle.dc_run.specs.Saves.{Save};
 ghost use Rattle.dc_run.specs.Starting.{begun, loaded_of};
 ghost use Rattle.dc_run.specs.World.{World, before_rounds, on_ground};
-ghost use Rattle.dc_run.specs.declared.outcome.End.TheVariants.{Done, OutOfMemory, TermFault};
+ghost use Rattle.dc_run.specs.declared.outcome.End.TheVariants.{BadWire, Done, OutOfMemory, TermFault};
 ghost use Rattle.dc_run.specs.declared.outcome.Outcome.{Outcome};
 ghost use Rattle.dc_run.specs.declared.settings.Settings.{Settings};
 ghost use Rattle.dc_theorem.specs.Completeness.{AnswersAll, AreAsked, IsUndisturbed, EndsWell, IsBeforeSaves, EndsEarly, FailsAtMost, KeepUp, MetNoFault, StandsBehindDone};
 
 /// A run ends well at which nothing outside failed: its words name a tool, its configuration, the loaded databases and what comes through a pipe can be
-/// read, no count of faults rose but that of standard error, and fewer than 2^40 bytes came. It did all that it was to do, or memory ran out; only a pattern that
-/// isn't plain may be refused.
+/// read, no count of faults rose but that of standard error, and fewer than 2^40 bytes came; and no line of a wire was unreadable, which the run would tell. It
+/// did all that it was to do, or memory ran out; only a pattern that isn't plain may be refused.
 pub fn a_clean_run_ends_well()
     ensures { (words : List (List ℕ)) (used : Tool) (conf : Configuration) (settings : Settings) (old new : World) (outcome : Outcome) (saves : List Save)
         → IsUndisturbed words used conf settings old new → HasRunWords words settings old new outcome saves
-        → EndsWell used conf outcome.end }
+        → ((line : ℕ) → outcome.end ≢ BadWire line) → EndsWell used conf outcome.end }
 {}
 
 /// Where no failure of the files was counted and a run of `communicate` or `run` did all that it was to do, each line has the reply of its row, which
@@ -41,7 +41,7 @@ pub fn each_line_has_its_reply()
 
 /// A run that ends for want of memory leaves the disk as it was, or as the saves left it that a program asked for and that were done before, unless the
 /// files themselves refused a call for that. One that began no save leaves it as it was. The ends that come before a save begin none, and where the
-/// terminal failed there were those alone that the program asked for.
+/// terminal failed, or a line of the wire was unreadable, there were those alone that the program asked for.
 pub fn want_of_memory_breaks_no_save()
     ensures memory { (words : List (List ℕ)) (settings : Settings) (old new : World) (outcome : Outcome) (saves : List Save)
         → HasRunWords words settings old new outcome saves → outcome.end ≡ OutOfMemory
@@ -53,6 +53,8 @@ pub fn want_of_memory_breaks_no_save()
         → HasRunWords words settings old new outcome saves → IsBeforeSaves outcome.end → saves ≡ [] }
     ensures asked { (words : List (List ℕ)) (settings : Settings) (old new : World) (outcome : Outcome) (saves : List Save)
         → HasRunWords words settings old new outcome saves → outcome.end ≡ TermFault → AreAsked saves }
+    ensures wired { (words : List (List ℕ)) (settings : Settings) (old new : World) (outcome : Outcome) (saves : List Save) (line : ℕ)
+        → HasRunWords words settings old new outcome saves → outcome.end ≡ BadWire line → AreAsked saves }
 {}
 
 /// Where the files refused a call for want of memory, the run ends for that.
@@ -75,7 +77,7 @@ pub fn a_run_that_did_all_met_no_fault()
         → HasRunWords words settings old new outcome saves → outcome.end ≡ Done → MetNoFault old.links new.links }
 {}
 
-/// The layers aren't behind the replies: where memory ran out, the terminal failed or a save did, they are the machine's before the first line that has no
+/// The layers aren't behind the replies: where memory ran out, the terminal failed, a line of the wire was unreadable or a save failed, they are the machine's before the first line that has no
 /// reply, but for the items on which that line's row writes, or those behind the save that it asks for. Where there is no such line, they are those behind
 /// all lines, but for the items of the questions that were asked.
 pub fn tables_are_not_behind_the_replies()

@@ -17,7 +17,7 @@ ghost use Rattle.dc_cli.specs.Tools.{Names};
 ghost use Rattle.dc_cli.specs.declared.tool.CopyWords.{CopyWords};
 ghost use Rattle.dc_cli.specs.declared.tool.PlacedWord.{PlacedWord};
 ghost use Rattle.dc_cli.specs.declared.tool.Shown.{Shown};
-ghost use Rattle.dc_cli.specs.declared.tool.Tool.TheVariants.{Communicate, CopyDb, GetSelections, LoadTemplate, Run, SetSelections, Show};
+ghost use Rattle.dc_cli.specs.declared.tool.Tool.TheVariants.{Answer, Communicate, CopyDb, GetSelections, LoadTemplate, Run, SetSelections, Show};
 ghost use Rattle.dc_theorem.specs.Runs.{NoneFailed, IsClean, AreTypedAlike, ComeAlike, CommunicateAlike, CopyAlike, ReadsLink, RunAlike, LoadAlike, ShowAlike};
 
 /// The bytes of the link, the disk and what is typed determine a session with its saves in which no call of the files failed: two from states that
@@ -39,7 +39,7 @@ pub fn what_comes_in_determines_the_session()
 /// on standard error, hold the same layers, and leave the same disk by the same calls. Two copies of a database that comes through a pipe must have met no
 /// fault of their link either.
 ///
-/// It says nothing of runs that end otherwise, or in which a call of the files failed, and nothing of the status of `run`, which the program
+/// It says nothing of runs that end otherwise, or in which a call of the files failed, and nothing of the status of `run` and `answer`, which the program
 /// gives that it started.
 pub fn what_comes_in_determines_the_run()
     ensures communicate { (words : List (List ℕ)) (owner : List ℕ) (settings : Settings) (disk : Disk) (calls : List FilesCall) (one new other last : World)
@@ -51,6 +51,11 @@ pub fn what_comes_in_determines_the_run()
         (settings : Settings) (disk : Disk) (calls : List FilesCall) (one new other last : World) (outcome again : Outcome) (input : List ℕ)
         → Names words (Run owner frontend priority command) → IsClean words settings disk calls one new outcome
         → IsClean words settings disk calls other last again
+        → one.links.child.input ≡ Some input → other.links.child.input ≡ Some input → AreTypedAlike one.links.io other.links.io
+        → RunAlike one new outcome other last again }
+    ensures answer { (words : List (List ℕ)) (command : List (List ℕ)) (settings : Settings) (disk : Disk) (calls : List FilesCall)
+        (one new other last : World) (outcome again : Outcome) (input : List ℕ) → Names words (Answer command)
+        → IsClean words settings disk calls one new outcome → IsClean words settings disk calls other last again
         → one.links.child.input ≡ Some input → other.links.child.input ≡ Some input → AreTypedAlike one.links.io other.links.io
         → RunAlike one new outcome other last again }
     ensures loadtemplate { (words : List (List ℕ)) (owner : List ℕ) (paths : List (List ℕ)) (settings : Settings) (disk : Disk) (calls : List FilesCall)

@@ -1,3 +1,4 @@
+use Rattle.dc_theorem.proofs.AnswerLaw.{answerer_alike}
 use Rattle.dc_theorem.proofs.CommunicateLaw.{communicate_alike}
 use Rattle.dc_theorem.proofs.CopyLaw.{copy_alike}
 use Rattle.dc_theorem.proofs.LoadLaw.{load_alike}
@@ -27,3 +28,6 @@ returns-clause-copydb c words copy settings disk calls one new other last outcom
 pub returns-clause-set_selections : goal.returns-clause-set_selections
 returns-clause-set_selections c words verbose check unseen settings disk calls one new other last outcome again input =
     select_alike words verbose check unseen settings disk calls one new other last outcome again input
+
+pub returns-clause-answer : goal.returns-clause-answer
+returns-clause-answer c words command settings disk calls one new other last outcome again input = answerer_alike words command settings disk calls one new other last outcome again input
