@@ -33,6 +33,7 @@ fn end_parts(end: &End) -> (&'static str, Carried<'_>) {
         End::ChildFault => ("child", Carried::Nothing),
         End::TooLong => ("too long", Carried::Nothing),
         End::OutOfMemory => ("memory", Carried::Nothing),
+        End::BadWire { line } => ("wire", Carried::Place("line", *line)),
     }
 }
 
